@@ -1,0 +1,16 @@
+pub mod Applied
+pub mod Applying
+pub mod Compose
+pub mod Composing
+pub mod Find
+pub mod Laws
+pub mod ListTest
+pub mod Merging
+pub mod Parts
+pub mod Places
+pub mod Reading
+pub mod Rising
+pub mod Running
+pub mod TablePasses
+pub mod Weaving
+pub mod Writing

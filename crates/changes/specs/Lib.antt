@@ -1,0 +1,5 @@
+pub mod Lists
+pub mod Calculus
+pub mod ReadSets
+pub mod Runs
+pub mod InPlace

@@ -1,0 +1,61 @@
+// The entry word (document 01, "What the unit holds"): 64 bits, most significant first a kind of
+// 1 bit, an offer of 31 bits and a price of 32 bits. Kind 1 puts the price, or shows it in a table or
+// a read set; kind 0 removes it, or shows that there is none, and its price field is 0.
+ghost use mathlib.Core.Path.{_≡_};
+ghost use Prim.Native.Nat.{_%_, _^_};
+ghost use Rattle.entry.specs.Word.{kindOf, offerOf, priceOf, putOf, noneOf};
+
+pub struct Entry;
+
+impl Entry {
+    // The put mark: the kind that puts a price, or shows one.
+    pub const PUT: u32 = 1;
+
+    pub const KIND_BITS: u32 = 1;
+
+    pub const OFFER_BITS: u32 = 31;
+
+    pub const PRICE_BITS: u32 = 32;
+
+    // Where the offer and the kind start, counted from the least significant bit.
+    const OFFER_AT: u32 = Entry::PRICE_BITS;
+
+    const KIND_AT: u32 = 64 - Entry::KIND_BITS;
+
+    const OFFER_MASK: u64 = (1 << Entry::OFFER_BITS) - 1;
+
+    const PRICE_MASK: u64 = (1 << Entry::PRICE_BITS) - 1;
+
+    pub fn kind_of(word: u64) -> u32
+        ensures { λ r. ⌜ r ≡ kindOf word ⌝ }
+    {
+        (word >> Entry::KIND_AT) as u32
+    }
+
+    pub fn offer_of(word: u64) -> u32
+        ensures { λ r. ⌜ r ≡ offerOf word ⌝ }
+    {
+        ((word >> Entry::OFFER_AT) & Entry::OFFER_MASK) as u32
+    }
+
+    pub fn price_of(word: u64) -> u32
+        ensures { λ r. ⌜ r ≡ priceOf word ⌝ }
+    {
+        (word & Entry::PRICE_MASK) as u32
+    }
+
+    // The word that removes an offer's price, or shows that it has none. An offer of 2^31 or more is cut to
+    // its field, so that it never runs into the kind.
+    pub fn none(offer: u32) -> u64
+        ensures { λ r. ⌜ r ≡ noneOf (offer % 2 ^ 31) ⌝ }
+    {
+        ((offer as u64) & Entry::OFFER_MASK) << Entry::OFFER_AT
+    }
+
+    // The word that puts a price on an offer, or shows it; the offer is cut to its field.
+    pub fn put(offer: u32, price: u32) -> u64
+        ensures { λ r. ⌜ r ≡ putOf (offer % 2 ^ 31) price ⌝ }
+    {
+        Entry::none(offer) | (price as u64) | ((Entry::PUT as u64) << Entry::KIND_AT)
+    }
+}

@@ -1,0 +1,98 @@
+-- `compose_and_apply` meets its contract: what passed the test rises, and so does its composition.
+-- Assumes nothing.
+use mathlib.Core.Path.{sym, _∙_}
+use borrow.Author.Tests.{not-false}
+use lib.Seq.{length-take-le}
+use Rattle.walkthrough.proofs.Composed.{room, inside, rises}
+use borrow.Author.Needs.{needs}
+use Rattle.walkthrough.proofs.compose_and_apply.Statement.{statement}
+use Rattle.walkthrough.proofs.compose_and_apply.Tie as tie
+
+is-list-requires : tie.Need-is-list-requires
+is-list-requires c κs = search needs
+
+slice-aggregate-write-all : tie.Need-slice-aggregate-write-all
+slice-aggregate-write-all c = search needs
+
+write-all-requires : tie.Need-write-all-requires
+write-all-requires c κs = search needs
+
+returns : tie.Need-returns
+returns c = search needs
+
+is-list-requires-2 : tie.Need-is-list-requires-2
+is-list-requires-2 c κs = search needs
+
+slice-aggregate-write-all-2 : tie.Need-slice-aggregate-write-all-2
+slice-aggregate-write-all-2 c = search needs
+
+write-all-requires-2 : tie.Need-write-all-requires-2
+write-all-requires-2 c κs = search needs
+
+returns-2 : tie.Need-returns-2
+returns-2 c = search needs
+
+slice-aggregate-compose : tie.Need-slice-aggregate-compose
+slice-aggregate-compose c = search needs
+
+compose-requires : tie.Need-compose-requires
+compose-requires c κs = room ((c .before .before .before .before .before .before .before .before .args .earlier .now)) ((c .before .before .before .before .before .before .before .before .args .later .now)) (sym (c .before .before .before .before .is-list .ensures) ∙ not-false _ (c .before .before .before .if1 .left)) (sym (c .before .before .is-list2 .ensures) ∙ not-false _ (c .before .if2 .left))
+
+slice-aggregate-show : tie.Need-slice-aggregate-show
+slice-aggregate-show c = search needs
+
+array-share-prefix-out : tie.Need-array-share-prefix-out
+array-share-prefix-out c = inside ((c .before .before .before .before .before .before .before .before .before .before .before .args .earlier .now)) ((c .before .before .before .before .before .before .before .before .before .before .before .args .later .now)) (sym (c .before .before .before .before .before .before .before .is-list .ensures) ∙ not-false _ (c .before .before .before .before .before .before .if1 .left)) (sym (c .before .before .before .before .before .is-list2 .ensures) ∙ not-false _ (c .before .before .before .before .if2 .left)) (c .before .before .compose .result) _ (c .before .before .compose .last .1 .1 .0) (c .before .before .compose .ensures .0) (c .before .before .compose .ensures .1)
+
+slice-aggregate-show-2 : tie.Need-slice-aggregate-show-2
+slice-aggregate-show-2 c = sym (length-take-le (c .before .before .before .compose .result) (c .before .before .before .compose .last .1 .1 .0) (inside ((c .before .before .before .before .before .before .before .before .before .before .before .before .args .earlier .now)) ((c .before .before .before .before .before .before .before .before .before .before .before .before .args .later .now)) (sym (c .before .before .before .before .before .before .before .before .is-list .ensures) ∙ not-false _ (c .before .before .before .before .before .before .before .if1 .left)) (sym (c .before .before .before .before .before .before .is-list2 .ensures) ∙ not-false _ (c .before .before .before .before .before .if2 .left)) (c .before .before .before .compose .result) _ (c .before .before .before .compose .last .1 .1 .0) (c .before .before .before .compose .ensures .0) (c .before .before .before .compose .ensures .1)))
+
+show-requires : tie.Need-show-requires
+show-requires c κs = search needs
+
+array-share-prefix-out-2 : tie.Need-array-share-prefix-out-2
+array-share-prefix-out-2 c = inside ((c .before .before .before .before .before .before .before .before .before .before .before .before .before .before .args .earlier .now)) ((c .before .before .before .before .before .before .before .before .before .before .before .before .before .before .args .later .now)) (sym (c .before .before .before .before .before .before .before .before .before .before .is-list .ensures) ∙ not-false _ (c .before .before .before .before .before .before .before .before .before .if1 .left)) (sym (c .before .before .before .before .before .before .before .before .is-list2 .ensures) ∙ not-false _ (c .before .before .before .before .before .before .before .if2 .left)) (c .before .before .before .before .before .compose .result) _ (c .before .before .before .before .before .compose .last .1 .1 .0) (c .before .before .before .before .before .compose .ensures .0) (c .before .before .before .before .before .compose .ensures .1)
+
+slice-aggregate-apply-to-reads : tie.Need-slice-aggregate-apply-to-reads
+slice-aggregate-apply-to-reads c = sym (length-take-le (c .before .before .before .before .before .before .compose .result) (c .before .before .before .before .before .before .compose .last .1 .1 .0) (inside ((c .before .before .before .before .before .before .before .before .before .before .before .before .before .before .before .args .earlier .now)) ((c .before .before .before .before .before .before .before .before .before .before .before .before .before .before .before .args .later .now)) (sym (c .before .before .before .before .before .before .before .before .before .before .before .is-list .ensures) ∙ not-false _ (c .before .before .before .before .before .before .before .before .before .before .if1 .left)) (sym (c .before .before .before .before .before .before .before .before .before .is-list2 .ensures) ∙ not-false _ (c .before .before .before .before .before .before .before .before .if2 .left)) (c .before .before .before .before .before .before .compose .result) _ (c .before .before .before .before .before .before .compose .last .1 .1 .0) (c .before .before .before .before .before .before .compose .ensures .0) (c .before .before .before .before .before .before .compose .ensures .1)))
+
+apply-to-reads-requires : tie.Need-apply-to-reads-requires
+apply-to-reads-requires c κs = rises ((c .before .before .before .before .before .before .before .before .before .before .before .before .before .before .before .args .earlier .now)) ((c .before .before .before .before .before .before .before .before .before .before .before .before .before .before .before .args .later .now)) (sym (c .before .before .before .before .before .before .before .before .before .before .before .is-list .ensures) ∙ not-false _ (c .before .before .before .before .before .before .before .before .before .before .if1 .left)) (sym (c .before .before .before .before .before .before .before .before .before .is-list2 .ensures) ∙ not-false _ (c .before .before .before .before .before .before .before .before .if2 .left)) (c .before .before .before .before .before .before .compose .result) _ (c .before .before .before .before .before .before .compose .last .1 .1 .0) (c .before .before .before .before .before .before .compose .ensures .0) (c .before .before .before .before .before .before .compose .ensures .1)
+
+slice-aggregate-show-3 : tie.Need-slice-aggregate-show-3
+slice-aggregate-show-3 c = search needs
+
+show-requires-2 : tie.Need-show-requires-2
+show-requires-2 c κs = search needs
+
+same-length : tie.Need-same-length
+same-length c = search needs
+
+returns-3 : tie.Need-returns-3
+returns-3 c = search needs
+
+pub compose-and-apply-spec : {M : Type 1} → statement M
+compose-and-apply-spec =
+    tie.close
+    (tie.spec
+    is-list-requires
+    slice-aggregate-write-all
+    write-all-requires
+    returns
+    is-list-requires-2
+    slice-aggregate-write-all-2
+    write-all-requires-2
+    returns-2
+    slice-aggregate-compose
+    compose-requires
+    slice-aggregate-show
+    array-share-prefix-out
+    slice-aggregate-show-2
+    show-requires
+    array-share-prefix-out-2
+    slice-aggregate-apply-to-reads
+    apply-to-reads-requires
+    slice-aggregate-show-3
+    show-requires-2
+    same-length
+    returns-3)
