@@ -5,6 +5,7 @@ pub mod Composing
 pub mod Find
 pub mod Laws
 pub mod ListTest
+pub mod MapTest
 pub mod Merging
 pub mod Parts
 pub mod Places

@@ -40,7 +40,7 @@ module _ (n w : ℕ) (l : List ℕ) (h : n ≤ offerOf w) where
   rising-next v = rw (le-leb n (offerOf w) h, v)
 
 -- the test as facts
-and-both : (a b : Bool) → a && b ≡ true → (a ≡ true) × (b ≡ true)
+pub and-both : (a b : Bool) → a && b ≡ true → (a ≡ true) × (b ≡ true)
 and-both true true e = (refl, refl)
 and-both true false e = (refl, e)
 and-both false b e = absurd (let z : _≡_ {A = ℕ} 0 1 = cc in omega arith)

@@ -5,7 +5,7 @@ use mathlib.Core.List.{List, [], _∷_}
 use Prim.Native.Nat.{ℕ, _+_, _≤_}
 use lib.Dec.{leb}
 use lib.ListN.{length}
-use Rattle.entry.specs.Word.{offerOf, validB, Valid, Put}
+use Rattle.entry.specs.Word.{offerOf, isPut, validB, Valid, Put}
 
 -- valid words with strictly rising offers, the first at least n
 unfoldable pub risingB : ℕ → List ℕ → Bool
@@ -15,6 +15,11 @@ risingB n (w ∷ l) = leb n (offerOf w) && validB w && risingB (offerOf w + 1) l
 -- "A list is 0 to 64 such words with strictly rising offers."
 abbrev pub listB : List ℕ → Bool
 listB l = leb (length l) 64 && risingB 0 l
+
+-- "used words of kind 1, offers strictly rising", the first at least n
+unfoldable pub mapB : ℕ → List ℕ → Bool
+mapB n [] = true
+mapB n (w ∷ l) = isPut w && leb n (offerOf w) && mapB (offerOf w + 1) l
 
 -- The same as facts. A composition of lists rises and is valid too, and may pass 64 words.
 

@@ -2,7 +2,7 @@
 use entry::Entry;
 ghost use mathlib.Core.Path.{_≡_};
 ghost use Rattle.entry.specs.Word.{validB};
-ghost use Rattle.changes.specs.Lists.{listB};
+ghost use Rattle.changes.specs.Lists.{listB, mapB};
 
 // The most words that a list given by a caller has.
 pub const LIST_WORDS: usize = 64;
@@ -32,6 +32,27 @@ pub fn is_list(words: &[u64]) -> bool
             return false;
         }
         if !is_valid(words[i]) {
+            return false;
+        }
+        least = offer + 1;
+        i += 1;
+    }
+    true
+}
+
+// Whether the words are a map: of kind 1, with strictly rising offers.
+pub fn is_map(words: &[u64]) -> bool
+    ensures { λ r. ⌜ r ≡ mapB 0 (now (words .entry)) ⌝ }
+{
+    let mut least = 0;
+    let mut i = 0;
+    while i < words.len() {
+        let word = words[i];
+        if Entry::kind_of(word) != Entry::PUT {
+            return false;
+        }
+        let offer = Entry::offer_of(word);
+        if offer < least {
             return false;
         }
         least = offer + 1;

@@ -1,0 +1,27 @@
+// The head of a store: a value that travels with the calls.
+
+// The most steps that a store holds, and the number of slots.
+pub const STEPS: usize = 64;
+
+pub const SLOTS: usize = 8;
+
+// The ranges of the lengths lent: table and journal have at least one word.
+pub const TABLE_WORDS: usize = 8000;
+
+pub const JOURNAL_WORDS: usize = 4096;
+
+pub struct Head {
+    // How many words of the table are used.
+    pub used: usize,
+    // The number of the oldest state from which a step is held (document 01: floor).
+    pub oldest: u32,
+    // The number of the state that the table holds (anchor).
+    pub checkpoint: u32,
+    // The number of the newest state.
+    pub tip: u32,
+    // Which slots are open (reading places), and the checkpoint at the issue of each; a closed one has 0.
+    pub held: [bool; 8],
+    pub issued: [u32; 8],
+    // Where each held step ends in the journal (marks); marks not in use are 0.
+    pub ends: [usize; 64],
+}
