@@ -5,6 +5,8 @@ use Rattle.grounds.specs.declared.Refusal.{Refusal}
 use Rattle.grounds.specs.declared.Refusal.the-variants.{Lengths, Unsound, SlotRange, SlotTaken, SlotClosed, BadList, BadOrder, OfferNotRead, NoPrice, PriceRange, StateRange, LastState, StepsFull, JournalFull, BadImage, TableFull, OutputShort}
 use Rattle.grounds.specs.declared.Written.{Written}
 use Rattle.grounds.specs.declared.Written.the-variants.{Count, Refused}
+use Rattle.grounds.specs.declared.Outcome.{Outcome}
+use Rattle.grounds.specs.declared.Outcome.the-variants.{Done, Refused as Turned}
 
 -- the number of each ground, in the order in which they are checked
 abbrev pub numberOf : Refusal → ℕ
@@ -35,3 +37,8 @@ pub data Answer : Type 0 where
 abbrev pub writtenAs : Written → Answer
 writtenAs (Count n) = accepted n
 writtenAs (Refused ground) = refused (numberOf ground)
+
+-- nothing but that the call was accepted, or the number of the ground
+abbrev pub outcomeAs : Outcome → Answer
+outcomeAs Done = accepted 0
+outcomeAs (Turned ground) = refused (numberOf ground)

@@ -42,6 +42,12 @@ pub enum Refusal {
     OutputShort,
 }
 
+// The answer of a call that only acts: done, or why it was turned away.
+pub enum Outcome {
+    Done,
+    Refused(Refusal),
+}
+
 // The answer of a call that writes words or bytes: how many, or why it was turned away.
 pub enum Written {
     Count(usize),

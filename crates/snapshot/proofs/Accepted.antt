@@ -1,0 +1,92 @@
+-- What an accepted call knows of its memory.
+-- Assumes nothing.
+use mathlib.Core.Path.{_≡_, sym, ap, _∙_}
+use mathlib.Core.Bool.{Bool, true, false, not}
+use mathlib.Core.List.{List, [], _∷_, _++_}
+use Prim.Native.Nat.{ℕ, _+_, _*_, _^_, _≤_, _<_}
+use native.Mathlib.Omega.{arith}
+use borrow.Author.Tests.{ltb-false, not-false}
+use lib.ListN.{length, take, drop, length-append}
+use lib.Seq.{length-take-le, take-at}
+use Rattle.grounds.specs.declared.Outcome.the-variants.{Done}
+use Rattle.grounds.proofs.Firsts.{done-not}
+use Rattle.image.specs.Image.{imageB, imageOf, countIn, numberIn, wordsIn}
+use Rattle.image.proofs.ImageTest.{Image, image-facts}
+use Rattle.image.proofs.RoundTrip.{image-length}
+use Rattle.image.proofs.Theorems.{written-reads-back}
+use Rattle.image.proofs.Words.{words-in-length}
+use Rattle.layout.specs.declared.head.Head.{Head}
+use Rattle.layout.specs.Sound.{lengthsB, soundB}
+use Rattle.layout.proofs.HeadTests.{InRange, lengths-facts}
+use Rattle.layout.proofs.Sounds.{Sound, sound-facts}
+use Rattle.snapshot.specs.Calls.{loadCheck, writeCheck, imageHere}
+
+-- a load
+pub record LoadOk (table journal : ℕ) (image : List ℕ) : Type 0 where
+  pub range : InRange table journal
+  pub image-ok : Image image
+  pub room : countIn image ≤ table
+
+pub load-ok : (table journal : ℕ) (image : List ℕ) → loadCheck table journal image ≡ Done → LoadOk table journal image
+load-ok table journal image e =
+    let a = done-not _ _ _ e in
+    let b = done-not _ _ _ (a .1) in
+    let c = done-not _ _ _ (b .1) in
+    record {
+      range = lengths-facts table journal (not-false _ (a .0));
+      image-ok = image-facts image (not-false _ (b .0));
+      room = ltb-false table (countIn image) (c .0);
+    }
+
+-- a write or a restart
+pub record WriteOk (table journal : List ℕ) (head : Head) (room : ℕ) : Type 0 where
+  pub range : InRange (length table) (length journal)
+  pub sound : Sound table journal head
+  pub fits : 6 + 8 * head .used ≤ room
+
+pub write-ok : (table journal : List ℕ) (head : Head) (room : ℕ) → writeCheck table journal head room ≡ Done → WriteOk table journal head room
+write-ok table journal head room e =
+    let a = done-not _ _ _ e in
+    let b = done-not _ _ _ (a .1) in
+    let c = done-not _ _ _ (b .1) in
+    record {
+      range = lengths-facts (length table) (length journal) (not-false _ (a .0));
+      sound = sound-facts table journal head (not-false _ (b .0));
+      fits = ltb-false room (6 + 8 * head .used) (c .0);
+    }
+
+module _ {table journal : List ℕ} {head : Head} {room : ℕ} (w : WriteOk table journal head room) where
+  pub used-long : length (take (head .used) table) ≡ head .used
+  used-long = length-take-le (head .used) table (w .sound .used-in)
+
+  pub write-room : (length (take (head .used) table) < 2 ^ 16) × (6 + 8 * length (take (head .used) table) ≤ room)
+  write-room = (omega (arith, used-long, w .sound .used-in, w .range .table-most), omega (arith, used-long, w .fits))
+
+  module _ (bytes last : List ℕ) (n : ℕ) (en : n ≡ 6 + 8 * length (take (head .used) table)) (el : last ≡ imageHere table head ++ drop n bytes) where
+    pub size-is : n ≡ 6 + 8 * head .used
+    size-is = omega (arith, used-long)
+
+    pub written-is : last ≡ imageHere table head ++ drop (6 + 8 * head .used) bytes
+    written-is = el ∙ ap (λ (k : ℕ). imageHere table head ++ drop k bytes) size-is
+
+    -- the image that was written, as a part of the bytes
+    image-long : length (imageHere table head) ≡ n
+    image-long = image-length (head .checkpoint) (take (head .used) table) ∙ sym en
+
+    pub image-inside : n ≤ length last
+    image-inside = omega (arith, image-long, simp length-append at (ap length el))
+
+    pub image-part : take n last ≡ imageHere table head
+    image-part = ap (take n) el ∙ take-at (imageHere table head) (drop n bytes) n image-long
+
+    -- and what it needs to be loaded back
+    module _ (small : head .checkpoint < 2 ^ 32) where
+      back : (imageB (imageHere table head) ≡ true) × (numberIn (imageHere table head) ≡ head .checkpoint) × (wordsIn (imageHere table head) ≡ take (head .used) table)
+      back = written-reads-back (head .checkpoint) (take (head .used) table) small (write-room .0) (w .sound .map)
+
+      pub count-is : countIn (imageHere table head) ≡ head .used
+      count-is = sym (words-in-length (imageHere table head)) ∙ ap length (back .2) ∙ used-long
+
+      pub load-room : (6 + 8 * countIn (take n last) ≤ length (take n last)) × (countIn (take n last) ≤ length table)
+      load-room =
+          rw image-part (omega (arith, image-facts (imageHere table head) (back .0) .size), omega (arith, count-is, w .sound .used-in))

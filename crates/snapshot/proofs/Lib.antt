@@ -1,0 +1,4 @@
+pub mod Accepted
+mod Filled
+pub mod OnViews
+pub mod Theorems

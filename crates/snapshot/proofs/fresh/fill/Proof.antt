@@ -1,0 +1,71 @@
+-- `fresh::fill` meets its contract: the words behind the image are cleared.
+-- Assumes nothing.
+use mathlib.Core.Path.{_∙_, sym, ap, ap₂}
+use lib.ListN.{length}
+use Rattle.image.specs.Image.{countIn, wordsIn}
+use Rattle.snapshot.specs.Fresh.{freshHead}
+use Rattle.snapshot.proofs.Filled.{filled}
+use borrow.Author.Needs.{needs}
+use Rattle.snapshot.proofs.fresh.fill.Statement.{statement}
+use Rattle.snapshot.proofs.fresh.fill.Tie as tie
+
+count-of-requires : tie.Need-count-of-requires
+count-of-requires c κs = search needs
+
+read-words-requires : tie.Need-read-words-requires
+read-words-requires c κs = search needs
+
+mul-clear : tie.Need-mul-clear
+mul-clear c = search needs
+
+sub-clear : tie.Need-sub-clear
+sub-clear c = search needs
+
+part-clear-start : tie.Need-part-clear-start
+part-clear-start c = search needs
+
+part-clear-end : tie.Need-part-clear-end
+part-clear-end c = search needs
+
+clear-requires : tie.Need-clear-requires
+clear-requires c κs = search needs
+
+clear-requires-2 : tie.Need-clear-requires-2
+clear-requires-2 c κs = search needs
+
+state-of-requires : tie.Need-state-of-requires
+state-of-requires c κs = search needs
+
+fresh-head-requires : tie.Need-fresh-head-requires
+fresh-head-requires c κs = search needs
+
+same-length : tie.Need-same-length
+same-length c = search needs
+
+same-length-2 : tie.Need-same-length-2
+same-length-2 c = search needs
+
+returns : tie.Need-returns
+returns c = (
+  (c .fresh-head .ensures) ∙ ap₂ freshHead (c .before .before .before .before .before .before .before .before .before .before .before .before .before .before .count-of .ensures .0) (c .before .state-of .ensures),
+  filled ((c .before .before .before .before .before .before .before .before .before .before .before .before .before .before .before .before .before .before .args .table .now)) ((c .before .before .before .before .before .before .before .before .before .before .before .before .before .before .before .before .before .before .args .image .now)) (c .before .before .before .before .before .before .before .before .before .before .before .before .before .before .count-of .result) (c .before .before .before .before .before .before .before .before .before .before .before .before .read-words .last .1 .0) (c .before .before .before .before .before .before .before .before .clear .last .0) (c .before .before .before .before .before .before .before .before .before .before .before .before .before .before .count-of .ensures .0) (c .before .before .before .before .before .before .before .before .before .before .before .before .read-words .ensures) (c .before .before .before .before .before .before .before .before .before .before .before .before .before .before .before .before .before .before .pre .1) (c .before .before .before .before .before .before .before .before .clear .ensures),
+  (c .before .before .before .before .clear2 .ensures),
+)
+
+pub fill-spec : {M : Type 1} → statement M
+fill-spec =
+    tie.close
+    (tie.spec
+    count-of-requires
+    read-words-requires
+    mul-clear
+    sub-clear
+    part-clear-start
+    part-clear-end
+    clear-requires
+    clear-requires-2
+    state-of-requires
+    fresh-head-requires
+    same-length
+    same-length-2
+    returns)

@@ -1,0 +1,17 @@
+-- A store with one state: "Loading gives floor, anchor and tip that number and no open place."
+-- Assumes nothing.
+use mathlib.Core.Bool.{false}
+use Prim.Native.Nat.{ℕ}
+use lib.ListN.{replicate}
+use Rattle.layout.specs.declared.head.Head.{Head}
+
+unfoldable pub freshHead : ℕ → ℕ → Head
+freshHead used number = record {
+  used = used;
+  oldest = number;
+  checkpoint = number;
+  tip = number;
+  held = replicate 8 false;
+  issued = replicate 8 0;
+  ends = replicate 64 0;
+}

@@ -1,0 +1,16 @@
+-- The view of a store that has one state: a map under its number, no step and no open slot.
+-- Assumes nothing.
+use mathlib.Core.List.{List, []}
+use Prim.Native.Nat.{ℕ}
+use lib.ListN.{replicate}
+use Rattle.layout.specs.View.{View, Limits, closed}
+
+unfoldable pub freshView : List ℕ → ℕ → Limits → View
+freshView words number limits = record {
+  base = words;
+  old = [];
+  steps = [];
+  checkpoint = number;
+  slots = replicate 8 closed;
+  limits = limits;
+}
