@@ -8,10 +8,13 @@ pub mod ListTest
 pub mod MapTest
 pub mod Merging
 pub mod Parts
+pub mod Pieces
 pub mod Places
+pub mod ReadWords
 pub mod Reading
 pub mod Rising
 pub mod Running
+pub mod Single
 pub mod TablePasses
 pub mod Weaving
 pub mod Writing

@@ -44,7 +44,7 @@ pub fn is_list(words: &[u64]) -> bool
 pub fn is_map(words: &[u64]) -> bool
     ensures { λ r. ⌜ r ≡ mapB 0 (now (words .entry)) ⌝ }
 {
-    let mut least = 0;
+    let mut next = 0;
     let mut i = 0;
     while i < words.len() {
         let word = words[i];
@@ -52,10 +52,10 @@ pub fn is_map(words: &[u64]) -> bool
             return false;
         }
         let offer = Entry::offer_of(word);
-        if offer < least {
+        if offer < next {
             return false;
         }
-        least = offer + 1;
+        next = offer + 1;
         i += 1;
     }
     true

@@ -1,7 +1,6 @@
 pub mod Bytes
 pub mod Fields
 pub mod ImageTest
-pub mod Pieces
 pub mod RoundTrip
 pub mod Storing
 pub mod Theorems

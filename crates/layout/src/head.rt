@@ -1,4 +1,5 @@
 // The head of a store: a value that travels with the calls.
+use grounds::Outcome;
 
 // The most steps that a store holds, and the number of slots.
 pub const STEPS: usize = 64;
@@ -24,4 +25,10 @@ pub struct Head {
     pub issued: [u32; 8],
     // Where each held step ends in the journal (marks); marks not in use are 0.
     pub ends: [usize; 64],
+}
+
+// What a call that moves a store answers, and the head after it.
+pub struct Stored {
+    pub outcome: Outcome,
+    pub head: Head,
 }

@@ -1,10 +1,10 @@
 // Clear: the empty map as state 0.
-use crate::fresh::Stored;
 use crate::fresh::fresh_head;
 use changes::words::clear as clear_words;
 use grounds::Outcome;
 use grounds::Refusal;
 use layout::head::Head;
+use layout::head::Stored;
 use layout::sound::lengths_fit;
 ghost use mathlib.Core.Path.{_≡_};
 ghost use lib.ListN.{length};

@@ -1,6 +1,5 @@
-// A store with one state and no step, and the answer of the calls that make one.
+// A store with one state and no step.
 use changes::words::clear;
-use grounds::Outcome;
 use image::reading::count_of;
 use image::reading::read_words;
 use image::reading::state_of;
@@ -11,12 +10,6 @@ ghost use lib.ListN.{length, replicate};
 ghost use Rattle.image.specs.Image.{countIn, numberIn, wordsIn};
 ghost use Rattle.layout.specs.View.{padded};
 ghost use Rattle.snapshot.specs.Fresh.{freshHead};
-
-// What a call answers, and the head after it.
-pub struct Stored {
-    pub outcome: Outcome,
-    pub head: Head,
-}
 
 // The head of a store that has one state, no step and no open slot.
 pub fn fresh_head(used: usize, state: u32) -> Head

@@ -1,11 +1,11 @@
 // Load: the map of an image under its state number.
-use crate::fresh::Stored;
 use crate::fresh::fill;
 use grounds::Outcome;
 use grounds::Refusal;
 use image::reading::count_of;
 use image::reading::is_image;
 use layout::head::Head;
+use layout::head::Stored;
 use layout::sound::lengths_fit;
 ghost use mathlib.Core.Path.{_≡_};
 ghost use lib.ListN.{length};

@@ -1,11 +1,11 @@
 // Restart: the checkpoint's image is written into lent bytes and loaded back, so that the tip becomes the
 // checkpoint and all slots close.
-use crate::fresh::Stored;
 use crate::fresh::fill;
 use crate::write::write_check;
 use grounds::Outcome;
 use image::writing::write;
 use layout::head::Head;
+use layout::head::Stored;
 ghost use mathlib.Core.Path.{_≡_};
 ghost use lib.ListN.{length};
 ghost use Rattle.snapshot.specs.Calls.{writeCheck, writeBytes, restartHead, restartTable, restartJournal};

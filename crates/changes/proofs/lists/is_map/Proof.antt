@@ -10,10 +10,10 @@ use Rattle.changes.proofs.lists.is_map.Statement.{statement}
 use Rattle.changes.proofs.lists.is_map.Tie as tie
 
 abbrev Inv-loop : tie.InvT-loop
-Inv-loop words least₀ i₀ least i = Mapping words least i
+Inv-loop words next₀ i₀ next i = Mapping words next i
 
 abbrev μ-loop : tie.MeasureT-loop
-μ-loop words least₀ i₀ least i = length words - i
+μ-loop words next₀ i₀ next i = length words - i
 
 loop-holds : tie.Need-loop-holds Inv-loop μ-loop
 loop-holds c = mapping _
@@ -36,8 +36,8 @@ offer-of-requires c κs = search needs
 returns-2 : tie.Need-returns-2 Inv-loop μ-loop
 returns-2 c = sym (falls-below (c .before .before .before .before .before .before .loop .inv) (c .before .before .before .before .before .loop-test .taken) (sym (c .before .before .before .kind-of .ensures) ∙ (c .before .before .if1 .left)) (omega arith))
 
-add-least : tie.Need-add-least Inv-loop μ-loop
-add-least c = search needs
+add-next : tie.Need-add-next Inv-loop μ-loop
+add-next c = search needs
 
 add-i : tie.Need-add-i Inv-loop μ-loop
 add-i c = search needs
@@ -64,7 +64,7 @@ is-map-spec =
     returns
     offer-of-requires
     returns-2
-    add-least
+    add-next
     add-i
     loop-less
     loop-again

@@ -28,7 +28,7 @@ add-result : tie.Need-add-result
 add-result c = search needs
 
 returns : tie.Need-returns
-returns c = (omega (arith, two-at ((c .before .before .before .before .before .args .bytes .now)) ((c .before .before .before .before .before .args .at)) ((c .before .before .before .before .before .pre))), omega arith)
+returns c = (omega (arith, two-at (c .before .before .before .before .before .args .bytes .now) (c .before .before .before .before .before .args .at) (c .before .before .before .before .before .pre)), omega arith)
 
 pub u16-at-spec : {M : Type 1} → statement M
 u16-at-spec =

@@ -28,7 +28,7 @@ add-result : tie.Need-add-result
 add-result c = search needs
 
 returns : tie.Need-returns
-returns c = omega (arith, eight-at ((c .before .before .before .args .bytes .now)) ((c .before .before .before .args .at)) ((c .before .before .before .pre)))
+returns c = omega (arith, eight-at (c .before .before .before .args .bytes .now) (c .before .before .before .args .at) (c .before .before .before .pre))
 
 pub u64-at-spec : {M : Type 1} → statement M
 u64-at-spec =

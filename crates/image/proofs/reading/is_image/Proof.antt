@@ -17,7 +17,7 @@ abbrev μ-loop : tie.MeasureT-loop
 μ-loop bytes count least₀ i₀ least i = countIn bytes - i
 
 returns : tie.Need-returns Inv-loop μ-loop
-returns c = sym (image-short ((c .before .before .args .bytes .now)) (omega arith))
+returns c = sym (image-short (c .before .before .args .bytes .now) (omega arith))
 
 count-of-requires : tie.Need-count-of-requires Inv-loop μ-loop
 count-of-requires c κs = search needs
@@ -29,7 +29,7 @@ add-if2 : tie.Need-add-if2 Inv-loop μ-loop
 add-if2 c = search needs
 
 returns-2 : tie.Need-returns-2 Inv-loop μ-loop
-returns-2 c = sym (image-missized ((c .before .before .before .before .args .bytes .now)) (omega arith) (λ e. omega arith))
+returns-2 c = sym (image-missized (c .before .before .before .before .args .bytes .now) (omega arith) (λ e. omega arith))
 
 loop-holds : tie.Need-loop-holds Inv-loop μ-loop
 loop-holds c = testing-all _ (omega arith) (omega arith)
@@ -47,13 +47,13 @@ kind-of-requires : tie.Need-kind-of-requires Inv-loop μ-loop
 kind-of-requires c κs = search needs
 
 returns-3 : tie.Need-returns-3 Inv-loop μ-loop
-returns-3 c = sym (test-not-put ((c .before .before .before .before .loop .inv)) (omega arith) ((c .before .before .u64-at .result)) ((c .before .before .u64-at .ensures)) (λ e. omega arith))
+returns-3 c = sym (test-not-put (c .before .before .before .before .loop .inv) (omega arith) (c .before .before .u64-at .result) (c .before .before .u64-at .ensures) (λ e. omega arith))
 
 offer-of-requires : tie.Need-offer-of-requires Inv-loop μ-loop
 offer-of-requires c κs = search needs
 
 returns-4 : tie.Need-returns-4 Inv-loop μ-loop
-returns-4 c = sym (test-below ((c .before .before .before .before .before .before .loop .inv)) (omega arith) ((c .before .before .before .before .u64-at .result)) ((c .before .before .before .before .u64-at .ensures)) (omega arith) (omega arith))
+returns-4 c = sym (test-below (c .before .before .before .before .before .before .loop .inv) (omega arith) (c .before .before .before .before .u64-at .result) (c .before .before .before .before .u64-at .ensures) (omega arith) (omega arith))
 
 add-least : tie.Need-add-least Inv-loop μ-loop
 add-least c = search needs
@@ -65,10 +65,10 @@ loop-less : tie.Need-loop-less Inv-loop μ-loop
 loop-less c = search needs
 
 loop-again : tie.Need-loop-again Inv-loop μ-loop
-loop-again c = rw ((c .before .offer-of .ensures)) (test-next ((c .before .before .before .before .before .before .loop .inv)) (omega arith) ((c .before .before .before .before .u64-at .result)) ((c .before .before .before .before .u64-at .ensures)) (omega arith) (omega arith))
+loop-again c = rw (c .before .offer-of .ensures) (test-next (c .before .before .before .before .before .before .loop .inv) (omega arith) (c .before .before .before .before .u64-at .result) (c .before .before .before .before .u64-at .ensures) (omega arith) (omega arith))
 
 returns-5 : tie.Need-returns-5 Inv-loop μ-loop
-returns-5 c = sym (tested ((c .before .loop .inv)) (omega arith))
+returns-5 c = sym (tested (c .before .loop .inv) (omega arith))
 
 pub is-image-spec : {M : Type 1} → statement M
 is-image-spec =

@@ -22,7 +22,7 @@ count-of-requires : tie.Need-count-of-requires Inv-loop μ-loop
 count-of-requires c κs = search needs
 
 loop-holds : tie.Need-loop-holds Inv-loop μ-loop
-loop-holds c = (omega arith, unwritten (start _ _) (sym (words-all ((c .before .before .before .args .bytes .now)))))
+loop-holds c = (omega arith, unwritten (start _ _) (sym (words-all (c .before .before .before .args .bytes .now))))
 
 mul-u64-at : tie.Need-mul-u64-at Inv-loop μ-loop
 mul-u64-at c = search needs
@@ -47,14 +47,14 @@ loop-less c = search needs
 
 loop-again : tie.Need-loop-again Inv-loop μ-loop
 loop-again c =
-    let here : (c .before .before .loop .i) < countIn ((c .before .before .before .before .before .before .args .bytes .now)) = omega arith in
-    (omega arith, rw ((c .u64-at .ensures)) (stored ((c .before .before .loop .inv .1)) (words-next (countIn ((c .before .before .before .before .before .before .args .bytes .now))) ((c .before .before .before .before .before .before .args .bytes .now)) ((c .before .before .loop .i)) here) (omega arith)))
+    let here : (c .before .before .loop .i) < countIn (c .before .before .before .before .before .before .args .bytes .now) = omega arith in
+    (omega arith, rw (c .u64-at .ensures) (stored (c .before .before .loop .inv .1) (words-next (countIn (c .before .before .before .before .before .before .args .bytes .now)) (c .before .before .before .before .before .before .args .bytes .now) (c .before .before .loop .i) here) (omega arith)))
 
 same-length : tie.Need-same-length Inv-loop μ-loop
 same-length c = search needs
 
 returns : tie.Need-returns Inv-loop μ-loop
-returns c = done ((c .before .loop .inv .1)) (words-end (countIn ((c .before .before .before .before .before .args .bytes .now))) ((c .before .before .before .before .before .args .bytes .now)) ((c .before .loop .i)) (omega arith)) ∙ ap (λ (n : ℕ). wordsIn ((c .before .before .before .before .before .args .bytes .now)) ++ drop n ((c .before .before .before .before .before .args .table .now))) (words-in-length ((c .before .before .before .before .before .args .bytes .now)))
+returns c = done (c .before .loop .inv .1) (words-end (countIn (c .before .before .before .before .before .args .bytes .now)) (c .before .before .before .before .before .args .bytes .now) (c .before .loop .i) (omega arith)) ∙ ap (λ (n : ℕ). wordsIn (c .before .before .before .before .before .args .bytes .now) ++ drop n (c .before .before .before .before .before .args .table .now)) (words-in-length (c .before .before .before .before .before .args .bytes .now))
 
 pub read-words-spec : {M : Type 1} → statement M
 read-words-spec =

@@ -9,7 +9,7 @@ use Rattle.changes.proofs.Writing.{Writing, unwritten}
 use Rattle.image.specs.Bytes.{bytesOf}
 use Rattle.image.specs.Image.{wordBytes}
 use Rattle.image.proofs.Bytes.{length-bytes}
-use Rattle.image.proofs.Pieces.{start-at, wrote-piece, continued, completed}
+use Rattle.changes.proofs.Pieces.{start-at, wrote-piece, continued, completed}
 use Rattle.image.proofs.Storing.{header-stored}
 use Rattle.image.proofs.Words.{word-bytes-next, word-bytes-end}
 use borrow.Author.Needs.{needs}
@@ -54,15 +54,15 @@ loop-less : tie.Need-loop-less Inv-loop μ-loop
 loop-less c = search needs
 
 loop-again : tie.Need-loop-again Inv-loop μ-loop
-loop-again c = (omega arith, omega arith, wrote-piece ((c .before .before .before .before .before .before .loop .inv .2)) (bytesOf 8 (getD ((c .before .before .before .before .before .before .before .before .before .before .before .before .before .before .before .before .before .args .words .now)) ((c .before .before .before .before .before .before .loop .i)) 0)) (wordBytes (drop ((c .before .before .before .before .before .before .loop .i) + 1) ((c .before .before .before .before .before .before .before .before .before .before .before .before .before .before .before .before .before .args .words .now)))) (word-bytes-next ((c .before .before .before .before .before .before .before .before .before .before .before .before .before .before .before .before .before .args .words .now)) ((c .before .before .before .before .before .before .loop .i)) ((c .before .before .before .before .before .loop-test .taken))) 8 (length-bytes 8 _) (omega arith) ((c .before .before .put-u64 .ensures)))
+loop-again c = (omega arith, omega arith, wrote-piece (c .before .before .before .before .before .before .loop .inv .2) (bytesOf 8 (getD (c .before .before .before .before .before .before .before .before .before .before .before .before .before .before .before .before .before .args .words .now) (c .before .before .before .before .before .before .loop .i) 0)) (wordBytes (drop ((c .before .before .before .before .before .before .loop .i) + 1) (c .before .before .before .before .before .before .before .before .before .before .before .before .before .before .before .before .before .args .words .now))) (word-bytes-next (c .before .before .before .before .before .before .before .before .before .before .before .before .before .before .before .before .before .args .words .now) (c .before .before .before .before .before .before .loop .i) (c .before .before .before .before .before .loop-test .taken)) ((c .before .before .before .before .before .before .loop .at) + 8) (omega (arith, length-bytes 8 (getD (c .before .before .before .before .before .before .before .before .before .before .before .before .before .before .before .before .before .args .words .now) (c .before .before .before .before .before .before .loop .i) 0))) (omega arith) (c .before .before .put-u64 .ensures))
 
 same-length : tie.Need-same-length Inv-loop μ-loop
 same-length c = search needs
 
 returns : tie.Need-returns Inv-loop μ-loop
 returns c =
-    let header = header-stored ((c .before .before .before .before .before .before .before .before .before .before .before .before .args .out .now)) ((c .before .before .before .before .before .before .before .before .before .before .before .before .args .state)) ((c .before .before .before .before .before .before .before .before .before .before .before .before .args .words .now)) (omega arith) _ _ ((c .before .before .before .before .before .before .before .before .put-u32 .ensures)) ((c .before .before .before .before .put-u16 .ensures)) in
-    let words = unwritten ((c .before .loop .inv .2)) (word-bytes-end ((c .before .before .before .before .before .before .before .before .before .before .before .before .args .words .now)) ((c .before .loop .i)) ((c .loop-test .left))) in
+    let header = header-stored (c .before .before .before .before .before .before .before .before .before .before .before .before .args .out .now) (c .before .before .before .before .before .before .before .before .before .before .before .before .args .state) (c .before .before .before .before .before .before .before .before .before .before .before .before .args .words .now) (omega arith) _ _ (c .before .before .before .before .before .before .before .before .put-u32 .ensures) (c .before .before .before .before .put-u16 .ensures) in
+    let words = unwritten (c .before .loop .inv .2) (word-bytes-end (c .before .before .before .before .before .before .before .before .before .before .before .before .args .words .now) (c .before .loop .i) (c .loop-test .left)) in
     (omega arith, completed (continued header words (omega arith)))
 
 pub write-spec : {M : Type 1} → statement M

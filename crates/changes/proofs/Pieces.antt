@@ -1,36 +1,52 @@
 -- A slice that is written from its front piece by piece, each piece by a call that is lent the whole slice and a place.
 -- Assumes nothing.
-use mathlib.Core.Path.{_≡_, refl, sym, ap, ap₂, _∙_}
+use mathlib.Core.Path.{_≡_, refl, sym, ap, _∙_}
 use mathlib.Core.List.{List, [], _++_, append-assoc, append-nil}
 use Prim.Native.Nat.{ℕ, _+_, _≤_}
 use native.Mathlib.Omega.{arith}
 use lib.ListN.{length, take, drop, length-append, length-drop}
 use lib.Seq.{length-take-le, take-at, drop-at}
 use Rattle.changes.proofs.Writing.{Writing, behind, done}
 
 -- a slice of which the part before a place is written
 pub start-at : (out rest : List ℕ) (k : ℕ) → k ≤ length out → Writing out out k rest (take k out ++ rest)
 start-at out rest k h = record { same = refl; within = h; front = refl; back = refl }
 
--- a piece is stored at the place
-module _ {out out₀ : List ℕ} {k : ℕ} {left goal : List ℕ} (h : Writing out out₀ k left goal) (piece rest : List ℕ) (s : left ≡ piece ++ rest) (n : ℕ) (e : length piece ≡ n) (room : k + n ≤ length out) {last : List ℕ} (l : last ≡ take k out ++ piece ++ drop (k + n) out) where
-  front-length : length (take k out ++ piece) ≡ k + n
-  front-length = length-append (take k out) piece ∙ ap₂ _+_ (length-take-le k out (h .within)) e
+-- a piece is stored at the place, and r is the place behind it
+module _
+    {out out₀ : List ℕ}
+    {k : ℕ}
+    {left goal : List ℕ}
+    (h : Writing out out₀ k left goal)
+    (piece rest : List ℕ)
+    (s : left ≡ piece ++ rest)
+    (r : ℕ)
+    (e : r ≡ k + length piece)
+    (room : r ≤ length out)
+    {last : List ℕ}
+    (l : last ≡ take k out ++ piece ++ drop r out) where
+  front-length : length (take k out ++ piece) ≡ r
+  front-length =
+      length-append (take k out) piece ∙ ap (λ (n : ℕ). n + length piece) (length-take-le k out (h .within)) ∙ sym e
 
   last-length : length last ≡ length out
-  last-length = ap length l ∙ length-append (take k out ++ piece) (drop (k + n) out) ∙ omega (arith, front-length, length-drop (k + n) out)
+  last-length =
+      ap length l ∙ length-append (take k out ++ piece) (drop r out) ∙ omega (arith, front-length, length-drop r out)
 
-  pub wrote-piece : Writing last out₀ (k + n) rest goal
+  pub wrote-piece : Writing last out₀ r rest goal
   wrote-piece =
       record {
         same = last-length ∙ h .same;
         within = omega (arith, last-length);
         front =
-            ap (λ (r : List ℕ). r ++ rest) (ap (take (k + n)) l ∙ take-at (take k out ++ piece) (drop (k + n) out) (k + n) front-length)
+            ap (λ (f : List ℕ). f ++ rest) (ap (take r) l ∙ take-at (take k out ++ piece) (drop r out) r front-length)
             ∙ append-assoc (take k out) piece rest
-            ∙ ap (λ (r : List ℕ). take k out ++ r) (sym s)
+            ∙ ap (λ (f : List ℕ). take k out ++ f) (sym s)
             ∙ h .front;
-        back = ap (drop (k + n)) l ∙ drop-at (take k out ++ piece) (drop (k + n) out) (k + n) front-length ∙ behind h (k + n) (omega arith);
+        back =
+            ap (drop r) l
+            ∙ drop-at (take k out ++ piece) (drop r out) r front-length
+            ∙ behind h r (omega arith);
       }
 
 -- what is written on a slice that was written before

@@ -1,0 +1,63 @@
+-- A test of every order, by its clauses and as a loop meets it.
+-- Assumes nothing.
+use mathlib.Core.Path.{_≡_, refl, sym, _∙_, ap}
+use mathlib.Core.Bool.{Bool, true, false, _&&_}
+use mathlib.Core.List.{List, [], _∷_}
+use Prim.Native.Nat.{ℕ, zero, suc, _+_, _≤_, _<_}
+use native.Mathlib.Omega.{arith}
+use lib.ListN.{length, getD, drop, drop-of-length-le}
+use Rattle.changes.proofs.Parts.{next}
+use Rattle.batch.specs.Tests.{allB}
+
+module _ (test : ℕ → Bool) where
+  pub all-none : allB test [] ≡ true
+  unfolding allB
+  all-none = refl
+
+  pub all-stop : (o : ℕ) (os : List ℕ) → test o ≡ false → allB test (o ∷ os) ≡ false
+  unfolding allB
+  all-stop o os e = rw e
+
+  pub all-more : (o : ℕ) (os : List ℕ) → test o ≡ true → allB test (o ∷ os) ≡ allB test os
+  unfolding allB
+  all-more o os e = rw e
+
+  -- a test that holds of all holds of the first and of the rest
+  first : (a b : Bool) → a && b ≡ true → a ≡ true
+  first true b e = refl
+  first false b e = e
+
+  pub all-first : (o : ℕ) (os : List ℕ) → allB test (o ∷ os) ≡ true → test o ≡ true
+  unfolding allB
+  all-first o os e = first (test o) (allB test os) e
+
+  pub all-rest : (o : ℕ) (os : List ℕ) → allB test (o ∷ os) ≡ true → allB test os ≡ true
+  all-rest o os e = sym (all-more o os (all-first o os e)) ∙ e
+
+  pub all-at : (os : List ℕ) → allB test os ≡ true → (i : ℕ) → i < length os → test (getD os i 0) ≡ true
+  all-at [] e i b = absurd (omega arith)
+  all-at (o ∷ os) e zero b = all-first o os e
+  all-at (o ∷ os) e (suc i) b = all-at os (all-rest o os e) i (omega arith)
+
+-- a loop over the orders: what is left passes exactly when all do
+pub record Left (test : ℕ → Bool) (orders : List ℕ) (k : ℕ) : Type 0 where
+  pub inside : k ≤ length orders
+  pub rest : allB test (drop k orders) ≡ allB test orders
+
+pub left-all : (test : ℕ → Bool) (orders : List ℕ) → Left test orders 0
+left-all test orders = record { inside = omega arith; rest = refl }
+
+module _ {test : ℕ → Bool} {orders : List ℕ} {k : ℕ} (l : Left test orders k) where
+  pub left-end : length orders ≤ k → allB test orders ≡ true
+  left-end h = sym (l .rest) ∙ ap (allB test) (drop-of-length-le orders h) ∙ all-none test
+
+  module _ (b : k < length orders) where
+    pub left-stop : test (getD orders k 0) ≡ false → allB test orders ≡ false
+    left-stop e = sym (l .rest) ∙ ap (allB test) (next orders k b) ∙ all-stop test _ _ e
+
+    pub left-next : test (getD orders k 0) ≡ true → Left test orders (k + 1)
+    left-next e =
+        record {
+          inside = omega arith;
+          rest = sym (ap (allB test) (next orders k b) ∙ all-more test _ _ e) ∙ l .rest;
+        }

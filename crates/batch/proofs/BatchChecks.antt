@@ -1,0 +1,123 @@
+-- The refusals before any order runs, one by one, and what is known where none applies; the test of the output's length.
+-- Assumes nothing.
+use mathlib.Core.Path.{_≡_, refl, sym, _∙_, ap}
+use mathlib.Core.Bool.{Bool, true, false, _&&_, cond}
+use mathlib.Core.List.{List, _∷_, _++_, append-nil}
+use Prim.Native.Nat.{ℕ, zero, suc, _≤_, _<_}
+use native.Mathlib.Omega.{arith}
+use borrow.Author.Tests.{le-leb, lt-leb}
+use lib.Dec.{leb}
+use lib.ListN.{length, take, drop, replicate, length-append, drop-of-length-le}
+use lib.Seq.{take-at}
+use Rattle.changes.specs.Lists.{listB}
+use Rattle.changes.proofs.ListTest.{list-facts}
+use Rattle.grounds.specs.declared.Refusal.the-variants.{BadList, BadOrder, OfferNotRead, OutputShort}
+use Rattle.grounds.specs.declared.Refusal.{Refusal}
+use Rattle.grounds.specs.Numbers.{numberOf, accepted, refused}
+use Rattle.batch.specs.declared.check.Check.{Check}
+use Rattle.batch.specs.declared.check.Check.the-variants.{Passed, Stops}
+use Rattle.orders.specs.Orders.{allowedB}
+use Rattle.batch.specs.Tests.{allB, readB}
+use Rattle.batch.specs.Running.{Ran, done, fails, priced}
+use Rattle.batch.specs.Batches.{after, checked, fitting, batch, answer, output}
+use Rattle.batch.specs.Working.{Accepted}
+
+module _ (reads orders : List ℕ) where
+  pub stop-list : listB reads ≡ false → checked reads orders ≡ Stops BadList
+  unfolding checked
+  stop-list e = rw e
+
+  module _ (list : listB reads ≡ true) where
+    pub stop-many : 64 < length orders → checked reads orders ≡ Stops BadList
+    unfolding checked
+    stop-many h = rw (list, lt-leb (length orders) 64 h)
+
+    module _ (few : length orders ≤ 64) where
+      pub stop-order : allB allowedB orders ≡ false → checked reads orders ≡ Stops BadOrder
+      unfolding checked
+      stop-order e = rw (list, le-leb (length orders) 64 few, e)
+
+      module _ (allowed : allB allowedB orders ≡ true) where
+        pub stop-read : allB (readB reads) orders ≡ false → checked reads orders ≡ Stops OfferNotRead
+        unfolding checked
+        stop-read e = rw (list, le-leb (length orders) 64 few, allowed, e)
+
+        pub passes : allB (readB reads) orders ≡ true → checked reads orders ≡ Passed
+        unfolding checked
+        passes e = rw (list, le-leb (length orders) 64 few, allowed, e)
+
+-- a batch that passes
+tests : (a b c d : Bool) → cond (a && b) (cond c (cond d Passed (Stops OfferNotRead)) (Stops BadOrder)) (Stops BadList) ≡ Passed → (a ≡ true) × (d ≡ true)
+tests true true true true e = (refl, refl)
+tests true true true false e = absurd (let z : _≡_ {A = ℕ} 0 1 = cc in omega arith)
+tests true true false d e = absurd (let z : _≡_ {A = ℕ} 0 1 = cc in omega arith)
+tests true false c d e = absurd (let z : _≡_ {A = ℕ} 0 1 = cc in omega arith)
+tests false b c d e = absurd (let z : _≡_ {A = ℕ} 0 1 = cc in omega arith)
+
+pub passed : (reads orders : List ℕ) → checked reads orders ≡ Passed → Accepted reads orders
+unfolding checked
+passed reads orders e =
+    let both = tests (listB reads) (leb (length orders) 64) (allB allowedB orders) (allB (readB reads) orders) e in
+    let facts = list-facts reads (both .0) in
+    record { short = facts .0; rises = facts .1; named = both .1 }
+
+-- the output's length
+pub fits : (room : ℕ) (d : List ℕ) → length d ≤ room → fitting room (done d) ≡ done d
+fits room d h = rw (le-leb (length d) room h)
+
+pub too-short : (room : ℕ) (d : List ℕ) → room < length d → fitting room (done d) ≡ fails (numberOf OutputShort)
+too-short room d h = rw (lt-leb (length d) room h)
+
+-- a batch that is stopped, and one whose orders run
+module _ (reads orders : List ℕ) (room : ℕ) where
+  pub batch-stopped : {ground : Refusal} → checked reads orders ≡ Stops ground → batch reads orders room ≡ fails (numberOf ground)
+  unfolding batch
+  batch-stopped e = ap (λ (c : Check). after c (fitting room (priced reads orders))) e
+
+  pub batch-runs : checked reads orders ≡ Passed → {ran : Ran} → priced reads orders ≡ ran → batch reads orders room ≡ fitting room ran
+  unfolding batch
+  batch-runs e i = ap (λ (c : Check). after c (fitting room (priced reads orders))) e ∙ ap (fitting room) i
+
+-- from a check to a run, and from a run to the answer and the memory
+pub went : {check : Check} (d : List ℕ) {ran : Ran} → check ≡ Passed → after check (done d) ≡ ran → done d ≡ ran
+went d e i = sym (ap (λ (c : Check). after c (done d)) e) ∙ i
+
+pub stopped : {check : Check} {ground : Refusal} (d : List ℕ) {ran : Ran} → check ≡ Stops ground → after check (done d) ≡ ran → fails (numberOf ground) ≡ ran
+stopped d e i = sym (ap (λ (c : Check). after c (done d)) e) ∙ i
+
+pub tell-fails : {n : ℕ} {ran : Ran} (out : List ℕ) → fails n ≡ ran → (refused n ≡ answer ran) × (out ≡ output ran out)
+tell-fails out e = (ap answer e, ap (λ (r : Ran). output r out) e)
+
+pub tell-done : {d : List ℕ} {ran : Ran} {n : ℕ} (list₀ : List ℕ) {list : List ℕ} → done d ≡ ran → n ≡ length d → list ≡ d ++ drop n list₀ → (accepted n ≡ answer ran) × (list ≡ output ran list₀)
+tell-done {d} list₀ e count i =
+    (ap accepted count ∙ ap answer e, i ∙ ap (λ (k : ℕ). d ++ drop k list₀) count ∙ ap (λ (r : Ran). output r list₀) e)
+
+-- a copy of a read set in memory of its length
+pub whole-copy : (reads words₀ : List ℕ) {words : List ℕ} → length words₀ ≡ length reads → words ≡ reads ++ drop (length reads) words₀ → words ≡ reads
+whole-copy reads words₀ s e =
+    let all : length words₀ ≤ length reads = omega arith in
+    e ∙ ap (_++_ reads) (drop-of-length-le words₀ all) ∙ append-nil reads
+
+-- what an answer and the memory say of a run
+pub told-fails : (ran : Ran) (n : ℕ) → refused n ≡ answer ran → ran ≡ fails n
+told-fails (done d) n e = absurd (let z : _≡_ {A = ℕ} 0 1 = cc in omega arith)
+told-fails (fails m) n e = cc
+
+pub record Told (ran : Ran) (n : ℕ) (list : List ℕ) : Type 0 where
+  pub inside : n ≤ length list
+  pub ran-is : ran ≡ done (take n list)
+
+pub told-done : (ran : Ran) (n : ℕ) (list list₀ : List ℕ) → accepted n ≡ answer ran → list ≡ output ran list₀ → Told ran n list
+told-done (done d) n list list₀ e i =
+    let count : length d ≡ n = cc in
+    record {
+      inside = omega (arith, simp length-append at (ap length i));
+      ran-is = ap done (sym (ap (take n) i ∙ take-at d (drop (length d) list₀) n count));
+    }
+told-done (fails m) n list list₀ e i = absurd (let z : _≡_ {A = ℕ} 0 1 = cc in omega arith)
+
+-- the marks of a read set of at most 64 words
+pub take-replicate : (n m : ℕ) (b : Bool) → n ≤ m → take n (replicate m b) ≡ replicate n b
+take-replicate zero m b h = refl
+take-replicate (suc n) zero b h = absurd (omega arith)
+take-replicate (suc n) (suc m) b h = ap (_∷_ b) (take-replicate n m b (omega arith))

@@ -1,0 +1,5 @@
+pub mod Tests
+pub mod Running
+pub mod OnMaps
+pub mod Batches
+pub mod Working

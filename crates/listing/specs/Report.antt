@@ -1,0 +1,28 @@
+-- What the listing program prints for an image (document 01, "Image and listing").
+-- Assumes nothing.
+use mathlib.Core.Path.{_≡_}
+use mathlib.Core.Bool.{cond}
+use mathlib.Core.List.{List, _++_}
+use Prim.Native.Nat.{ℕ}
+use lib.Dec.{ltb}
+use lib.ListN.{length, drop}
+use Rattle.grounds.specs.declared.Outcome.{Outcome}
+use Rattle.grounds.specs.declared.Outcome.the-variants.{Done, Refused}
+use Rattle.grounds.specs.Numbers.{numberOf}
+use Rattle.image.specs.Image.{numberIn, wordsIn}
+use Rattle.listing_text.specs.Listing.{textOf, refusalText}
+use Rattle.snapshot.specs.Calls.{loadCheck}
+
+-- the listing, or the line of the refusal
+abbrev pub byOutcome : Outcome → List ℕ → List ℕ
+byOutcome Done image = textOf (numberIn image) (wordsIn image)
+byOutcome (Refused r) image = refusalText (numberOf r)
+
+-- "reads one image on standard input into a book of 8,000 words and prints"; "Input above 64,006 bytes is number 15."
+unfoldable pub reportOf : List ℕ → List ℕ
+reportOf image = cond (ltb 64006 (length image)) (refusalText 15) (byOutcome (loadCheck 8000 1 image) image)
+
+-- a text at the start of bytes, whose other bytes are as they were
+pub record Rendered (text bytes last : List ℕ) (n : ℕ) : Type 0 where
+  pub size : n ≡ length text
+  pub bytes-are : last ≡ text ++ drop n bytes

@@ -1,0 +1,4 @@
+pub mod Codes
+pub mod Decimal
+pub mod Listing
+pub mod Stored

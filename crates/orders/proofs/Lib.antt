@@ -1,0 +1,2 @@
+pub mod OneOrder
+mod OrderKinds

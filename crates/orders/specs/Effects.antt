@@ -1,0 +1,47 @@
+-- What one order does, seen what is shown at its offer (document 01, "Batches" and grounds 9 and 10).
+-- Assumes nothing.
+use mathlib.Core.Bool.{cond}
+use Prim.Native.Nat.{ℕ, _+_, _-_, _*_, _/_, _^_, max}
+use lib.Dec.{leb, ltb}
+use Rattle.entry.specs.Word.{priceOf, putOf, noneOf, isPut}
+use Rattle.changes.specs.declared.search.Found.{Found}
+use Rattle.changes.specs.declared.search.Found.the-variants.{Word, Nothing}
+use Rattle.grounds.specs.declared.Refusal.the-variants.{BadOrder, NoPrice, PriceRange}
+use Rattle.orders.specs.declared.effects.Effect.{Effect}
+use Rattle.orders.specs.declared.effects.Effect.the-variants.{Change, Fails}
+use Rattle.orders.specs.Orders.{orderKind, orderAmount, orderOffer, Kind, lists, withdraws, raises, cuts, keeps, unknown, kindNamed}
+
+-- "the price becomes price × (kind − 15) / 16 rounded down, or the amount if that is more"
+unfoldable pub sixteenths : ℕ → ℕ → ℕ → ℕ
+sixteenths kind amount price = max (price * (kind - 15) / 16) amount
+
+-- the put of a new price, which ground 10 keeps to 2^32 − 1
+unfoldable pub putAt : ℕ → ℕ → Effect
+putAt offer price = cond (ltb price (2 ^ 32)) (Change (putOf offer price)) (Fails PriceRange)
+
+-- what is done with the price shown; ground 9 where none is
+unfoldable pub withPrice : Found → (ℕ → Effect) → Effect
+withPrice (Word w) f = cond (isPut w) (f (priceOf w)) (Fails NoPrice)
+withPrice Nothing f = Fails NoPrice
+
+-- a raise, a cut and sixteenths, of what is found at the offer
+abbrev pub raised : ℕ → ℕ → Found → Effect
+raised offer amount found = withPrice found (λ price. putAt offer (price + amount))
+
+abbrev pub lowered : ℕ → ℕ → Found → Effect
+lowered offer amount found = withPrice found (λ price. cond (leb amount price) (putAt offer (price - amount)) (Fails PriceRange))
+
+abbrev pub kept : ℕ → ℕ → ℕ → Found → Effect
+kept kind offer amount found = withPrice found (λ price. putAt offer (sixteenths kind amount price))
+
+-- by kinds; an unknown one fails by ground 7, which is tested before any order runs
+abbrev pub effectBy : Kind → ℕ → ℕ → ℕ → Found → Effect
+effectBy lists kind amount offer found = putAt offer amount
+effectBy withdraws kind amount offer found = Change (noneOf offer)
+effectBy raises kind amount offer found = raised offer amount found
+effectBy cuts kind amount offer found = lowered offer amount found
+effectBy keeps kind amount offer found = kept kind offer amount found
+effectBy unknown kind amount offer found = Fails BadOrder
+
+unfoldable pub effect : ℕ → Found → Effect
+effect o found = effectBy (kindNamed (orderKind o)) (orderKind o) (orderAmount o) (orderOffer o) found
