@@ -1,7 +1,7 @@
 -- The table after each pass of an application in place.
 -- Assumes nothing.
-use mathlib.Core.Path.{_≡_, refl, sym, ap, ap₂, subst, _∙_}
-use mathlib.Core.List.{List, [], _∷_, _++_, append-assoc, append-nil}
+use mathlib.Core.Path.{_≡_, sym, ap, ap₂, subst, _∙_}
+use mathlib.Core.List.{List, _∷_, _++_, append-assoc, append-nil}
 use Prim.Native.Nat.{ℕ, _+_, _-_, _≤_, _<_, max}
 use native.Mathlib.Decide.{ℕ-discrete}
 use native.Mathlib.Omega.{arith}
@@ -10,7 +10,7 @@ use lib.Seq.{take-at, drop-at, drop-append-add, drop-append-le, drop-drop, lengt
 use borrow.Rule.Slice.PartMut.{putMid, midOf, post-is}
 use Rattle.entry.specs.Word.{kindOf, offerOf, Put}
 use Rattle.changes.specs.Calculus.{apply}
-use Rattle.changes.specs.InPlace.{kept, added, weave, Planned}
+use Rattle.changes.specs.InPlace.{kept, weave, Planned}
 use Rattle.changes.specs.Lists.{From}
 use Rattle.changes.proofs.Merging.{merge-ind, nil-kept, kept-nil, kept-below, kept-same-put, kept-same-other, kept-above}
 use Rattle.changes.proofs.Weaving.{kept-rises, added-rises, woven-apply, apply-size}

@@ -1,16 +1,14 @@
 -- The merge of two lists: an equation for each case of each definition, and one induction for all of them.
 -- Assumes nothing.
-use mathlib.Core.Path.{_≡_, refl, ap, _∙_}
-use mathlib.Core.Bool.{Bool, true, false, cond}
+use mathlib.Core.Path.{_≡_, refl}
 use mathlib.Core.List.{List, [], _∷_}
 use Prim.Native.Nat.{ℕ, _≤_, _<_}
 use native.Mathlib.Decide.{decLt}
 use native.Mathlib.Omega.{arith}
 use borrow.Author.Tests.{lt-ltb, le-ltb, eq-eqb, ne-eqb}
-use lib.Dec.{ltb}
 use Rattle.entry.specs.Word.{kindOf, offerOf, Put}
 use Rattle.changes.specs.declared.merge.Side.the-variants.{Below, Same, Above}
-use Rattle.changes.specs.Calculus.{side, bySide, compose, puts}
+use Rattle.changes.specs.Calculus.{side, compose, puts}
 use Rattle.changes.specs.InPlace.{kept, added, weave}
 
 -- where one number lies, seen from another

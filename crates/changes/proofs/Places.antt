@@ -1,18 +1,17 @@
 -- The merge as loops meet it: at places of two slices, by the side on which the word of the first lies.
 -- Assumes nothing.
-use mathlib.Core.Path.{_≡_, refl, sym, ap, subst, _∙_}
-use mathlib.Core.Bool.{Bool, true, false, cond}
+use mathlib.Core.Path.{_≡_, sym, ap, subst, _∙_}
 use mathlib.Core.List.{List, [], _∷_}
 use Prim.Native.Nat.{ℕ, _+_, _≤_, _<_}
 use native.Mathlib.Decide.{decLt}
 use native.Mathlib.Omega.{arith}
 use lib.ListN.{length, drop, getD, drop-of-length-le}
-use Rattle.entry.specs.Word.{kindOf, offerOf, Put}
+use Rattle.entry.specs.Word.{offerOf, Put}
 use Rattle.changes.specs.declared.merge.Side.{Side}
 use Rattle.changes.specs.declared.merge.Side.the-variants.{Below, Same, Above}
-use Rattle.changes.specs.Calculus.{side, sideOf, compose, puts}
+use Rattle.changes.specs.Calculus.{side, sideOf, compose}
 use Rattle.changes.specs.InPlace.{kept, added}
-use Rattle.changes.proofs.Merging.{Lies, lower, equal, higher, lies, side-below, side-same, side-above, compose-nil, nil-compose, compose-below, compose-same, compose-above, nil-kept, kept-below, kept-same-put, kept-same-other, kept-above, nil-added, added-below, added-same, added-above-put, added-above-other, puts-put, puts-other}
+use Rattle.changes.proofs.Merging.{Lies, lower, equal, higher, lies, side-below, side-same, side-above, nil-compose, compose-below, compose-same, compose-above, nil-kept, kept-below, kept-same-put, kept-same-other, kept-above, nil-added, added-below, added-same, added-above-put, added-above-other, puts-put, puts-other}
 use Rattle.changes.proofs.Parts.{next}
 
 -- what a side says of two numbers

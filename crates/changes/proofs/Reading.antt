@@ -2,12 +2,12 @@
 -- Assumes nothing.
 use mathlib.Core.Path.{_≡_, refl, sym, ap, ap₂, _∙_}
 use mathlib.Core.List.{List, [], _∷_, map}
-use Prim.Native.Nat.{ℕ, _+_, _≤_, _^_, _<_}
+use Prim.Native.Nat.{ℕ, _+_, _≤_, _<_}
 use native.Mathlib.Decide.{ℕ-discrete}
 use native.Mathlib.Omega.{arith}
 use lib.ListN.{length, drop, getD, length-map, drop-of-length-le}
-use Rattle.entry.specs.Word.{kindOf, offerOf, priceOf, noneOf, Put, Valid}
-use Rattle.entry.proofs.Laws.{none-word, offer-small, kind-built, offer-built, price-built}
+use Rattle.entry.specs.Word.{kindOf, offerOf, noneOf, Put, Valid}
+use Rattle.entry.proofs.Laws.{none-word, offer-small, offer-built}
 use Rattle.changes.specs.declared.search.Found.{Found}
 use Rattle.changes.specs.declared.search.Found.the-variants.{Word, Nothing}
 use Rattle.changes.specs.Calculus.{find, orElse, compose, apply}

@@ -2,12 +2,11 @@
 -- Assumes nothing.
 use mathlib.Core.Path.{_≡_, refl, sym, ap, _∙_}
 use mathlib.Core.List.{List, [], _∷_}
-use Prim.Native.Nat.{ℕ, _+_, _≤_, _<_}
+use Prim.Native.Nat.{ℕ, _+_, _≤_}
 use native.Mathlib.Decide.{ℕ-discrete}
 use native.Mathlib.Omega.{arith}
 use lib.ListN.{length}
 use Rattle.entry.specs.Word.{kindOf, offerOf, Put}
-use Rattle.changes.specs.declared.search.Found.the-variants.{Word, Nothing}
 use Rattle.changes.specs.Calculus.{find, compose, puts}
 use Rattle.changes.specs.Lists.{From, All}
 use Rattle.changes.proofs.Find.{find-empty, find-head, find-past, find-none}

@@ -1,12 +1,12 @@
 -- The backward pass that weaves words into a table, and why the words that stay woven with those that are added are the map
 -- after the changes.
 -- Assumes nothing.
-use mathlib.Core.Path.{_≡_, refl, sym, ap, ap₂, subst, _∙_}
-use mathlib.Core.List.{List, [], _∷_, _++_, append-assoc}
-use Prim.Native.Nat.{ℕ, zero, suc, _+_, _-_, _≤_, _<_}
+use mathlib.Core.Path.{_≡_, sym, ap, ap₂, _∙_}
+use mathlib.Core.List.{List, [], _∷_, _++_}
+use Prim.Native.Nat.{ℕ, zero, suc, _+_, _≤_, _<_}
 use native.Mathlib.Decide.{decLt, ℕ-discrete}
 use native.Mathlib.Omega.{arith}
-use lib.ListN.{length, take, drop, getD, set, length-set, length-append, take-append-drop}
+use lib.ListN.{length, take, drop, getD, set, length-set, take-append-drop}
 use lib.Seq.{take-suc, take-all, take-take, take-set-le, drop-cons, drop-set-lt, getD-take, getD-set-same, append-snoc, length-take-le}
 use Rattle.entry.specs.Word.{kindOf, offerOf, Put}
 use Rattle.changes.specs.Calculus.{compose, puts, apply}

@@ -1,6 +1,6 @@
 -- The calculus of changes (document 01, "Laws of changes"): search, composition and application of lists of entry words.
 -- Assumes nothing.
-use mathlib.Core.Bool.{Bool, true, false, cond}
+use mathlib.Core.Bool.{cond}
 use mathlib.Core.List.{List, [], _∷_}
 use Prim.Native.Nat.{ℕ}
 use lib.Dec.{ltb, eqb}

@@ -1,14 +1,14 @@
 -- The test of an image, clause by clause, as facts, and as a loop meets it.
 -- Assumes nothing.
-use mathlib.Core.Path.{_≡_, refl, sym, _∙_, ap}
-use mathlib.Core.Bool.{Bool, true, false, _&&_}
-use mathlib.Core.List.{List, [], _∷_}
+use mathlib.Core.Path.{_≡_, sym, _∙_, ap}
+use mathlib.Core.Bool.{true, false, _&&_}
+use mathlib.Core.List.{List, _∷_}
 use Prim.Native.Nat.{ℕ, _+_, _-_, _*_, _≤_, _<_, _^_}
 use native.Mathlib.Omega.{arith}
 use borrow.Author.Tests.{eq-eqb, ne-eqb, eqb-true, le-leb, lt-leb, leb-true}
 use lib.Dec.{eqb, leb}
 use lib.ListN.{length, take, drop}
-use Rattle.entry.specs.Word.{kindOf, offerOf, Put}
+use Rattle.entry.specs.Word.{kindOf, offerOf}
 use Rattle.changes.specs.Lists.{mapB, Map}
 use Rattle.changes.proofs.ListTest.{and-both}
 use Rattle.changes.proofs.MapTest.{map-none, map-not-put, map-below, map-next, map-facts, facts-map}

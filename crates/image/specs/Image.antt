@@ -1,7 +1,7 @@
 -- The image of a map and its state number (document 01, "Image and listing"): "state number 32 bits, count 16 bits, then the
 -- book's words, all most significant byte first; the length is exactly 6 + 8 × count."
 -- Assumes nothing.
-use mathlib.Core.Bool.{Bool, true, _&&_}
+use mathlib.Core.Bool.{Bool, _&&_}
 use mathlib.Core.List.{List, [], _∷_, _++_}
 use Prim.Native.Nat.{ℕ, zero, suc, _+_, _*_}
 use lib.Dec.{eqb, leb}

@@ -1,16 +1,16 @@
 -- Slots as a head has them, and as a list of their own.
 -- Assumes nothing.
-use mathlib.Core.Path.{_≡_, refl, sym, ap, ap₂, _∙_}
-use mathlib.Core.Bool.{Bool, true, false, cond}
+use mathlib.Core.Path.{_≡_, refl, sym, ap, ap₂}
+use mathlib.Core.Bool.{Bool, true, false}
 use mathlib.Core.List.{List, [], _∷_, map}
 use Prim.Native.Nat.{ℕ, zero, suc, _≤_, _<_, min}
 use native.Mathlib.Omega.{arith}
 use borrow.Author.Tests.{le-leb, leb-true, eqb-true}
-use lib.ListN.{length, getD}
+use lib.ListN.{length}
 use Rattle.changes.specs.Lists.{All}
 use Rattle.layout.specs.Sound.{slotB}
 use Rattle.layout.specs.Tests.{least}
-use Rattle.layout.specs.View.{Slot, closed, holding, leastSlot, openOf, issuedOf, slotOf, slotsOf, NotAbove}
+use Rattle.layout.specs.View.{Slot, closed, holding, leastSlot, openOf, issuedOf, slotsOf, NotAbove}
 
 -- a list of slots in a head, and back
 pub slots-again : (ss : List Slot) → slotsOf (map openOf ss) (map issuedOf ss) ≡ ss

@@ -1,26 +1,22 @@
 -- Soundness as a record of facts, from the test and back.
 -- Assumes nothing.
-use mathlib.Core.Path.{_≡_, refl, sym, ap, subst, _∙_}
-use mathlib.Core.Bool.{Bool, true, false}
-use mathlib.Core.List.{List, [], _∷_}
+use mathlib.Core.Path.{_≡_, subst, _∙_}
+use mathlib.Core.Bool.{true}
+use mathlib.Core.List.{List}
 use Prim.Native.Nat.{ℕ, zero, suc, _+_, _-_, _≤_, _<_}
-use native.Mathlib.Decide.{le-ind}
-use native.Mathlib.Numerals.{add-one}
 use native.Mathlib.Omega.{arith}
 use borrow.Author.Tests.{le-leb, leb-true, eq-eqb, eqb-true}
-use lib.Dec.{leb, eqb}
-use lib.ListN.{length, take, drop, replicate}
-use Rattle.changes.specs.Lists.{listB, Map}
-use Rattle.changes.specs.Runs.{startOf, stepOf, Marked}
+use lib.ListN.{length, take, drop}
+use Rattle.changes.specs.Lists.{Map}
+use Rattle.changes.specs.Runs.{startOf, Marked}
 use Rattle.changes.proofs.MapTest.{map-of, of-map}
 use Rattle.layout.specs.declared.head.Head.{Head}
-use Rattle.layout.specs.Sound.{heldOf, tableB, numbersB, stepB, slotB, soundB}
-use Rattle.layout.specs.Tests.{allB, allOf, zerosB, least}
+use Rattle.layout.specs.Sound.{heldOf, stepB, slotB, soundB}
+use Rattle.layout.specs.Tests.{zerosB, least}
 use Rattle.layout.specs.View.{Shaped}
 use Rattle.layout.proofs.HeadTests.{numbers-facts, facts-numbers}
 use Rattle.layout.proofs.Holds.{first-holds, all-first, all-rest, all-none, all-at, all-of}
-use Rattle.layout.proofs.StepTests.{step-rises, step-list, steps-inside}
-use Rattle.layout.proofs.WordTests.{zeros-fact}
+use Rattle.layout.proofs.StepTests.{step-rises, steps-inside}
 
 pub record Sound (table journal : List ℕ) (head : Head) : Type 0 where
   pub used-in : head .used ≤ length table

@@ -1,20 +1,20 @@
 -- A sound store is the encoding of its view; the encoding of a good view is sound, and decodes to the view.
 -- Assumes nothing.
 use mathlib.Core.Path.{_≡_, refl, sym, ap, ap₂, subst, _∙_}
-use mathlib.Core.Bool.{Bool, true}
-use mathlib.Core.List.{List, [], _∷_, _++_, map}
+use mathlib.Core.Bool.{true}
+use mathlib.Core.List.{List, _++_, map}
 use Prim.Native.Nat.{ℕ, zero, suc, _+_, _-_, _≤_, _<_}
 use native.Mathlib.Omega.{arith}
-use lib.ListN.{length, getD, take, drop, replicate, length-append, length-take, length-drop, length-replicate, length-map, take-append-drop}
-use lib.Seq.{length-take-le, take-append-seam, drop-append-seam, take-at, drop-at}
+use lib.ListN.{length, take, drop, replicate, length-append, length-drop, length-replicate, length-map, take-append-drop}
+use lib.Seq.{length-take-le, take-append-seam, drop-append-seam}
 use Rattle.changes.specs.Lists.{listB, All, Map}
 use Rattle.changes.specs.Runs.{startOf, runOf, wordsOf, Marked}
 use Rattle.layout.specs.declared.head.Head.{Head}
-use Rattle.layout.specs.Sound.{heldOf, stepB, slotB, soundB}
+use Rattle.layout.specs.Sound.{heldOf, stepB, slotB}
 use Rattle.layout.specs.Tests.{zerosB}
-use Rattle.layout.specs.View.{Store, Slot, View, heldSteps, tipOf, leastSlot, padded, flat, marksFrom, openOf, issuedOf, slotsOf, encode, decode, Good, Shaped}
+use Rattle.layout.specs.View.{View, heldSteps, padded, flat, marksFrom, openOf, issuedOf, encode, decode, Good, Shaped}
 use Rattle.layout.proofs.SlotLists.{slots-again, least-slots, slots-pass, marks-again, numbers-again, least-again, slots-below, slots-length}
-use Rattle.layout.proofs.Sounds.{Sound, sound-facts, facts-sound, sound-marked}
+use Rattle.layout.proofs.Sounds.{Sound, sound-marked}
 use Rattle.layout.proofs.StepLists.{run-marks, run-words, marks-length, marks-end, Laid, cut-again, steps-pass}
 use Rattle.layout.proofs.StepTests.{step-list}
 use Rattle.layout.proofs.WordTests.{zeros-fact, fact-zeros}

@@ -1,8 +1,8 @@
 -- What an accepted call knows of its memory.
 -- Assumes nothing.
 use mathlib.Core.Path.{_≡_, sym, ap, _∙_}
-use mathlib.Core.Bool.{Bool, true, false, not}
-use mathlib.Core.List.{List, [], _∷_, _++_}
+use mathlib.Core.Bool.{true}
+use mathlib.Core.List.{List, _++_}
 use Prim.Native.Nat.{ℕ, _+_, _*_, _^_, _≤_, _<_}
 use native.Mathlib.Omega.{arith}
 use borrow.Author.Tests.{ltb-false, not-false}
@@ -10,13 +10,12 @@ use lib.ListN.{length, take, drop, length-append}
 use lib.Seq.{length-take-le, take-at}
 use Rattle.grounds.specs.declared.Outcome.the-variants.{Done}
 use Rattle.grounds.proofs.Firsts.{done-not}
-use Rattle.image.specs.Image.{imageB, imageOf, countIn, numberIn, wordsIn}
+use Rattle.image.specs.Image.{imageB, countIn, numberIn, wordsIn}
 use Rattle.image.proofs.ImageTest.{Image, image-facts}
 use Rattle.image.proofs.RoundTrip.{image-length}
 use Rattle.image.proofs.Theorems.{written-reads-back}
 use Rattle.image.proofs.Words.{words-in-length}
 use Rattle.layout.specs.declared.head.Head.{Head}
-use Rattle.layout.specs.Sound.{lengthsB, soundB}
 use Rattle.layout.proofs.HeadTests.{InRange, lengths-facts}
 use Rattle.layout.proofs.Sounds.{Sound, sound-facts}
 use Rattle.snapshot.specs.Calls.{loadCheck, writeCheck, imageHere}

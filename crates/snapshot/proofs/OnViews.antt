@@ -1,23 +1,21 @@
 -- The calls of a store at rest, on views: what an accepted call leaves is the encoding of a view with one state, which is sound.
 -- Assumes nothing.
 use mathlib.Core.Path.{_≡_, refl, sym, ap, ap₂, subst, _∙_}
-use mathlib.Core.Bool.{true, false}
-use mathlib.Core.List.{List, [], _∷_, _++_}
-use Prim.Native.Nat.{ℕ, _+_, _-_, _*_, _^_, _≤_, _<_}
+use mathlib.Core.Bool.{false}
+use mathlib.Core.List.{List, []}
+use Prim.Native.Nat.{ℕ, _^_, _≤_, _<_}
 use native.Mathlib.Nat.{sub-zero, add-zero}
 use native.Mathlib.Omega.{arith}
-use lib.ListN.{length, take, drop, replicate}
-use Rattle.changes.specs.Calculus.{apply, composeAll}
+use lib.ListN.{length, take, replicate}
 use Rattle.changes.specs.Lists.{From, All, Map}
 use Rattle.grounds.specs.declared.Outcome.the-variants.{Done}
 use Rattle.grounds.proofs.Firsts.{new-is}
 use Rattle.image.specs.Image.{imageOf, countIn, numberIn, wordsIn}
-use Rattle.image.proofs.Theorems.{written-reads-back, accepted-writes-back}
+use Rattle.image.proofs.Theorems.{written-reads-back}
 use Rattle.image.proofs.Words.{words-in-length}
 use Rattle.layout.specs.declared.head.Head.{Head}
-use Rattle.layout.specs.Sound.{soundB}
-use Rattle.layout.specs.View.{Store, View, Limits, closed, holding, heldSteps, leastSlot, flat, marksFrom, padded, encode, decode, Good, Shaped, NotAbove}
-use Rattle.layout.proofs.Sounds.{Sound, facts-sound}
+use Rattle.layout.specs.View.{Store, Limits, leastSlot, flat, marksFrom, padded, encode, decode, Good}
+use Rattle.layout.proofs.Sounds.{Sound}
 use Rattle.layout.proofs.Views.{encoded-sound, decoded}
 use Rattle.snapshot.specs.Calls.{clearOutcome, clearHead, clearWords, loadOutcome, loadHead, loadTable, loadJournal, writeCheck, imageHere, restartHead, restartTable, restartJournal}
 use Rattle.snapshot.specs.Fresh.{freshHead}

@@ -1,10 +1,10 @@
 -- Condition 2, of images: "every image written loads as the same map and number, and every image accepted is written back byte
 -- for byte." The statements are about the very definitions that the contracts of load and write cite.
 -- Assumes nothing.
-use mathlib.Core.Path.{_≡_, refl, sym, ap, _∙_}
+use mathlib.Core.Path.{_≡_, sym, ap, _∙_}
 use mathlib.Core.Bool.{true}
-use mathlib.Core.List.{List, _++_}
-use Prim.Native.Nat.{ℕ, _+_, _*_, _^_, _≤_, _<_}
+use mathlib.Core.List.{List}
+use Prim.Native.Nat.{ℕ, _^_, _≤_, _<_}
 use native.Mathlib.Omega.{arith}
 use borrow.Author.Tests.{le-ltb}
 use lib.ListN.{length, take}
@@ -19,7 +19,7 @@ use Rattle.image.proofs.Words.{words-in-length}
 use Rattle.layout.specs.declared.head.Head.{Head}
 use Rattle.layout.specs.Sound.{lengthsB}
 use Rattle.snapshot.specs.Calls.{loadCheck, loadOutcome, writeCheck, imageHere}
-use Rattle.snapshot.proofs.Accepted.{LoadOk, load-ok, WriteOk, write-ok, used-long, write-room}
+use Rattle.snapshot.proofs.Accepted.{LoadOk, load-ok, write-ok, used-long, write-room}
 
 -- an image that was written loads, into any memory in range whose table holds it, as the checkpoint's map and number
 module _ (table journal : List ℕ) (head : Head) (room : ℕ) (e : writeCheck table journal head room ≡ Done) (small : head .checkpoint < 2 ^ 32) where

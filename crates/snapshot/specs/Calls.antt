@@ -1,7 +1,7 @@
 -- The calls of a store at rest, on memory and head: the first ground that is met, and what is left in memory and head.
 -- "everything lent and the head keep their values" where a call is turned away.
 -- Assumes nothing.
-use mathlib.Core.Bool.{Bool, not}
+use mathlib.Core.Bool.{not}
 use mathlib.Core.List.{List, [], _∷_, _++_}
 use Prim.Native.Nat.{ℕ, _+_, _*_}
 use lib.Dec.{ltb}
@@ -11,7 +11,7 @@ use Rattle.grounds.specs.declared.Outcome.the-variants.{Done, Refused}
 use Rattle.grounds.specs.declared.Written.{Written}
 use Rattle.grounds.specs.declared.Written.the-variants.{Count, Refused as Short}
 use Rattle.grounds.specs.declared.Refusal.the-variants.{Lengths, Unsound, BadImage, TableFull, OutputShort}
-use Rattle.grounds.specs.First.{Ground, met, first, ifDone}
+use Rattle.grounds.specs.First.{met, first, ifDone}
 use Rattle.image.specs.Image.{imageB, countIn, numberIn, wordsIn, imageOf}
 use Rattle.layout.specs.declared.head.Head.{Head}
 use Rattle.layout.specs.Sound.{lengthsB, soundB}

@@ -2,7 +2,7 @@
 -- Assumes nothing.
 use mathlib.Core.Path.{_∙_, sym}
 use Prim.Native.Nat.{_+_, _-_}
-use lib.ListN.{length, drop, getD}
+use lib.ListN.{length, getD}
 use Rattle.changes.proofs.Composing.{Composing, composing, take-earlier, take-both, take-later, left-over}
 use Rattle.changes.proofs.Places.{below-there}
 use Rattle.changes.proofs.Writing.{copied-size, copied}

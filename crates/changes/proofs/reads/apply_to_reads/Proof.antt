@@ -1,6 +1,6 @@
 -- `reads::apply_to_reads` meets its contract: the words changed so far and the change of those left make the change of all.
 -- Assumes nothing.
-use mathlib.Core.Path.{_≡_, _∙_, sym, ap}
+use mathlib.Core.Path.{_∙_, sym, ap}
 use Prim.Native.Nat.{_+_, _-_, _≤_}
 use lib.ListN.{length, drop}
 use Rattle.entry.specs.Word.{offerOf}

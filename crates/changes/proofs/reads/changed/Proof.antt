@@ -1,6 +1,6 @@
 -- `reads::changed` meets its contract.
 -- Assumes nothing.
-use mathlib.Core.Path.{_≡_, _∙_, sym, ap}
+use mathlib.Core.Path.{_∙_, sym, ap}
 use Rattle.changes.specs.Calculus.{find}
 use Rattle.changes.specs.ReadSets.{foundOr}
 use borrow.Author.Needs.{needs}

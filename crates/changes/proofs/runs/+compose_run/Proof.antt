@@ -1,6 +1,6 @@
 -- `runs::compose_run` meets its contract: the halves of a run are composed, and the number of steps falls.
 -- Assumes nothing.
-use mathlib.Core.Path.{_≡_, subst, sym, _∙_}
+use mathlib.Core.Path.{subst, _∙_}
 use native.Mathlib.Omega.{arith}
 use borrow.Author.Needs.{needs}
 use Rattle.changes.specs.Runs.{Marked}

@@ -2,7 +2,7 @@
 -- Assumes nothing.
 use mathlib.Core.Path.{_≡_, _∙_, sym}
 use Prim.Native.Nat.{_+_, _-_}
-use lib.ListN.{length, drop, getD}
+use lib.ListN.{length, getD}
 use Rattle.changes.proofs.Places.{below-there, same-there}
 use Rattle.changes.specs.declared.merge.Side.the-variants.{Below, Same, Above}
 use Rattle.changes.proofs.TablePasses.{Keeping, keeping, side-ahead, keep-word, keep-put, keep-removed, keep-passed, keep-rest}

@@ -1,10 +1,8 @@
 -- `words::clear` meets its contract: what is written so far and the zeros that are left make zeros.
 -- Assumes nothing.
-use mathlib.Core.Path.{_∙_, ap}
-use mathlib.Core.List.{append-nil, _++_}
-use Prim.Native.Nat.{ℕ, _-_}
+use Prim.Native.Nat.{_-_}
 use native.Mathlib.Nat.{sub-zero}
-use lib.ListN.{length, drop, replicate, length-replicate, drop-of-length-le}
+use lib.ListN.{length, replicate, length-replicate}
 use Rattle.changes.proofs.Parts.{zeros-next, zeros-end}
 use Rattle.changes.proofs.Writing.{Writing, start, stored, filled}
 use borrow.Author.Needs.{needs}

@@ -2,7 +2,7 @@
 -- Assumes nothing.
 use mathlib.Core.Path.{_≡_, _∙_, ap, refl, sym}
 use mathlib.Core.List.{_∷_, _++_}
-use Prim.Native.Nat.{ℕ, _+_, _-_, _≤_}
+use Prim.Native.Nat.{_+_, _-_, _≤_}
 use lib.ListN.{length, take, drop, drop-of-length-le}
 use Rattle.changes.proofs.Parts.{next, moved-length, unmoved}
 use Rattle.changes.proofs.Writing.{Writing, stored, done, word-behind}

@@ -1,7 +1,7 @@
 -- `sound::are_unused` meets its contract: what is left of the marks is zero exactly when all from the first on are.
 -- Assumes nothing.
 use mathlib.Core.Path.{_≡_, _∙_, sym, refl}
-use Prim.Native.Nat.{_-_, _≤_}
+use Prim.Native.Nat.{_-_}
 use lib.ListN.{length, drop}
 use Rattle.layout.specs.Tests.{zerosB}
 use Rattle.layout.proofs.WordTests.{zeros-at-end, zeros-at-stop, zeros-at-on}

@@ -1,9 +1,9 @@
 -- `sound::least_of` meets its contract: the least of the checkpoint and the slots from a place on.
 -- Assumes nothing.
-use mathlib.Core.Path.{_≡_, _∙_, sym, ap, refl}
+use mathlib.Core.Path.{_≡_, _∙_, sym, ap}
 use mathlib.Core.Bool.{cond, false}
 use Prim.Native.Nat.{ℕ, suc, _-_, _≤_, min}
-use lib.ListN.{length, drop, getD}
+use lib.ListN.{drop, getD}
 use Rattle.layout.specs.Tests.{least}
 use Rattle.layout.proofs.WordTests.{least-end, least-step}
 use borrow.Author.Needs.{needs}

@@ -1,8 +1,6 @@
 -- `fresh::fill` meets its contract: the words behind the image are cleared.
 -- Assumes nothing.
-use mathlib.Core.Path.{_∙_, sym, ap, ap₂}
-use lib.ListN.{length}
-use Rattle.image.specs.Image.{countIn, wordsIn}
+use mathlib.Core.Path.{_∙_, ap₂}
 use Rattle.snapshot.specs.Fresh.{freshHead}
 use Rattle.snapshot.proofs.Filled.{filled}
 use borrow.Author.Needs.{needs}
