@@ -157,6 +157,15 @@ def many():
     case("64 offers, room for 63", sixty_four, [order(0, k, 3 * k + 1) for k in range(64)], 63)
     case("65 offers", sixty_four + [shows(3 * 64 + 1, 5)], [], 1)
     case("65 orders", [shows(5, 1000)], [order(2, 1, 5)] * 65, 2)
+    for title, last, room in [
+        ("of an unknown kind", order(15, 1, 5), 2),
+        ("on an offer not read", order(2, 1, 6), 2),
+        ("on an offer without a price", order(2, 1, 7), 2),
+        ("past the highest price", order(2, 1, 8), 2),
+        ("and no room", order(2, 1, 5), 0),
+    ]:
+        reads = [shows(5, 1000), shows(7, None), shows(8, TOP)]
+        case("65 orders, the last " + title, reads, [order(2, 1, 5)] * 64 + [last], room)
     case("64 orders of which the last is unknown", [shows(5, 1000)], [order(2, 1, 5)] * 63 + [order(15, 1, 5)], 2)
     case("64 orders of which the last is on another offer", [shows(5, 1000)], [order(2, 1, 5)] * 63 + [order(2, 1, 6)], 2)
 

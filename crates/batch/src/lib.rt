@@ -1,4 +1,4 @@
 // Pricing a batch of orders on a read set (document 01, "Batches").
 pub mod check;
 pub mod pricing;
-pub mod running;
+mod running;

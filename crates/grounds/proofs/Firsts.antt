@@ -1,6 +1,6 @@
 -- The first ground that is met, test by test.
 -- Assumes nothing.
-use mathlib.Core.Path.{_≡_, refl}
+use mathlib.Core.Path.{_≡_, refl, ap}
 use mathlib.Core.Bool.{Bool, true, false}
 use mathlib.Core.List.{List, [], _∷_}
 use Prim.Native.Nat.{ℕ}
@@ -8,6 +8,8 @@ use native.Mathlib.Omega.{arith}
 use Rattle.grounds.specs.declared.Refusal.{Refusal}
 use Rattle.grounds.specs.declared.Outcome.{Outcome}
 use Rattle.grounds.specs.declared.Outcome.the-variants.{Done, Refused}
+use Rattle.grounds.specs.declared.Written.{Written}
+use Rattle.grounds.specs.Numbers.{outcomeAs, writtenAs, Gives, GivesCount}
 use Rattle.grounds.specs.First.{Ground, met, first, ifDone}
 
 pub none-met : first [] ≡ Done
@@ -41,3 +43,10 @@ new-is e new old = rw e
 
 pub old-is {ℓ} : {A : Type ℓ} {o : Outcome} {r : Refusal} → o ≡ Refused r → (new old : A) → ifDone o new old ≡ old
 old-is e new old = rw e
+
+-- an answer that is the one meant gives it in document 01's terms too
+pub gives : {a b : Outcome} → a ≡ b → Gives a b
+gives e = (e, ap outcomeAs e)
+
+pub gives-count : {a b : Written} → a ≡ b → GivesCount a b
+gives-count e = (e, ap writtenAs e)

@@ -1,5 +1,6 @@
 -- The numbers of the grounds (document 01, "Grounds for turning a call away"), and what an answer says in that paper's terms.
 -- Assumes nothing.
+use mathlib.Core.Path.{_≡_}
 use Prim.Native.Nat.{ℕ}
 use Rattle.grounds.specs.declared.Refusal.{Refusal}
 use Rattle.grounds.specs.declared.Refusal.the-variants.{Lengths, Unsound, SlotRange, SlotTaken, SlotClosed, BadList, BadOrder, OfferNotRead, NoPrice, PriceRange, StateRange, LastState, StepsFull, JournalFull, BadImage, TableFull, OutputShort}
@@ -42,3 +43,10 @@ writtenAs (Refused ground) = refused (numberOf ground)
 abbrev pub outcomeAs : Outcome → Answer
 outcomeAs Done = accepted 0
 outcomeAs (Turned ground) = refused (numberOf ground)
+
+-- The promise of an answer: it is the one that is meant, and says the same in document 01's terms.
+abbrev pub Gives : Outcome → Outcome → Type 0
+Gives answer meant = (answer ≡ meant) × (outcomeAs answer ≡ outcomeAs meant)
+
+abbrev pub GivesCount : Written → Written → Type 0
+GivesCount answer meant = (answer ≡ meant) × (writtenAs answer ≡ writtenAs meant)

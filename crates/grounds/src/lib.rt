@@ -1,4 +1,4 @@
-// The grounds for turning a call away (document 01), with their numbers, and the answer of the calls that write words.
+// The grounds for turning a call away (document 01), with their numbers, and what calls answer.
 ghost use mathlib.Core.Path.{_≡_};
 ghost use Rattle.grounds.specs.Numbers.{numberOf};
 

@@ -2,6 +2,7 @@ pub mod HeadTests
 pub mod Holds
 pub mod SlotLists
 pub mod Sounds
+pub mod States
 pub mod StepLists
 pub mod StepTests
 pub mod Views

@@ -14,7 +14,7 @@ pub const JOURNAL_WORDS: usize = 4096;
 pub struct Head {
     // How many words of the table are used.
     pub used: usize,
-    // The number of the oldest state from which a step is held (document 01: floor).
+    // The least of the checkpoint and the numbers of the open slots; steps from there on are held (document 01: floor).
     pub oldest: u32,
     // The number of the state that the table holds (anchor).
     pub checkpoint: u32,

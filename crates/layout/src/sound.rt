@@ -2,7 +2,6 @@
 use crate::head::Head;
 use crate::head::JOURNAL_WORDS;
 use crate::head::SLOTS;
-use crate::head::STEPS;
 use crate::head::TABLE_WORDS;
 use changes::lists::is_list;
 use changes::lists::is_map;

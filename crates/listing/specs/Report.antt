@@ -11,7 +11,7 @@ use Rattle.grounds.specs.declared.Outcome.the-variants.{Done, Refused}
 use Rattle.grounds.specs.Numbers.{numberOf}
 use Rattle.image.specs.Image.{numberIn, wordsIn}
 use Rattle.listing_text.specs.Listing.{textOf, refusalText}
-use Rattle.snapshot.specs.Calls.{loadCheck}
+use Rattle.snapshot.specs.Calls.{loadCheck, loadTable, loadJournal}
 
 -- the listing, or the line of the refusal
 abbrev pub byOutcome : Outcome → List ℕ → List ℕ
@@ -21,6 +21,13 @@ byOutcome (Refused r) image = refusalText (numberOf r)
 -- "reads one image on standard input into a book of 8,000 words and prints"; "Input above 64,006 bytes is number 15."
 unfoldable pub reportOf : List ℕ → List ℕ
 reportOf image = cond (ltb 64006 (length image)) (refusalText 15) (byOutcome (loadCheck 8000 1 image) image)
+
+-- the memory lent to it: loaded, unless the input is too long to be read
+abbrev pub tableAfter : List ℕ → List ℕ → List ℕ → List ℕ
+tableAfter table journal image = cond (ltb 64006 (length image)) table (loadTable table journal image)
+
+abbrev pub journalAfter : List ℕ → List ℕ → List ℕ → List ℕ
+journalAfter table journal image = cond (ltb 64006 (length image)) journal (loadJournal table journal image)
 
 -- a text at the start of bytes, whose other bytes are as they were
 pub record Rendered (text bytes last : List ℕ) (n : ℕ) : Type 0 where

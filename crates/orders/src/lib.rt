@@ -2,6 +2,7 @@
 //
 // An order word has 64 bits, most significant first a kind of 8 bits, an amount of 25 bits and an
 // offer of 31 bits.
+use entry::Entry;
 ghost use mathlib.Core.Path.{_≡_};
 ghost use Rattle.orders.specs.Orders.{orderKind, orderAmount, orderOffer, allowedB};
 
@@ -14,7 +15,8 @@ impl Order {
 
     pub const AMOUNT_BITS: u32 = 25;
 
-    pub const OFFER_BITS: u32 = 31;
+    // An order's offer is an entry's.
+    pub const OFFER_BITS: u32 = Entry::OFFER_BITS;
 
     // Where the amount and the kind start, counted from the least significant bit.
     const AMOUNT_AT: u32 = Order::OFFER_BITS;

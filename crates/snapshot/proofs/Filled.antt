@@ -22,3 +22,8 @@ filled table image n read zeros en er room ez =
     ap length (part read n) ∙ length-drop n read ∙ ap₂ (λ (a b : ℕ). a - b) long (sym count) in
     put-part read zeros n (omega arith)
     ∙ ap₂ _++_ (ap (take n) er ∙ take-at (wordsIn image) (drop (countIn image) table) n count) (ez ∙ ap (λ (k : ℕ). replicate k 0) rest)
+
+-- a slice that was cleared from its start
+pub emptied : (words zeros : List ℕ) → zeros ≡ replicate (length (take (length words - 0) (drop 0 words))) 0 → putMid 0 (length words - 0) words zeros ≡ replicate (length words) 0
+emptied words zeros e =
+    put-part words zeros 0 (omega arith) ∙ e ∙ ap (λ (l : List ℕ). replicate (length l) 0) (part words 0)

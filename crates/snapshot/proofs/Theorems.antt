@@ -1,25 +1,33 @@
 -- Condition 2, of images: "every image written loads as the same map and number, and every image accepted is written back byte
 -- for byte." The statements are about the very definitions that the contracts of load and write cite.
 -- Assumes nothing.
-use mathlib.Core.Path.{_≡_, sym, ap, _∙_}
-use mathlib.Core.Bool.{true}
-use mathlib.Core.List.{List}
-use Prim.Native.Nat.{ℕ, _^_, _≤_, _<_}
+use mathlib.Core.Path.{_≡_, sym, ap, ap₂, subst, _∙_}
+use mathlib.Core.Bool.{true, not}
+use mathlib.Core.List.{List, _++_}
+use Prim.Native.Nat.{ℕ, _+_, _-_, _*_, _^_, _≤_, _<_}
 use native.Mathlib.Omega.{arith}
-use borrow.Author.Tests.{le-ltb}
-use lib.ListN.{length, take}
+use borrow.Author.Tests.{le-ltb, not-false}
+use lib.ListN.{length, take, drop, replicate, length-replicate}
+use lib.Seq.{take-at}
 use Rattle.changes.specs.Lists.{All}
+use Rattle.grounds.specs.declared.Outcome.{Outcome}
 use Rattle.grounds.specs.declared.Outcome.the-variants.{Done}
-use Rattle.grounds.proofs.Firsts.{first-not, none-met}
+use Rattle.grounds.specs.declared.Written.the-variants.{Count}
+use Rattle.grounds.proofs.Firsts.{first-not, none-met, done-not, new-is}
 use Rattle.image.specs.Bytes.{Byte}
 use Rattle.image.specs.Image.{imageB, imageOf, countIn, numberIn, wordsIn}
 use Rattle.image.proofs.ImageTest.{facts-image}
 use Rattle.image.proofs.Theorems.{written-reads-back, accepted-writes-back}
 use Rattle.image.proofs.Words.{words-in-length}
 use Rattle.layout.specs.declared.head.Head.{Head}
-use Rattle.layout.specs.Sound.{lengthsB}
-use Rattle.snapshot.specs.Calls.{loadCheck, loadOutcome, writeCheck, imageHere}
+use Rattle.layout.specs.Sound.{lengthsB, soundB}
+use Rattle.layout.specs.View.{Store, padded}
+use Rattle.layout.proofs.Sounds.{Sound, facts-sound}
+use Rattle.layout.proofs.Views.{encoded-sound, padded-length}
+use Rattle.snapshot.specs.Calls.{loadCheck, loadOutcome, loadHead, loadTable, loadJournal, writeCheck, writeAnswer, writeBytes, countOr, imageHere}
+use Rattle.snapshot.specs.Fresh.{freshHead}
 use Rattle.snapshot.proofs.Accepted.{LoadOk, load-ok, write-ok, used-long, write-room}
+use Rattle.snapshot.proofs.OnViews.{load-leaves, load-good}
 
 -- an image that was written loads, into any memory in range whose table holds it, as the checkpoint's map and number
 module _ (table journal : List ℕ) (head : Head) (room : ℕ) (e : writeCheck table journal head room ≡ Done) (small : head .checkpoint < 2 ^ 32) where
@@ -42,3 +50,82 @@ loaded-writes-back table journal image b e = accepted-writes-back image b (accep
   where
     accepted : LoadOk (length table) (length journal) image → imageB image ≡ true
     accepted ok = facts-image image (ok .image-ok)
+
+-- The same through the calls. After an accepted load, writing the image into bytes that hold it is accepted, gives the
+-- image's length, and leaves the image's own bytes at their start.
+module _ (table journal image out : List ℕ) (head : Head) (bytes : All Byte image) (e : loadOutcome table journal image ≡ Done) (room : length image ≤ length out) where
+  abbrev T : List ℕ
+  T = loadTable table journal image
+
+  abbrev J : List ℕ
+  J = loadJournal table journal image
+
+  abbrev H : Head
+  H = loadHead table journal image head
+
+  ok : LoadOk (length table) (length journal) image
+  ok = load-ok (length table) (length journal) image e
+
+  used-is : H .used ≡ countIn image
+  unfolding freshHead
+  used-is = ap (λ (h : Head). h .used) (new-is e (freshHead (countIn image) (numberIn image)) head)
+
+  state-is : H .checkpoint ≡ numberIn image
+  unfolding freshHead
+  state-is = ap (λ (h : Head). h .checkpoint) (new-is e (freshHead (countIn image) (numberIn image)) head)
+
+  table-is : T ≡ padded (length table) (wordsIn image)
+  table-is = new-is e (padded (length table) (wordsIn image)) table
+
+  fits : length (wordsIn image) ≤ length table
+  fits = omega (arith, words-in-length image, ok .room)
+
+  accepted-lengths : lengthsB (length table) (length journal) ≡ true
+  accepted-lengths = not-false _ (done-not _ _ _ e .0)
+
+  lengths : lengthsB (length T) (length J) ≡ lengthsB (length table) (length journal)
+  lengths =
+      ap₂ lengthsB (ap length table-is ∙ padded-length (length table) (wordsIn image) fits)
+      (ap length (new-is e (replicate (length journal) 0) journal) ∙ length-replicate (length journal) 0)
+
+  sound : soundB T J H ≡ true
+  sound =
+      facts-sound _ _ _
+      (subst (λ (s : Store). Sound (s .table) (s .journal) (s .head)) (sym (load-leaves table journal head image e))
+      (encoded-sound _ (load-good table journal head image e)))
+
+  pub load-then-write : writeCheck T J H (length out) ≡ Done
+  load-then-write =
+      first-not _ _ _ (ap not (lengths ∙ accepted-lengths)) ∙ first-not _ _ _ (ap not sound) ∙ first-not _ _ _ (le-ltb (length out) (6 + 8 * H .used) (omega (arith, used-is, ok .image-ok .size))) ∙ none-met
+
+  image-is : imageHere T H ≡ image
+  image-is =
+      ap₂ imageOf state-is
+      (ap₂ take used-is table-is ∙ take-at (wordsIn image) (replicate (length table - length (wordsIn image)) 0) (countIn image) (words-in-length image))
+      ∙ loaded-writes-back table journal image bytes e
+
+  pub load-then-write-count : writeAnswer T J H (length out) ≡ Count (length image)
+  load-then-write-count =
+      let size : 6 + 8 * H .used ≡ length image = omega (arith, used-is, ok .image-ok .size) in
+      ap (λ (o : Outcome). countOr o (6 + 8 * H .used)) load-then-write ∙ ap Count size
+
+  pub load-then-write-bytes : writeBytes T J H out ≡ image ++ drop (length image) out
+  load-then-write-bytes =
+      let size : 6 + 8 * H .used ≡ length image = omega (arith, used-is, ok .image-ok .size) in
+      new-is load-then-write (imageHere T H ++ drop (6 + 8 * H .used) out) out ∙ ap₂ (λ (i : List ℕ) (n : ℕ). i ++ drop n out) image-is size
+
+-- After an accepted write, loading the image into other memory in range whose table holds it is accepted, and gives the
+-- checkpoint's map under its number.
+module _ (table journal : List ℕ) (head : Head) (room : ℕ) (e : writeCheck table journal head room ≡ Done) (small : head .checkpoint < 2 ^ 32)
+    (table′ journal′ : List ℕ) (before : Head) (range : lengthsB (length table′) (length journal′) ≡ true) (holds : head .used ≤ length table′) where
+  loads : loadOutcome table′ journal′ (imageHere table head) ≡ Done
+  loads = written-loads table journal head room e small (length table′) (length journal′) range holds
+
+  pub write-then-load-table : loadTable table′ journal′ (imageHere table head) ≡ padded (length table′) (take (head .used) table)
+  write-then-load-table = new-is loads (padded (length table′) (wordsIn (imageHere table head))) table′ ∙ ap (padded (length table′)) (written-same table journal head room e small .1)
+
+  pub write-then-load-head : loadHead table′ journal′ (imageHere table head) before ≡ freshHead (head .used) (head .checkpoint)
+  write-then-load-head =
+      let same = written-same table journal head room e small in
+      let count : countIn (imageHere table head) ≡ head .used = sym (words-in-length (imageHere table head)) ∙ ap length (same .1) ∙ used-long (write-ok table journal head room e) in
+      new-is loads (freshHead (countIn (imageHere table head)) (numberIn (imageHere table head))) before ∙ ap₂ freshHead count (same .0)

@@ -34,6 +34,7 @@ pub fn fill(table: &mut [u64], journal: &mut [u64], image: &[u8]) -> Head
     let count = count_of(image);
     read_words(image, table);
     clear(&mut table[count..]);
-    clear(journal);
+    let start = 0;
+    clear(&mut journal[start..]);
     fresh_head(count, state_of(image))
 }

@@ -9,6 +9,7 @@ use layout::head::Stored;
 use layout::sound::lengths_fit;
 ghost use mathlib.Core.Path.{_≡_};
 ghost use lib.ListN.{length};
+ghost use Rattle.grounds.specs.Numbers.{Gives};
 ghost use Rattle.snapshot.specs.Calls.{loadCheck, loadOutcome, loadHead, loadTable, loadJournal};
 
 // The first ground on which a load into memory of these lengths is turned away.
@@ -28,7 +29,7 @@ fn load_check(table: usize, journal: usize, image: &[u8]) -> Outcome
 }
 
 pub fn load(table: &mut [u64], journal: &mut [u64], head: Head, image: &[u8]) -> Stored
-    ensures { λ r. ⌜ (r .outcome ≡ loadOutcome (now (table .entry)) (now (journal .entry)) (now (image .entry))) × (r .head ≡ loadHead (now (table .entry)) (now (journal .entry)) (now (image .entry)) head) × (now (table .exit) ≡ loadTable (now (table .entry)) (now (journal .entry)) (now (image .entry))) × (now (journal .exit) ≡ loadJournal (now (table .entry)) (now (journal .entry)) (now (image .entry))) ⌝ }
+    ensures { λ r. ⌜ Gives (r .outcome) (loadOutcome (now (table .entry)) (now (journal .entry)) (now (image .entry))) × (r .head ≡ loadHead (now (table .entry)) (now (journal .entry)) (now (image .entry)) head) × (now (table .exit) ≡ loadTable (now (table .entry)) (now (journal .entry)) (now (image .entry))) × (now (journal .exit) ≡ loadJournal (now (table .entry)) (now (journal .entry)) (now (image .entry))) ⌝ }
 {
     let outcome = load_check(table.len(), journal.len(), image);
     let Outcome::Done = outcome else {

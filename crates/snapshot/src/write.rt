@@ -9,6 +9,7 @@ use layout::sound::lengths_fit;
 ghost use mathlib.Core.Path.{_≡_};
 ghost use Prim.Native.Nat.{_+_, _*_};
 ghost use lib.ListN.{length};
+ghost use Rattle.grounds.specs.Numbers.{GivesCount};
 ghost use Rattle.snapshot.specs.Calls.{writeCheck, writeAnswer, writeBytes};
 
 // The first ground on which writing an image into so many bytes is turned away.
@@ -29,7 +30,7 @@ pub fn write_check(table: &[u64], journal: &[u64], head: Head, room: usize) -> O
 
 // Writes the image to the start of `out`; the bytes behind it stay.
 pub fn write_image(table: &[u64], journal: &[u64], head: Head, out: &mut [u8]) -> Written
-    ensures { λ r. ⌜ (r ≡ writeAnswer (now (table .entry)) (now (journal .entry)) head (length (now (out .entry)))) × (now (out .exit) ≡ writeBytes (now (table .entry)) (now (journal .entry)) head (now (out .entry))) ⌝ }
+    ensures { λ r. ⌜ GivesCount r (writeAnswer (now (table .entry)) (now (journal .entry)) head (length (now (out .entry)))) × (now (out .exit) ≡ writeBytes (now (table .entry)) (now (journal .entry)) head (now (out .entry))) ⌝ }
 {
     let used = head.used;
     match write_check(table, journal, head, out.len()) {

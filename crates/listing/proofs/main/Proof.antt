@@ -32,10 +32,10 @@ report-requires : tie.Need-report-requires
 report-requires c κs = search needs
 
 array-share-prefix-text : tie.Need-array-share-prefix-text
-array-share-prefix-text c = rendered-in (c .before .before .before .report .ensures)
+array-share-prefix-text c = rendered-in (c .before .before .before .report .ensures .0)
 
 slice-aggregate-write-all : tie.Need-slice-aggregate-write-all
-slice-aggregate-write-all c = sym (length-take-le (c .before .before .before .before .report .result) (c .before .before .before .before .report .last .1 .1 .1 .0) (rendered-in (c .before .before .before .before .report .ensures)))
+slice-aggregate-write-all c = sym (length-take-le (c .before .before .before .before .report .result) (c .before .before .before .before .report .last .1 .1 .1 .0) (rendered-in (c .before .before .before .before .report .ensures .0)))
 
 write-all-requires : tie.Need-write-all-requires
 write-all-requires c κs = search needs

@@ -2,7 +2,7 @@
 -- Assumes nothing.
 use mathlib.Core.Path.{_∙_, sym, ap}
 use mathlib.Core.Bool.{not}
-use Rattle.grounds.proofs.Firsts.{first-met, first-not, none-met, if-refused, if-done}
+use Rattle.grounds.proofs.Firsts.{gives, first-met, first-not, none-met, if-refused, if-done}
 use borrow.Author.Needs.{needs}
 use Rattle.snapshot.proofs.clear.clear.Statement.{statement}
 use Rattle.snapshot.proofs.clear.clear.Tie as tie
@@ -13,7 +13,7 @@ lengths-fit-requires c κs = search needs
 returns : tie.Need-returns
 returns c =
     let e = first-met _ _ _ (ap not (sym (c .before .lengths-fit .ensures)) ∙ (c .if1 .taken)) in
-    (sym e, if-refused e _ _, if-refused e _ _, if-refused e _ _)
+    (gives (sym e), if-refused e _ _, if-refused e _ _, if-refused e _ _)
 
 clear-requires : tie.Need-clear-requires
 clear-requires c κs = search needs
@@ -33,7 +33,7 @@ same-length-2 c = search needs
 returns-2 : tie.Need-returns-2
 returns-2 c =
     let e = first-not _ _ _ (ap not (sym (c .before .before .before .before .before .before .before .before .before .before .lengths-fit .ensures)) ∙ (c .before .before .before .before .before .before .before .before .before .if1 .left)) ∙ none-met in
-    (sym e, if-done e _ _ (c .fresh-head .ensures), if-done e _ _ (c .before .before .before .before .before .before .before .clear .ensures), if-done e _ _ (c .before .before .before .clear2 .ensures))
+    (gives (sym e), if-done e _ _ (c .fresh-head .ensures), if-done e _ _ (c .before .before .before .before .before .before .before .clear .ensures), if-done e _ _ (c .before .before .before .clear2 .ensures))
 
 pub clear-spec : {M : Type 1} → statement M
 clear-spec =

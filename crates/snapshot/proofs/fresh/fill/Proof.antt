@@ -2,7 +2,7 @@
 -- Assumes nothing.
 use mathlib.Core.Path.{_∙_, ap₂}
 use Rattle.snapshot.specs.Fresh.{freshHead}
-use Rattle.snapshot.proofs.Filled.{filled}
+use Rattle.snapshot.proofs.Filled.{emptied, filled}
 use borrow.Author.Needs.{needs}
 use Rattle.snapshot.proofs.fresh.fill.Statement.{statement}
 use Rattle.snapshot.proofs.fresh.fill.Tie as tie
@@ -28,6 +28,18 @@ part-clear-end c = search needs
 clear-requires : tie.Need-clear-requires
 clear-requires c κs = search needs
 
+mul-clear-2 : tie.Need-mul-clear-2
+mul-clear-2 c = search needs
+
+sub-clear-2 : tie.Need-sub-clear-2
+sub-clear-2 c = search needs
+
+part-clear-start-2 : tie.Need-part-clear-start-2
+part-clear-start-2 c = search needs
+
+part-clear-end-2 : tie.Need-part-clear-end-2
+part-clear-end-2 c = search needs
+
 clear-requires-2 : tie.Need-clear-requires-2
 clear-requires-2 c κs = search needs
 
@@ -47,7 +59,7 @@ returns : tie.Need-returns
 returns c = (
   (c .fresh-head .ensures) ∙ ap₂ freshHead (c .before .before .before .before .before .before .before .before .before .before .before .before .before .before .count-of .ensures .0) (c .before .state-of .ensures),
   filled ((c .before .before .before .before .before .before .before .before .before .before .before .before .before .before .before .before .before .before .args .table .now)) ((c .before .before .before .before .before .before .before .before .before .before .before .before .before .before .before .before .before .before .args .image .now)) (c .before .before .before .before .before .before .before .before .before .before .before .before .before .before .count-of .result) (c .before .before .before .before .before .before .before .before .before .before .before .before .read-words .last .1 .0) (c .before .before .before .before .before .before .before .before .clear .last .0) (c .before .before .before .before .before .before .before .before .before .before .before .before .before .before .count-of .ensures .0) (c .before .before .before .before .before .before .before .before .before .before .before .before .read-words .ensures) (c .before .before .before .before .before .before .before .before .before .before .before .before .before .before .before .before .before .before .pre .1) (c .before .before .before .before .before .before .before .before .clear .ensures),
-  (c .before .before .before .before .clear2 .ensures),
+  emptied ((c .before .before .before .before .before .before .before .before .before .before .before .before .before .before .before .before .before .before .args .journal .now)) (c .before .before .before .before .clear2 .last .0) (c .before .before .before .before .clear2 .ensures),
 )
 
 pub fill-spec : {M : Type 1} → statement M
@@ -61,6 +73,10 @@ fill-spec =
     part-clear-start
     part-clear-end
     clear-requires
+    mul-clear-2
+    sub-clear-2
+    part-clear-start-2
+    part-clear-end-2
     clear-requires-2
     state-of-requires
     fresh-head-requires

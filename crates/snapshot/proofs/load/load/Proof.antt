@@ -2,7 +2,7 @@
 -- Assumes nothing.
 use mathlib.Core.Path.{_∙_, sym}
 use lib.ListN.{length}
-use Rattle.grounds.proofs.Firsts.{if-refused, if-done}
+use Rattle.grounds.proofs.Firsts.{gives, if-refused, if-done}
 use Rattle.snapshot.proofs.Accepted.{load-ok}
 use borrow.Author.Needs.{needs}
 use native.Mathlib.Omega.{arith}
@@ -21,7 +21,7 @@ enum-told-2 c = search needs
 returns : tie.Need-returns
 returns c =
     let e = sym (c .before .before .load-check .ensures) ∙ (c .enum-told2 .given .1) in
-    ((c .before .before .load-check .ensures), if-refused e _ _, if-refused e _ _, if-refused e _ _)
+    (gives (c .before .before .load-check .ensures), if-refused e _ _, if-refused e _ _, if-refused e _ _)
 
 fill-requires : tie.Need-fill-requires
 fill-requires c κs =
@@ -37,7 +37,7 @@ same-length-2 c = search needs
 returns-2 : tie.Need-returns-2
 returns-2 c =
     let e = sym (c .before .before .before .before .before .before .before .before .before .load-check .ensures) ∙ (c .before .before .before .before .before .before .before .enum-told .given .1) in
-    (sym e, if-done e _ _ (c .before .before .before .before .fill .ensures .0), if-done e _ _ (c .before .before .before .before .fill .ensures .1), if-done e _ _ (c .before .before .before .before .fill .ensures .2))
+    (gives (sym e), if-done e _ _ (c .before .before .before .before .fill .ensures .0), if-done e _ _ (c .before .before .before .before .fill .ensures .1), if-done e _ _ (c .before .before .before .before .fill .ensures .2))
 
 pub load-spec : {M : Type 1} → statement M
 load-spec =

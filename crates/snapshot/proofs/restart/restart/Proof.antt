@@ -3,7 +3,7 @@
 use mathlib.Core.Path.{_∙_, sym, ap}
 use lib.ListN.{length}
 use lib.Seq.{length-take-le}
-use Rattle.grounds.proofs.Firsts.{if-refused, if-done}
+use Rattle.grounds.proofs.Firsts.{gives, if-refused, if-done}
 use Rattle.image.specs.Image.{countIn, numberIn, wordsIn}
 use Rattle.layout.specs.View.{padded}
 use Rattle.snapshot.specs.Fresh.{freshHead}
@@ -30,7 +30,7 @@ same-length-2 c = search needs
 returns : tie.Need-returns
 returns c =
     let e = sym (c .before .before .write-check .ensures) ∙ (c .enum-told2 .given .1) in
-    ((c .before .before .write-check .ensures), if-refused e _ _, if-refused e _ _, if-refused e _ _, if-refused e _ _)
+    (gives (c .before .before .write-check .ensures), if-refused e _ _, if-refused e _ _, if-refused e _ _, if-refused e _ _)
 
 slice-reshare-prefix-write : tie.Need-slice-reshare-prefix-write
 slice-reshare-prefix-write c = write-ok ((c .before .before .before .before .before .before .before .before .args .table .now)) ((c .before .before .before .before .before .before .before .before .args .journal .now)) (c .before .before .before .before .before .before .before .before .args .head) (length ((c .before .before .before .before .before .before .before .before .args .bytes .now))) (sym (c .before .before .write-check .ensures) ∙ (c .enum-told .given .1)) .sound .used-in
@@ -66,7 +66,7 @@ returns-2 c =
     let part = image-part w ((c .before .before .before .before .before .before .before .before .before .before .before .before .before .before .before .before .before .before .before .before .before .args .bytes .now)) (c .before .before .before .before .before .before .before .before .before .before .write .last .1 .1 .0) (c .before .before .before .before .before .before .before .before .before .before .write .result) (c .before .before .before .before .before .before .before .before .before .before .write .ensures .0) (c .before .before .before .before .before .before .before .before .before .before .write .ensures .1) in
     let head = (c .before .before .before .before .fill .ensures .0) ∙ ap (λ b. freshHead (countIn b) (numberIn b)) part in
     let table = (c .before .before .before .before .fill .ensures .1) ∙ ap (λ b. padded (length ((c .before .before .before .before .before .before .before .before .before .before .before .before .before .before .before .before .before .before .before .before .before .args .table .now))) (wordsIn b)) part in
-    (sym e, if-done e _ _ head, if-done e _ _ table, if-done e _ _ (c .before .before .before .before .fill .ensures .2), if-done e _ _ (written-is w ((c .before .before .before .before .before .before .before .before .before .before .before .before .before .before .before .before .before .before .before .before .before .args .bytes .now)) (c .before .before .before .before .before .before .before .before .before .before .write .last .1 .1 .0) (c .before .before .before .before .before .before .before .before .before .before .write .result) (c .before .before .before .before .before .before .before .before .before .before .write .ensures .0) (c .before .before .before .before .before .before .before .before .before .before .write .ensures .1)))
+    (gives (sym e), if-done e _ _ head, if-done e _ _ table, if-done e _ _ (c .before .before .before .before .fill .ensures .2), if-done e _ _ (written-is w ((c .before .before .before .before .before .before .before .before .before .before .before .before .before .before .before .before .before .before .before .before .before .args .bytes .now)) (c .before .before .before .before .before .before .before .before .before .before .write .last .1 .1 .0) (c .before .before .before .before .before .before .before .before .before .before .write .result) (c .before .before .before .before .before .before .before .before .before .before .write .ensures .0) (c .before .before .before .before .before .before .before .before .before .before .write .ensures .1)))
 
 pub restart-spec : {M : Type 1} → statement M
 restart-spec =

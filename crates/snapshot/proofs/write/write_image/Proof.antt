@@ -3,7 +3,7 @@
 use mathlib.Core.Path.{_∙_, sym, ap}
 use lib.ListN.{length}
 use Rattle.grounds.specs.declared.Written.the-variants.{Count}
-use Rattle.grounds.proofs.Firsts.{if-refused, if-done}
+use Rattle.grounds.proofs.Firsts.{gives-count, if-refused, if-done}
 use Rattle.snapshot.proofs.Accepted.{write-ok, used-long, write-room, size-is, written-is}
 use borrow.Author.Needs.{needs}
 use Rattle.snapshot.proofs.write.write_image.Statement.{statement}
@@ -27,7 +27,7 @@ write-requires c κs = write-room (write-ok ((c .before .before .before .before 
 returns : tie.Need-returns
 returns c =
     let e = sym (c .before .before .before .write-check .ensures) ∙ (c .before .ground .given .1) in
-    (rw e, if-refused e _ _)
+    (gives-count (rw e), if-refused e _ _)
 
 same-length : tie.Need-same-length
 same-length c = search needs
@@ -38,7 +38,7 @@ returns-2 c =
     let w = write-ok ((c .before .before .before .before .before .before .before .before .before .before .before .args .table .now)) ((c .before .before .before .before .before .before .before .before .before .before .before .args .journal .now)) (c .before .before .before .before .before .before .before .before .before .before .before .args .head) (length ((c .before .before .before .before .before .before .before .before .before .before .before .args .out .now))) (sym (c .before .before .before .before .before .before .before .write-check .ensures) ∙ (c .before .before .before .before .before .enum-told .given .1)) in
     let n = size-is w ((c .before .before .before .before .before .before .before .before .before .before .before .args .out .now)) (c .before .before .write .last .1 .1 .0) (c .before .before .write .result) (c .before .before .write .ensures .0) (c .before .before .write .ensures .1) in
     let l = written-is w ((c .before .before .before .before .before .before .before .before .before .before .before .args .out .now)) (c .before .before .write .last .1 .1 .0) (c .before .before .write .result) (c .before .before .write .ensures .0) (c .before .before .write .ensures .1) in
-    (rw e (ap Count n), if-done e _ _ l)
+    (gives-count (rw e (ap Count n)), if-done e _ _ l)
 
 pub write-image-spec : {M : Type 1} → statement M
 write-image-spec =
