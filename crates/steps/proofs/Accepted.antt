@@ -1,0 +1,129 @@
+-- What an accepted commit or rollback knows of its memory, and what the acting half of each leaves there.
+-- Assumes nothing.
+use mathlib.Core.Path.{_≡_, refl, sym, ap, _∙_}
+use mathlib.Core.Bool.{Bool, true, false, _||_}
+use mathlib.Core.List.{List, _++_, append-assoc}
+use Prim.Native.Nat.{ℕ, _+_, _-_, _≤_, _<_}
+use native.Mathlib.Nat.{le-refl}
+use native.Mathlib.Omega.{arith}
+use borrow.Author.Tests.{ltb-false, eqb-false, not-false}
+use borrow.Rule.Slice.PartMut.{putMid}
+use lib.Dec.{ltb}
+use lib.ListN.{length, take, drop, replicate, length-append, length-drop, length-replicate}
+use lib.Seq.{drop-drop, length-take-le}
+use Rattle.changes.specs.Lists.{listB}
+use Rattle.changes.specs.Runs.{startOf}
+use Rattle.changes.proofs.Parts.{part, put-part}
+use Rattle.grounds.specs.declared.Outcome.the-variants.{Done}
+use Rattle.grounds.proofs.Firsts.{done-not}
+use Rattle.layout.specs.declared.head.Head.{Head}
+use Rattle.layout.specs.Sound.{heldOf, stepB}
+use Rattle.layout.proofs.HeadTests.{InRange, lengths-facts}
+use Rattle.layout.proofs.Holds.{all-of}
+use Rattle.layout.proofs.Sounds.{Sound, sound-facts}
+use Rattle.layout.proofs.StepTests.{steps-inside}
+use Rattle.steps.specs.Commit.{usedOf, commitCheck, withList}
+use Rattle.steps.specs.RollBack.{rollCheck, keptOf, cutAt}
+
+-- the held steps of a sound store, or the first of them, end within the journal
+pub inside : {table journal : List ℕ} {head : Head} → Sound table journal head → (n : ℕ) → n ≤ heldOf head → startOf (head .ends) n ≤ length journal
+inside {journal = journal} {head = head} s n h =
+    steps-inside journal (head .ends) n (all-of (stepB journal (head .ends)) n (λ k l. s .steps k (omega arith)))
+
+-- a commit
+pub record CommitOk (table journal : List ℕ) (head : Head) (list : List ℕ) : Type 0 where
+  pub range : InRange (length table) (length journal)
+  pub sound : Sound table journal head
+  pub is-list : listB list ≡ true
+  pub not-last : head .tip ≡ 4294967295 → ⊥
+  pub room : heldOf head < 64
+  pub fits : length list ≤ length journal - usedOf head
+
+pub commit-ok : (table journal : List ℕ) (head : Head) (list : List ℕ) → commitCheck table journal head list ≡ Done → CommitOk table journal head list
+commit-ok table journal head list e =
+    let a = done-not _ _ _ e in
+    let b = done-not _ _ _ (a .1) in
+    let c = done-not _ _ _ (b .1) in
+    let d = done-not _ _ _ (c .1) in
+    let f = done-not _ _ _ (d .1) in
+    let g = done-not _ _ _ (f .1) in
+    let s = sound-facts table journal head (not-false _ (b .0)) in
+    let full : heldOf head ≡ 64 → ⊥ = eqb-false (heldOf head) 64 (f .0) in
+    record {
+      range = lengths-facts (length table) (length journal) (not-false _ (a .0));
+      sound = s;
+      is-list = not-false _ (c .0);
+      not-last = eqb-false (head .tip) 4294967295 (d .0);
+      room = omega (arith, s .few);
+      fits = ltb-false (length journal - usedOf head) (length list) (g .0);
+    }
+
+module _ {table journal : List ℕ} {head : Head} {list : List ℕ} (ok : CommitOk table journal head list) (u : ℕ) (e : u ≡ usedOf head) where
+  pub used-inside : u ≤ length journal
+  used-inside = omega (arith, inside (ok .sound) (heldOf head) (le-refl (heldOf head)))
+
+  pub list-room : length list ≤ length (take (length journal - u) (drop u journal))
+  list-room = omega (arith, ok .fits, ap length (part journal u), length-drop u journal)
+
+  -- the end of the new step
+  pub end-small : u + length list ≤ 4096
+  end-small = omega (arith, ok .fits, ok .range .journal-most, used-inside)
+
+-- the list is copied to the part from the used words on
+pub with-list : (journal list last : List ℕ) (u : ℕ) → u ≤ length journal
+    → last ≡ list ++ drop (length list) (take (length journal - u) (drop u journal))
+    → putMid u (length journal - u) journal last ≡ withList journal u list
+with-list journal list last u h e =
+    put-part journal last u h
+    ∙ ap (λ (l : List ℕ). take u journal ++ l)
+    (e ∙ ap (λ (l : List ℕ). list ++ l) (ap (drop (length list)) (part journal u) ∙ drop-drop (length list) u journal))
+    ∙ sym (append-assoc (take u journal) list (drop (u + length list) journal))
+
+-- a rollback
+pub record RollOk (table journal : List ℕ) (head : Head) (state : ℕ) : Type 0 where
+  pub range : InRange (length table) (length journal)
+  pub sound : Sound table journal head
+  pub low : head .checkpoint ≤ state
+  pub high : state ≤ head .tip
+
+or-first : (a b : Bool) → (a || b) ≡ false → a ≡ false
+or-first false b e = refl
+or-first true b e = e
+
+or-second : (a b : Bool) → (a || b) ≡ false → b ≡ false
+or-second false b e = e
+or-second true b e = absurd (let z : _≡_ {A = ℕ} 0 1 = cc in omega arith)
+
+pub roll-ok : (table journal : List ℕ) (head : Head) (state : ℕ) → rollCheck table journal head state ≡ Done → RollOk table journal head state
+roll-ok table journal head state e =
+    let a = done-not _ _ _ e in
+    let b = done-not _ _ _ (a .1) in
+    let c = done-not _ _ _ (b .1) in
+    record {
+      range = lengths-facts (length table) (length journal) (not-false _ (a .0));
+      sound = sound-facts table journal head (not-false _ (b .0));
+      low = ltb-false state (head .checkpoint) (or-first _ _ (c .0));
+      high = ltb-false (head .tip) state (or-second (ltb state (head .checkpoint)) (ltb (head .tip) state) (c .0));
+    }
+
+module _ {table journal : List ℕ} {head : Head} {state : ℕ} (ok : RollOk table journal head state) where
+  pub kept-inside : (end : ℕ) → end ≡ startOf (head .ends) (keptOf head state) → end ≤ length journal
+  kept-inside end e = omega (arith, inside (ok .sound) (keptOf head state) (omega (arith, ok .high)))
+
+-- the test of a state
+pub below-low : (state checkpoint tip : ℕ) → ltb state checkpoint ≡ true → (ltb state checkpoint || ltb tip state) ≡ true
+below-low state checkpoint tip e = rw e
+
+pub not-below : (state checkpoint tip : ℕ) → ltb state checkpoint ≡ false → (ltb state checkpoint || ltb tip state) ≡ ltb tip state
+not-below state checkpoint tip e = rw e
+
+-- the part from the end of the kept steps on is cleared
+pub cut-at : (journal last : List ℕ) (end : ℕ) → end ≤ length journal → last ≡ replicate (length (take (length journal - end) (drop end journal))) 0
+    → putMid end (length journal - end) journal last ≡ cutAt journal end
+cut-at journal last end h e =
+    put-part journal last end h
+    ∙ ap (λ (l : List ℕ). take end journal ++ l) (e ∙ ap (λ (n : ℕ). replicate n 0) (ap length (part journal end) ∙ length-drop end journal))
+
+-- marks cut back to their first part, with zeros behind, are as many
+pub cut-length : (ends : List ℕ) (from : ℕ) → length ends ≡ 64 → from ≤ 64 → length (take from ends ++ replicate (64 - from) 0) ≡ length ends
+cut-length ends from e h = simp (length-append, length-replicate) (omega (arith, length-take-le from ends (omega arith)))

@@ -1,0 +1,116 @@
+-- Commit and rollback on views: what an accepted call leaves is the encoding of the view that the call makes of the view before it.
+-- Assumes nothing.
+use mathlib.Core.Path.{_≡_, refl, sym, ap, subst, _∙_}
+use mathlib.Core.List.{List}
+use Prim.Native.Nat.{ℕ, _+_, _≤_, _<_}
+use native.Mathlib.Omega.{arith}
+use lib.ListN.{length}
+use Rattle.changes.specs.Runs.{startOf}
+use Rattle.grounds.specs.declared.Outcome.the-variants.{Done}
+use Rattle.grounds.proofs.Firsts.{new-is}
+use Rattle.layout.specs.declared.head.Head.{Head}
+use Rattle.layout.specs.Sound.{heldOf}
+use Rattle.layout.specs.View.{Store, heldSteps, tipOf, flat, encode, decode, Good, Shaped}
+use Rattle.layout.proofs.Sounds.{Sound}
+use Rattle.layout.proofs.Views.{restored, decoded-good, encoded-sound, decoded}
+use Rattle.steps.specs.Commit.{usedOf, commitCheck, withList, withStep, commitJournal, commitHead}
+use Rattle.steps.specs.RollBack.{rollCheck, keptOf, cutAt, cutTo, rollJournal, rollHead}
+use Rattle.steps.specs.StepViews.{commitView, rollView}
+use Rattle.steps.proofs.Accepted.{CommitOk, commit-ok, RollOk, roll-ok}
+use Rattle.steps.proofs.CommitViews.{held-is, used-is, committed, commit-encoded, commit-good}
+use Rattle.steps.proofs.RollViews.{rolledBack, roll-encoded, roll-good}
+
+-- what lies in memory after each accepted call
+module _ (table journal : List ℕ) (head : Head) (p : Shaped head) where
+  abbrev pub here : Store
+  here = record { table = table; journal = journal; head = head }
+
+  same : Sound table journal head → encode (decode here) ≡ here
+  same = restored table journal head p
+
+  good : Sound table journal head → Good (decode here)
+  good = decoded-good table journal head p
+
+  module _ (list : List ℕ) (e : commitCheck table journal head list ≡ Done) where
+    commit-met : CommitOk table journal head list
+    commit-met = commit-ok table journal head list e
+
+    held-same : length (heldSteps (decode here)) ≡ heldOf head
+    held-same = sym (held-is (decode here) (good (commit-met .sound))) ∙ ap (λ (s : Store). heldOf (s .head)) (same (commit-met .sound))
+
+    used-same : length (flat (heldSteps (decode here))) ≡ usedOf head
+    used-same = sym (used-is (decode here) (good (commit-met .sound))) ∙ ap (λ (s : Store). usedOf (s .head)) (same (commit-met .sound))
+
+    room : length (heldSteps (decode here)) < 64
+    room = omega (arith, held-same, commit-met .room)
+
+    limit : decode here .limits .journal ≡ length journal
+    unfolding decode
+    limit = refl
+
+    abbrev pub afterCommit : Store
+    afterCommit = record { table = table; journal = commitJournal table journal head list; head = commitHead table journal head list }
+
+    -- "Commit appends a list as state tip + 1."
+    pub commit-leaves : afterCommit ≡ encode (commitView (decode here) list)
+    commit-leaves =
+        (λ i. record {
+          table = table;
+          journal = new-is e (withList journal (usedOf head) list) journal i;
+          head = new-is e (withStep head (heldOf head) (usedOf head + length list)) head i;
+        })
+        ∙ ap (λ (s : Store). committed s list) (sym (same (commit-met .sound)))
+        ∙ commit-encoded (decode here) (good (commit-met .sound)) list room
+
+    pub commit-leaves-good : Good (commitView (decode here) list)
+    commit-leaves-good = commit-good (decode here) (good (commit-met .sound)) list room (commit-met .is-list) (omega (arith, commit-met .fits, used-same, limit))
+
+    pub commit-decoded : decode afterCommit ≡ commitView (decode here) list
+    commit-decoded = ap decode commit-leaves ∙ decoded (commitView (decode here) list) commit-leaves-good
+
+    -- a sound store stays sound
+    pub commit-sound : Sound table (commitJournal table journal head list) (commitHead table journal head list)
+    commit-sound =
+        subst (λ (s : Store). Sound (s .table) (s .journal) (s .head)) (sym commit-leaves)
+        (encoded-sound (commitView (decode here) list) commit-leaves-good)
+
+  module _ (state : ℕ) (e : rollCheck table journal head state ≡ Done) where
+    roll-met : RollOk table journal head state
+    roll-met = roll-ok table journal head state e
+
+    low : decode here .checkpoint ≤ state
+    unfolding decode
+    low = roll-met .low
+
+    tip-same : tipOf (decode here) ≡ head .tip
+    unfolding encode
+    tip-same = ap (λ (s : Store). s .head .tip) (same (roll-met .sound))
+
+    high : state ≤ tipOf (decode here)
+    high = omega (arith, tip-same, roll-met .high)
+
+    abbrev pub afterRoll : Store
+    afterRoll = record { table = table; journal = rollJournal table journal head state; head = rollHead table journal head state }
+
+    -- "Rollback to s makes s the tip and zeroes the words above."
+    pub roll-leaves : afterRoll ≡ encode (rollView (decode here) state)
+    roll-leaves =
+        (λ i. record {
+          table = table;
+          journal = new-is e (cutAt journal (startOf (head .ends) (keptOf head state))) journal i;
+          head = new-is e (cutTo head (keptOf head state) state) head i;
+        })
+        ∙ ap (λ (s : Store). rolledBack s state) (sym (same (roll-met .sound)))
+        ∙ roll-encoded (decode here) (good (roll-met .sound)) state low high
+
+    pub roll-leaves-good : Good (rollView (decode here) state)
+    roll-leaves-good = roll-good (decode here) (good (roll-met .sound)) state low high
+
+    pub roll-decoded : decode afterRoll ≡ rollView (decode here) state
+    roll-decoded = ap decode roll-leaves ∙ decoded (rollView (decode here) state) roll-leaves-good
+
+    -- a sound store stays sound
+    pub roll-sound : Sound table (rollJournal table journal head state) (rollHead table journal head state)
+    roll-sound =
+        subst (λ (s : Store). Sound (s .table) (s .journal) (s .head)) (sym roll-leaves)
+        (encoded-sound (rollView (decode here) state) roll-leaves-good)

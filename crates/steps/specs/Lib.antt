@@ -1,0 +1,3 @@
+pub mod Commit
+pub mod RollBack
+pub mod StepViews
