@@ -8,8 +8,9 @@ use native.Mathlib.Omega.{arith}
 use Rattle.grounds.specs.declared.Refusal.{Refusal}
 use Rattle.grounds.specs.declared.Outcome.{Outcome}
 use Rattle.grounds.specs.declared.Outcome.the-variants.{Done, Refused}
+use Rattle.grounds.specs.declared.Quote.{Quote}
 use Rattle.grounds.specs.declared.Written.{Written}
-use Rattle.grounds.specs.Numbers.{outcomeAs, writtenAs, Gives, GivesCount}
+use Rattle.grounds.specs.Numbers.{outcomeAs, writtenAs, quoteAs, Gives, GivesCount, GivesQuote}
 use Rattle.grounds.specs.First.{Ground, met, first, ifDone}
 
 pub none-met : first [] ≡ Done
@@ -50,3 +51,6 @@ gives e = (e, ap outcomeAs e)
 
 pub gives-count : {a b : Written} → a ≡ b → GivesCount a b
 gives-count e = (e, ap writtenAs e)
+
+pub gives-quote : {a b : Quote} → a ≡ b → GivesQuote a b
+gives-quote e = (e, ap quoteAs e)

@@ -48,6 +48,13 @@ pub enum Outcome {
     Refused(Refusal),
 }
 
+// The answer of a lookup: the price, that there is none, or why the call was turned away. Price 0 is a price.
+pub enum Quote {
+    Price(u32),
+    NoPrice,
+    Refused(Refusal),
+}
+
 // The answer of a call that writes words or bytes: how many, or why it was turned away.
 pub enum Written {
     Count(usize),

@@ -1,3 +1,4 @@
 pub mod Tests
+pub mod Trim
 pub mod View
 pub mod Sound

@@ -2,3 +2,4 @@
 // "What the unit holds").
 pub mod head;
 pub mod sound;
+pub mod trim;

@@ -1,0 +1,8 @@
+pub mod Accepted
+mod Closing
+pub mod ClosingViews
+mod NoPuts
+pub mod OnViews
+mod Quoting
+mod Seeking
+mod SlotSets
