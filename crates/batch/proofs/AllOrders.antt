@@ -6,7 +6,7 @@ use mathlib.Core.List.{List, [], _∷_}
 use Prim.Native.Nat.{ℕ, zero, suc, _+_, _≤_, _<_}
 use native.Mathlib.Omega.{arith}
 use lib.ListN.{length, getD, drop, drop-of-length-le}
-use Rattle.changes.proofs.Parts.{next}
+use Rattle.words.proofs.Parts.{next}
 use Rattle.batch.specs.Tests.{allB}
 
 module _ (test : ℕ → Bool) where

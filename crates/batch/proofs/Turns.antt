@@ -15,7 +15,7 @@ use Rattle.changes.specs.Lists.{From}
 use Rattle.changes.specs.ReadSets.{over}
 use Rattle.changes.proofs.Find.{found-at}
 use Rattle.changes.proofs.ReadWords.{over-at}
-use Rattle.changes.proofs.Parts as parts
+use Rattle.words.proofs.Parts as parts
 use Rattle.changes.proofs.Laws.{over-offers, over-twice, over-zero}
 use Rattle.changes.proofs.Reading.{offersOf, from-by-offers}
 use Rattle.changes.proofs.Single.{from-one}

@@ -1,8 +1,8 @@
 // What turns a batch away before any order runs (document 01, grounds 6 to 8).
-use changes::lists::is_list;
 use changes::search::Found;
-use changes::search::find;
 use grounds::Refusal;
+use lists::rules::is_list;
+use lists::search::find;
 use orders::Order;
 use orders::is_allowed;
 ghost use mathlib.Core.Path.{_≡_};

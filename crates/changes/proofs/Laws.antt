@@ -9,7 +9,6 @@ use lib.ListN.{length}
 use Rattle.entry.specs.Word.{offerOf, noneOf, Put, Valid}
 use Rattle.changes.specs.declared.search.Found.the-variants.{Word, Nothing}
 use Rattle.changes.specs.Calculus.{find, orElse, compose, apply, composeAll, applyAll}
-use Rattle.changes.specs.InPlace.{kept, added}
 use Rattle.changes.specs.Lists.{risingB, From, All, Changes, Map}
 use Rattle.changes.specs.ReadSets.{readOf, over}
 use Rattle.changes.specs.Runs.{runOf}
@@ -20,7 +19,6 @@ use Rattle.changes.proofs.Merging
 use Rattle.changes.proofs.Reading
 use Rattle.changes.proofs.Rising
 use Rattle.changes.proofs.Running
-use Rattle.changes.proofs.Weaving
 
 -- "Applying a list puts or removes its offers and touches no other;"
 module _ (k : ℕ) (m d : List ℕ) (hm : Map m) (hd : From 0 d) where
@@ -115,10 +113,6 @@ run-apply = Applying.apply-all
 -- The steps of a slice, split anywhere.
 pub steps-split : (words ends : List ℕ) (n m i : ℕ) → runOf words ends i (n + m) ≡ runOf words ends i n ++ runOf words ends (i + n) m
 steps-split = Running.run-split
-
--- The size of a map after changes is known from what stays and what is added.
-pub apply-size : (m d : List ℕ) → Map m → From 0 d → length (apply m d) ≡ length (kept m d) + length (added m d)
-apply-size = Weaving.apply-size
 
 -- The test of a list's words is the fact that they are changes.
 pub test-changes : (l : List ℕ) → risingB 0 l ≡ true → Changes l

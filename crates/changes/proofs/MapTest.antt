@@ -11,7 +11,7 @@ use lib.ListN.{length, getD, drop, drop-of-length-le}
 use Rattle.entry.specs.Word.{kindOf, offerOf, isPut, Put}
 use Rattle.changes.specs.Lists.{mapB, From, All, Map}
 use Rattle.changes.proofs.ListTest.{and-both}
-use Rattle.changes.proofs.Parts.{next}
+use Rattle.words.proofs.Parts.{next}
 
 pub map-none : (n : ℕ) → mapB n [] ≡ true
 unfolding mapB

@@ -15,7 +15,7 @@ use Rattle.changes.specs.Lists.{From, All, Changes, Map}
 use Rattle.changes.specs.ReadSets.{foundOr, readOf, over}
 use Rattle.changes.proofs.Applying.{find-compose, apply-puts, apply-removes, apply-leaves}
 use Rattle.changes.proofs.Find.{find-empty, found-offer, found-all}
-use Rattle.changes.proofs.Parts.{next}
+use Rattle.words.proofs.Parts.{next}
 
 -- the words of a list by their offers alone
 abbrev pub offersOf : List ℕ → List ℕ

@@ -2,4 +2,3 @@ pub mod Lists
 pub mod Calculus
 pub mod ReadSets
 pub mod Runs
-pub mod InPlace

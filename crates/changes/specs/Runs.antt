@@ -1,10 +1,8 @@
 -- Steps that lie one after another in a slice of words, each ending where its mark says.
 -- Assumes nothing.
-use mathlib.Core.Path.{_≡_}
 use mathlib.Core.List.{List, [], _∷_}
 use Prim.Native.Nat.{ℕ, zero, suc, _+_, _-_, _≤_}
 use lib.ListN.{length, getD, take, drop}
-use Rattle.changes.specs.Calculus.{composeAll}
 
 -- where step i starts: at the end of the one before it, the first at 0
 abbrev pub startOf : List ℕ → ℕ → ℕ
@@ -20,26 +18,11 @@ runOf words ends i zero = []
 runOf words ends i (suc n) = stepOf words ends i ∷ runOf words ends (i + 1) n
 
 -- the words of the steps from i up to j, exclusive
-abbrev pub wordsOf : List ℕ → ℕ → ℕ → ℕ
-wordsOf ends i j = startOf ends j - startOf ends i
+abbrev pub runWords : List ℕ → ℕ → ℕ → ℕ
+runWords ends i j = startOf ends j - startOf ends i
 
 -- the marks of the steps below n do not fall and lie within the words
 pub record Marked (words ends : List ℕ) (n : ℕ) : Type 0 where
   pub within : n ≤ length ends
   pub rises : (i j : ℕ) → i ≤ j → j ≤ n → startOf ends i ≤ startOf ends j
   pub inside : startOf ends n ≤ length words
-
--- the steps from i up to j, exclusive, lie within their words, and each of two buffers has room for their words
-pub record Room (words ends : List ℕ) (i j out spare : ℕ) : Type 0 where
-  pub marked : Marked words ends j
-  pub order : i ≤ j
-  pub out-room : wordsOf ends i j ≤ out
-  pub spare-room : wordsOf ends i j ≤ spare
-
--- the first n words of a buffer are the steps from i up to j, exclusive, composed; in it and in a second buffer
--- the words past those of the steps are as they were
-pub record Composed (words ends : List ℕ) (i j : ℕ) (out₀ spare₀ out spare : List ℕ) (n : ℕ) : Type 0 where
-  pub size : n ≡ length (composeAll (runOf words ends i (j - i)))
-  pub front : take n out ≡ composeAll (runOf words ends i (j - i))
-  pub out-behind : drop (wordsOf ends i j) out ≡ drop (wordsOf ends i j) out₀
-  pub spare-behind : drop (wordsOf ends i j) spare ≡ drop (wordsOf ends i j) spare₀

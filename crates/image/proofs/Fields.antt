@@ -8,7 +8,7 @@ use native.Mathlib.Omega.{arith}
 use lib.ListN.{length, take, drop, getD, set, length-drop}
 use lib.Pow.{shr-shr}
 use lib.Seq.{drop-drop, take-add, length-take-le, sets-eq}
-use Rattle.changes.proofs.Parts.{next}
+use Rattle.words.proofs.Parts.{next}
 use Rattle.image.specs.Bytes.{bytesOf, valueOf}
 use Rattle.image.proofs.Bytes.{value-append}
 

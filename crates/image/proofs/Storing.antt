@@ -5,12 +5,12 @@ use mathlib.Core.List.{List, [], _++_, append-assoc, append-nil}
 use Prim.Native.Nat.{ℕ, _+_, _/_, _%_, _^_, _≤_}
 use native.Mathlib.Omega.{arith}
 use lib.ListN.{length, take, drop}
-use Rattle.changes.proofs.Writing.{Writing, start}
+use Rattle.words.proofs.Writing.{Writing, start}
 use Rattle.image.specs.Bytes.{bytesOf}
 use Rattle.image.specs.Image.{wordBytes, imageOf}
 use Rattle.image.proofs.Bytes.{length-bytes}
 use Rattle.image.proofs.Fields.{bytes-8}
-use Rattle.changes.proofs.Pieces.{start-at, wrote-piece, completed}
+use Rattle.words.proofs.Pieces.{start-at, wrote-piece, completed}
 use Rattle.image.proofs.Words.{image-parts}
 
 -- eight bytes, as four and four

@@ -6,7 +6,7 @@ use Prim.Native.Nat.{ℕ, zero, suc, _+_, _-_, _*_, _≤_, _<_}
 use native.Mathlib.Omega.{arith}
 use lib.ListN.{length, take, drop, getD, length-append, drop-of-length-le}
 use lib.Seq.{drop-drop}
-use Rattle.changes.proofs.Parts.{next}
+use Rattle.words.proofs.Parts.{next}
 use Rattle.image.specs.Bytes.{bytesOf, valueOf}
 use Rattle.image.specs.Image.{wordBytes, imageOf, wordsOf, countIn, wordsIn}
 use Rattle.image.proofs.Bytes.{length-bytes}

@@ -9,8 +9,8 @@ use borrow.Rule.Slice.PartMut.{putMid}
 use lib.ListN.{length, take, drop, getD, set, replicate, length-append, length-drop, length-replicate, length-map, take-append-drop}
 use lib.Seq.{length-take-le, take-at}
 use Rattle.changes.specs.Runs.{startOf, Marked}
-use Rattle.changes.proofs.Parts.{next, part, put-part}
-use Rattle.changes.proofs.Writing.{Writing, start, unwritten, stored, whole}
+use Rattle.words.proofs.Parts.{next, part, put-part}
+use Rattle.words.proofs.Writing.{Writing, start, unwritten, stored, whole}
 use Rattle.layout.specs.declared.head.Head.{Head}
 use Rattle.layout.specs.Sound.{heldOf}
 use Rattle.layout.specs.Trim.{floorOf, goneSteps, goneWords, movedEnds, trimmedHead, trimmedJournal, Trimmable}

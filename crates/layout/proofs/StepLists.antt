@@ -9,8 +9,8 @@ use borrow.Author.Tests.{le-leb}
 use lib.ListN.{length, getD, take, drop, length-append, length-drop}
 use lib.Seq.{take-at, drop-at, take-add, drop-drop}
 use Rattle.changes.specs.Lists.{listB, All}
-use Rattle.changes.specs.Runs.{startOf, stepOf, runOf, wordsOf, Marked}
-use Rattle.changes.proofs.Parts.{next}
+use Rattle.changes.specs.Runs.{startOf, stepOf, runOf, runWords, Marked}
+use Rattle.words.proofs.Parts.{next}
 use Rattle.changes.proofs.Running.{step-length}
 use Rattle.layout.specs.Sound.{stepB}
 use Rattle.layout.specs.View.{flat, marksFrom}
@@ -28,25 +28,25 @@ module _ (words ends : List ℕ) (n : ℕ) (m : Marked words ends n) where
       ap₂ _∷_ (end ∙ start-next ends i) (ap (λ (s : ℕ). marksFrom s (runOf words ends (i + 1) k)) end ∙ run-marks k (i + 1) (omega arith))
       ∙ ap (take (suc k)) (sym (next ends i (omega (arith, m .within))))
 
-  pub run-words : (k i : ℕ) → i + k ≤ n → flat (runOf words ends i k) ≡ take (wordsOf ends i (i + k)) (drop (startOf ends i) words)
+  pub run-words : (k i : ℕ) → i + k ≤ n → flat (runOf words ends i k) ≡ take (runWords ends i (i + k)) (drop (startOf ends i) words)
   unfolding flat runOf
   run-words zero i h =
       let same : i + 0 ≡ i = omega arith in
-      let none : wordsOf ends i (i + 0) ≡ 0 = ap (λ (j : ℕ). startOf ends j - startOf ends i) same ∙ omega arith in
+      let none : runWords ends i (i + 0) ≡ 0 = ap (λ (j : ℕ). startOf ends j - startOf ends i) same ∙ omega arith in
       rw none
   run-words (suc k) i h =
       let rise : startOf ends i ≤ startOf ends (i + 1) = m .rises i (i + 1) (omega arith) (omega arith) in
       let on : startOf ends (i + 1) ≤ startOf ends (i + 1 + k) = m .rises (i + 1) (i + 1 + k) (omega arith) (omega arith) in
-      let start : startOf ends i + wordsOf ends i (i + 1) ≡ startOf ends (i + 1) = omega arith in
+      let start : startOf ends i + runWords ends i (i + 1) ≡ startOf ends (i + 1) = omega arith in
       let next-end : i + 1 + k ≡ i + suc k = omega arith in
-      let whole : wordsOf ends i (i + 1) + wordsOf ends (i + 1) (i + 1 + k) ≡ wordsOf ends i (i + 1 + k) = omega arith in
-      let sum : wordsOf ends i (i + 1) + wordsOf ends (i + 1) (i + 1 + k) ≡ wordsOf ends i (i + suc k) =
+      let whole : runWords ends i (i + 1) + runWords ends (i + 1) (i + 1 + k) ≡ runWords ends i (i + 1 + k) = omega arith in
+      let sum : runWords ends i (i + 1) + runWords ends (i + 1) (i + 1 + k) ≡ runWords ends i (i + suc k) =
       whole ∙ ap (λ (j : ℕ). startOf ends j - startOf ends i) next-end in
       ap (λ (l : List ℕ). stepOf words ends i ++ l)
       (run-words k (i + 1) (omega arith)
-      ∙ ap (λ (s : ℕ). take (wordsOf ends (i + 1) (i + 1 + k)) (drop s words)) (sym start)
-      ∙ ap (take (wordsOf ends (i + 1) (i + 1 + k))) (sym (drop-drop (wordsOf ends i (i + 1)) (startOf ends i) words)))
-      ∙ sym (take-add (wordsOf ends i (i + 1)) (wordsOf ends (i + 1) (i + 1 + k)) (drop (startOf ends i) words))
+      ∙ ap (λ (s : ℕ). take (runWords ends (i + 1) (i + 1 + k)) (drop s words)) (sym start)
+      ∙ ap (take (runWords ends (i + 1) (i + 1 + k))) (sym (drop-drop (runWords ends i (i + 1)) (startOf ends i) words)))
+      ∙ sym (take-add (runWords ends i (i + 1)) (runWords ends (i + 1) (i + 1 + k)) (drop (startOf ends i) words))
       ∙ ap (λ (s : ℕ). take s (drop (startOf ends i) words)) sum
 
 pub marks-length : (a : ℕ) (ss : List (List ℕ)) → length (marksFrom a ss) ≡ length ss

@@ -8,7 +8,7 @@ use native.Mathlib.Omega.{arith}
 use lib.ListN.{length, take, drop, replicate, length-append, length-drop, length-replicate, length-map, take-append-drop}
 use lib.Seq.{length-take-le, take-append-seam, drop-append-seam}
 use Rattle.changes.specs.Lists.{listB, All, Map}
-use Rattle.changes.specs.Runs.{startOf, runOf, wordsOf, Marked}
+use Rattle.changes.specs.Runs.{startOf, runOf, runWords, Marked}
 use Rattle.layout.specs.declared.head.Head.{Head}
 use Rattle.layout.specs.Sound.{heldOf, stepB, slotB}
 use Rattle.layout.specs.Tests.{zerosB}
@@ -75,7 +75,7 @@ module _ (table journal : List ℕ) (head : Head) (p : Shaped head) (s : Sound t
   words-are : flat (take before all ++ drop before all) ≡ take (startOf (head .ends) (heldOf head)) journal
   words-are =
       let same : 0 + heldOf head ≡ heldOf head = omega arith in
-      let count : wordsOf (head .ends) 0 (0 + heldOf head) ≡ startOf (head .ends) (heldOf head) = ap (λ (n : ℕ). startOf (head .ends) n - 0) same ∙ omega arith in
+      let count : runWords (head .ends) 0 (0 + heldOf head) ≡ startOf (head .ends) (heldOf head) = ap (λ (n : ℕ). startOf (head .ends) n - 0) same ∙ omega arith in
       ap flat whole
       ∙ run-words journal (head .ends) (heldOf head) marked (heldOf head) 0 (omega arith)
       ∙ ap (λ (n : ℕ). take n journal) count

@@ -2,8 +2,8 @@
 use crate::head::Head;
 use crate::sound::end_of;
 use crate::sound::least_of;
-use changes::words::clear;
-use changes::words::shift;
+use words::clear;
+use words::shift;
 ghost use mathlib.Core.Path.{_≡_};
 ghost use Prim.Native.Nat.{ℕ, _≤_, _<_};
 ghost use lib.ListN.{getD};

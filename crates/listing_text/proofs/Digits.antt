@@ -8,8 +8,8 @@ use native.Mathlib.Decide.{decLt}
 use native.Mathlib.Omega.{arith}
 use borrow.Author.Tests.{lt-ltb, le-ltb}
 use lib.ListN.{length, set, length-append}
-use Rattle.changes.proofs.Writing.{stored}
-use Rattle.changes.proofs.Pieces.{start-at, wrote-piece, completed}
+use Rattle.words.proofs.Writing.{stored}
+use Rattle.words.proofs.Pieces.{start-at, wrote-piece, completed}
 use Rattle.listing_text.specs.Decimal.{digit, decimalWithin, decimalOf}
 use Rattle.listing_text.specs.Stored.{Stored}
 

@@ -5,10 +5,10 @@ use mathlib.Core.List.{List, [], _++_, append-nil}
 use Prim.Native.Nat.{ℕ, _+_, _^_, _≤_, _<_}
 use native.Mathlib.Omega.{arith}
 use lib.ListN.{length, drop, getD, length-append, drop-of-length-le}
-use Rattle.changes.proofs.Parts.{next}
-use Rattle.changes.proofs.Writing.{Writing, start}
+use Rattle.words.proofs.Parts.{next}
+use Rattle.words.proofs.Writing.{Writing, start}
 use Rattle.entry.specs.Word.{offerOf, priceOf}
-use Rattle.changes.proofs.Pieces.{start-at, wrote-piece, completed}
+use Rattle.words.proofs.Pieces.{start-at, wrote-piece, completed}
 use Rattle.listing_text.specs.Codes.{codes}
 use Rattle.listing_text.specs.Decimal.{decimalOf}
 use Rattle.listing_text.specs.Listing.{headerOf, lineOf, linesOf, textOf, refusalText}

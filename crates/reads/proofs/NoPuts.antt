@@ -12,7 +12,7 @@ use Rattle.entry.specs.Word.{kindOf, offerOf, noneOf, isPut, Put, Valid}
 use Rattle.entry.proofs.Laws.{none-word}
 use Rattle.changes.specs.Lists.{All}
 use Rattle.changes.proofs.ListTest.{and-both}
-use Rattle.changes.proofs.Parts.{next}
+use Rattle.words.proofs.Parts.{next}
 use Rattle.reads.specs.Issue.{noPutB}
 
 no-puts-empty : noPutB [] ≡ true

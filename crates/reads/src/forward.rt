@@ -1,7 +1,6 @@
 // Forward: a read set is brought to a named state, its slot closes, and the steps that only it needed go.
 use crate::last::last_change;
 use crate::slots::close_slot;
-use changes::lists::is_list;
 use changes::search::Found;
 use entry::Entry;
 use grounds::Outcome;
@@ -12,6 +11,7 @@ use layout::head::Stored;
 use layout::sound::is_sound;
 use layout::sound::lengths_fit;
 use layout::trim::trim;
+use lists::rules::is_list;
 ghost use mathlib.Core.Path.{_≡_};
 ghost use Prim.Native.Nat.{_-_};
 ghost use Rattle.entry.specs.Word.{offerOf};

@@ -1,7 +1,5 @@
 // Issue: a list of kind 0 words is filled from the table, and a slot opens.
 use crate::slots::open_slot;
-use changes::lists::is_list;
-use changes::reads::apply_to_reads;
 use entry::Entry;
 use grounds::Outcome;
 use grounds::Refusal;
@@ -10,6 +8,8 @@ use layout::head::SLOTS;
 use layout::head::Stored;
 use layout::sound::is_sound;
 use layout::sound::lengths_fit;
+use lists::reads::apply_to_reads;
+use lists::rules::is_list;
 ghost use mathlib.Core.Path.{_≡_};
 ghost use Rattle.grounds.specs.Numbers.{Gives};
 ghost use Rattle.reads.specs.Issue.{noPutB, issueCheck, issueHead, issueList};

@@ -1,7 +1,7 @@
 // The last change of an offer among some steps of the journal.
 use changes::search::Found;
-use changes::search::find;
 use layout::sound::end_of;
+use lists::search::find;
 ghost use mathlib.Core.Path.{_≡_};
 ghost use Prim.Native.Nat.{_+_, _-_, _≤_};
 ghost use Rattle.changes.specs.Calculus.{find as found, composeAll};

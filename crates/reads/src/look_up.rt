@@ -1,7 +1,6 @@
 // Lookup: an offer's price, or none, at a named state.
 use crate::last::last_change;
 use changes::search::Found;
-use changes::search::find;
 use entry::Entry;
 use grounds::Outcome;
 use grounds::Quote;
@@ -9,6 +8,7 @@ use grounds::Refusal;
 use layout::head::Head;
 use layout::sound::is_sound;
 use layout::sound::lengths_fit;
+use lists::search::find;
 ghost use mathlib.Core.Path.{_≡_};
 ghost use Prim.Native.Nat.{_-_, _≤_};
 ghost use Rattle.changes.specs.Calculus.{find as found, ifPut, apply, composeAll};

@@ -7,7 +7,7 @@ use native.Mathlib.Omega.{arith}
 use borrow.Rule.Slice.PartMut.{putMid}
 use lib.ListN.{length, take, drop, replicate, length-append, length-drop}
 use lib.Seq.{take-at}
-use Rattle.changes.proofs.Parts.{part, put-part}
+use Rattle.words.proofs.Parts.{part, put-part}
 use Rattle.image.specs.Image.{countIn, wordsIn}
 use Rattle.image.proofs.Words.{words-in-length}
 use Rattle.layout.specs.View.{padded}

@@ -1,11 +1,11 @@
 // Clear: the empty map as state 0.
 use crate::fresh::fresh_head;
-use changes::words::clear as clear_words;
 use grounds::Outcome;
 use grounds::Refusal;
 use layout::head::Head;
 use layout::head::Stored;
 use layout::sound::lengths_fit;
+use words::clear as clear_words;
 ghost use mathlib.Core.Path.{_≡_};
 ghost use lib.ListN.{length};
 ghost use Rattle.grounds.specs.Numbers.{Gives};

@@ -1,9 +1,9 @@
 // A store with one state and no step.
-use changes::words::clear;
 use image::reading::count_of;
 use image::reading::read_words;
 use image::reading::state_of;
 use layout::head::Head;
+use words::clear;
 ghost use mathlib.Core.Path.{_≡_};
 ghost use Prim.Native.Nat.{_+_, _*_, _≤_};
 ghost use lib.ListN.{length, replicate};

@@ -13,7 +13,7 @@ use lib.ListN.{length, take, drop, replicate, length-append, length-drop, length
 use lib.Seq.{drop-drop, length-take-le}
 use Rattle.changes.specs.Lists.{listB}
 use Rattle.changes.specs.Runs.{startOf}
-use Rattle.changes.proofs.Parts.{part, put-part}
+use Rattle.words.proofs.Parts.{part, put-part}
 use Rattle.grounds.specs.declared.Outcome.the-variants.{Done}
 use Rattle.grounds.proofs.Firsts.{done-not}
 use Rattle.layout.specs.declared.head.Head.{Head}

@@ -8,7 +8,7 @@ use lib.ListN.{length, take, drop, set, replicate, length-append}
 use lib.Seq.{take-at, set-at, append-snoc, take-append-seam, drop-append-add}
 use Rattle.changes.specs.Lists.{All}
 use Rattle.changes.specs.Runs.{startOf}
-use Rattle.changes.proofs.Parts.{zeros-next}
+use Rattle.words.proofs.Parts.{zeros-next}
 use Rattle.layout.specs.View.{padded, flat, marksFrom}
 use Rattle.layout.proofs.StepLists.{marks-end}
 

@@ -1,6 +1,4 @@
 // Commit: a list is appended as the state after the tip.
-use changes::lists::is_list;
-use changes::words::copy;
 use grounds::Outcome;
 use grounds::Refusal;
 use layout::head::Head;
@@ -9,6 +7,8 @@ use layout::head::Stored;
 use layout::sound::end_of;
 use layout::sound::is_sound;
 use layout::sound::lengths_fit;
+use lists::rules::is_list;
+use words::copy;
 ghost use mathlib.Core.Path.{_≡_};
 ghost use Prim.Native.Nat.{_<_};
 ghost use Rattle.grounds.specs.Numbers.{Gives};

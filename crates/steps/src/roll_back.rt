@@ -1,5 +1,4 @@
 // Roll back: an earlier state becomes the tip, and the steps above it go.
-use changes::words::clear;
 use grounds::Outcome;
 use grounds::Refusal;
 use layout::head::Head;
@@ -8,6 +7,7 @@ use layout::head::Stored;
 use layout::sound::end_of;
 use layout::sound::is_sound;
 use layout::sound::lengths_fit;
+use words::clear;
 ghost use mathlib.Core.Path.{_≡_};
 ghost use mathlib.Core.List.{_++_};
 ghost use Prim.Native.Nat.{_-_, _≤_};

@@ -1,10 +1,10 @@
 // Shows the two lowest layers at work on a small feed: entry words, the composition of two lists of changes, and
 // its application to a read set. A list that breaks the rules is refused.
-use changes::lists::is_list;
-use changes::merge::compose;
-use changes::reads::apply_to_reads;
+use composing::compose;
 use entry::Entry;
 use libc::STDOUT_FILENO;
+use lists::reads::apply_to_reads;
+use lists::rules::is_list;
 
 // Writes a word in hexadecimal, its offer, and its price or `none`, as one line.
 fn show_word(word: u64) {

@@ -4,7 +4,7 @@ use mathlib.Core.Path.{_∙_, ap, sym}
 use mathlib.Core.List.{_++_}
 use Prim.Native.Nat.{ℕ, _+_, _-_, _*_, _≤_, _<_}
 use lib.ListN.{drop}
-use Rattle.changes.proofs.Writing.{Writing, start, stored, unwritten, done}
+use Rattle.words.proofs.Writing.{Writing, start, stored, unwritten, done}
 use Rattle.image.specs.Image.{wordsOf, countIn, wordsIn}
 use Rattle.image.proofs.Words.{words-next, words-end, words-all, words-in-length}
 use borrow.Author.Needs.{needs}

@@ -5,11 +5,11 @@ use mathlib.Core.Path.{_≡_, refl}
 use mathlib.Core.List.{_++_}
 use Prim.Native.Nat.{_+_, _-_, _*_, _≤_}
 use lib.ListN.{length, take, drop, getD}
-use Rattle.changes.proofs.Writing.{Writing, unwritten}
+use Rattle.words.proofs.Writing.{Writing, unwritten}
 use Rattle.image.specs.Bytes.{bytesOf}
 use Rattle.image.specs.Image.{wordBytes}
 use Rattle.image.proofs.Bytes.{length-bytes}
-use Rattle.changes.proofs.Pieces.{start-at, wrote-piece, continued, completed}
+use Rattle.words.proofs.Pieces.{start-at, wrote-piece, continued, completed}
 use Rattle.image.proofs.Storing.{header-stored}
 use Rattle.image.proofs.Words.{word-bytes-next, word-bytes-end}
 use borrow.Author.Needs.{needs}

@@ -3,7 +3,7 @@
 use mathlib.Core.Path.{_∙_, sym, ap}
 use borrow.Author.Tests.{not-true, not-false}
 use lib.ListN.{drop}
-use Rattle.changes.proofs.Parts.{part}
+use Rattle.words.proofs.Parts.{part}
 use Rattle.layout.specs.Tests.{zerosB}
 use Rattle.layout.proofs.Holds.{first-fails, first-holds, last-test}
 use Rattle.layout.proofs.StepTests.{steps-inside}

@@ -4,7 +4,7 @@ use mathlib.Core.Path.{_∙_, sym, ap}
 use borrow.Author.Tests.{le-leb, lt-leb, not-true, not-false}
 use lib.ListN.{length}
 use lib.Seq.{length-take-le}
-use Rattle.changes.proofs.Parts.{part}
+use Rattle.words.proofs.Parts.{part}
 use Rattle.layout.specs.Tests.{zerosB}
 use Rattle.layout.proofs.Holds.{first-fails, first-holds, last-test}
 use borrow.Author.Needs.{needs}

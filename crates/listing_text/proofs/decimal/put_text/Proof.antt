@@ -4,9 +4,9 @@ use mathlib.Core.Path.{_≡_}
 use mathlib.Core.List.{_++_}
 use Prim.Native.Nat.{_+_, _-_, _≤_}
 use lib.ListN.{length, take, drop, drop-of-length-le}
-use Rattle.changes.proofs.Parts.{next}
-use Rattle.changes.proofs.Writing.{Writing, stored, unwritten}
-use Rattle.changes.proofs.Pieces.{start-at, completed}
+use Rattle.words.proofs.Parts.{next}
+use Rattle.words.proofs.Writing.{Writing, stored, unwritten}
+use Rattle.words.proofs.Pieces.{start-at, completed}
 use borrow.Author.Needs.{needs}
 use native.Mathlib.Omega.{arith}
 use Rattle.listing_text.proofs.decimal.put_text.Statement.{statement}

@@ -4,8 +4,8 @@
 use mathlib.Core.List.{_++_}
 use Prim.Native.Nat.{_+_, _-_, _*_, _≤_}
 use lib.ListN.{length, take, drop, getD}
-use Rattle.changes.proofs.Writing.{Writing, unwritten, size}
-use Rattle.changes.proofs.Pieces.{start-at, wrote-piece, continued, completed}
+use Rattle.words.proofs.Writing.{Writing, unwritten, size}
+use Rattle.words.proofs.Pieces.{start-at, wrote-piece, continued, completed}
 use Rattle.listing_text.specs.Listing.{lineOf, linesOf}
 use Rattle.listing_text.proofs.Lines.{header-length, line-length, lines-next, lines-end, header-stored}
 use borrow.Author.Needs.{needs}

@@ -9,7 +9,7 @@ use Rattle.changes.specs.Calculus.{find, composeAll}
 use Rattle.changes.specs.ReadSets.{foundOr, over}
 use Rattle.changes.specs.Runs.{runOf}
 use Rattle.changes.proofs.Reading.{over-at, over-end, over-length}
-use Rattle.changes.proofs.Writing.{Writing, start, stored, filled, word-behind}
+use Rattle.words.proofs.Writing.{Writing, start, stored, filled, word-behind}
 use borrow.Author.Needs.{needs}
 use native.Mathlib.Omega.{arith}
 use Rattle.reads.proofs.forward.bring_forward.Statement.{statement}

@@ -4,9 +4,9 @@ use mathlib.Core.Path.{_≡_}
 use mathlib.Core.List.{_++_}
 use Prim.Native.Nat.{_-_}
 use lib.ListN.{length, take, replicate}
-use Rattle.changes.proofs.Parts.{zeros-next, zeros-end}
-use Rattle.changes.proofs.Pieces.{start-at}
-use Rattle.changes.proofs.Writing.{Writing, stored, filled}
+use Rattle.words.proofs.Parts.{zeros-next, zeros-end}
+use Rattle.words.proofs.Pieces.{start-at}
+use Rattle.words.proofs.Writing.{Writing, stored, filled}
 use Rattle.steps.proofs.Accepted.{cut-length}
 use borrow.Author.Needs.{needs}
 use native.Mathlib.Omega.{arith}

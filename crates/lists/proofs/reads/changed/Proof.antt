@@ -1,0 +1,30 @@
+-- `reads::changed` meets its contract.
+-- Assumes nothing.
+use mathlib.Core.Path.{_∙_, sym, ap}
+use Rattle.changes.specs.Calculus.{find}
+use Rattle.changes.specs.ReadSets.{foundOr}
+use borrow.Author.Needs.{needs}
+use Rattle.lists.proofs.reads.changed.Statement.{statement}
+use Rattle.lists.proofs.reads.changed.Tie as tie
+
+offer-of-requires : tie.Need-offer-of-requires
+offer-of-requires c κs = search needs
+
+find-requires : tie.Need-find-requires
+find-requires c κs = search needs
+
+enum-known-w : tie.Need-enum-known-w
+enum-known-w c = search needs
+
+enum-told : tie.Need-enum-told
+enum-told c = search needs
+
+returns : tie.Need-returns
+returns c = ap (λ f. foundOr f (c .before .before .before .before .before .before .args .word)) (sym (c .before .w .given .1) ∙ (c .before .before .before .find .ensures) ∙ ap (λ n. find n ((c .before .before .before .before .before .before .args .changes .now))) (c .before .before .before .before .offer-of .ensures))
+
+returns-2 : tie.Need-returns-2
+returns-2 c = ap (λ f. foundOr f (c .before .before .before .before .before .args .word)) (sym (c .enum-told .given .1) ∙ (c .before .before .find .ensures) ∙ ap (λ n. find n ((c .before .before .before .before .before .args .changes .now))) (c .before .before .before .offer-of .ensures))
+
+pub changed-spec : {M : Type 1} → statement M
+changed-spec =
+    tie.close (tie.spec offer-of-requires find-requires enum-known-w enum-told returns returns-2)
