@@ -18,6 +18,7 @@ use Rattle.grounds.specs.declared.Outcome.the-variants.{Done}
 use Rattle.grounds.proofs.Firsts.{done-not}
 use Rattle.layout.specs.declared.head.Head.{Head}
 use Rattle.layout.specs.Sound.{heldOf}
+use Rattle.layout.specs.States.{stepIndex}
 use Rattle.layout.specs.View.{Shaped}
 use Rattle.layout.proofs.HeadTests.{InRange, lengths-facts}
 use Rattle.layout.proofs.Sounds.{Sound, sound-facts, sound-marked}
@@ -26,7 +27,7 @@ use Rattle.reads.specs.Forward.{forwardCheck}
 use Rattle.reads.specs.Issue.{issueCheck}
 use Rattle.reads.specs.LookUp.{lookUpCheck}
 use Rattle.reads.specs.Release.{releaseCheck}
-use Rattle.reads.specs.Steps.{Rising, stepIndex}
+use Rattle.reads.specs.Steps.{Rising}
 use Rattle.reads.proofs.NoPuts.{show-none}
 
 -- a head whose arrays have their lengths

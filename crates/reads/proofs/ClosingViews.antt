@@ -14,19 +14,19 @@ use Rattle.grounds.specs.declared.Outcome.the-variants.{Done}
 use Rattle.grounds.proofs.Firsts.{new-is}
 use Rattle.layout.specs.declared.head.Head.{Head}
 use Rattle.layout.specs.Sound.{heldOf}
+use Rattle.layout.specs.States.{stepIndex, stepsBetween}
 use Rattle.layout.specs.Trim.{trimmedHead, trimmedJournal, trimmed}
 use Rattle.layout.specs.View.{Store, View, Slot, closed, holding, heldSteps, encode, decode, openOf, issuedOf, NotAbove, Good, Shaped}
 use Rattle.layout.proofs.Sounds.{Sound}
+use Rattle.layout.proofs.States.{run-middle}
 use Rattle.layout.proofs.Trims.{Nearly, trimStore, trim-leaves, trim-good}
 use Rattle.layout.proofs.Views.{restored, decoded-good}
 use Rattle.reads.specs.Forward.{forwardCheck, forwardHead, forwardJournal, forwardReads, stepsFor}
 use Rattle.reads.specs.OnView.{withSlot, between}
 use Rattle.reads.specs.Release.{releaseCheck, releaseHead, releaseJournal}
 use Rattle.reads.specs.Slots.{shut}
-use Rattle.reads.specs.Steps.{stepIndex, stepsBetween}
 use Rattle.reads.proofs.Accepted.{ReleaseOk, release-ok, ForwardOk, forward-ok}
 use Rattle.reads.proofs.Closing.{number-low, number-high}
-use Rattle.reads.proofs.OnViews.{run-middle}
 use Rattle.reads.proofs.SlotSets.{held-set, issued-set, all-set, least-shut, slot-there}
 
 abbrev shutIn : ℕ → Store → Store
