@@ -1,13 +1,13 @@
 -- The map at each kept state: "here the k-th state after the anchor takes the first k steps."
 -- Assumes nothing.
-use mathlib.Core.Path.{_≡_, refl, sym, ap, ap₂, subst, _∙_}
+use mathlib.Core.Path.{_≡_, sym, ap, subst, _∙_}
 use mathlib.Core.Bool.{true}
 use mathlib.Core.List.{List, [], _∷_, _++_}
 use Prim.Native.Nat.{ℕ, zero, suc, _+_, _-_, _≤_, _<_}
 use native.Mathlib.Omega.{arith}
 use lib.ListN.{length, getD, take, drop}
 use lib.Seq.{take-suc, take-at, drop-at}
-use Rattle.changes.specs.Calculus.{apply, compose, composeAll, applyAll}
+use Rattle.changes.specs.Calculus.{apply, compose, composeAll}
 use Rattle.changes.specs.Lists.{listB, From, All, Changes, Map}
 use Rattle.changes.specs.Runs.{runOf}
 use Rattle.changes.proofs.Applying.{compose-all-nil, compose-all-one}
@@ -16,7 +16,7 @@ use Rattle.changes.proofs.ListTest.{list-facts}
 use Rattle.layout.specs.declared.head.Head.{Head}
 use Rattle.layout.specs.Sound.{heldOf}
 use Rattle.layout.specs.States.{stepIndex, stepsBetween, mapHere}
-use Rattle.layout.specs.View.{Store, View, decode, mapAt, heldSteps, tipOf, Good, Shaped}
+use Rattle.layout.specs.View.{Store, View, decode, mapAt, tipOf, Good, Shaped}
 use Rattle.layout.proofs.Sounds.{Sound}
 use Rattle.layout.proofs.Views.{decoded-good, run-count}
 

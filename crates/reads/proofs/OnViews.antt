@@ -1,18 +1,17 @@
 -- The calls on views: a lookup reads the map of the state named, and an issue leaves the view with its slot holding the checkpoint.
 -- Assumes nothing.
-use mathlib.Core.Path.{_≡_, refl, sym, ap, ap₂, subst, _∙_}
-use mathlib.Core.Bool.{true, false}
-use mathlib.Core.List.{List, [], _∷_, _++_, map}
-use Prim.Native.Nat.{ℕ, _+_, _-_, _≤_, _<_}
+use mathlib.Core.Path.{_≡_, sym, ap, _∙_}
+use mathlib.Core.Bool.{false}
+use mathlib.Core.List.{List, map}
+use Prim.Native.Nat.{ℕ}
 use native.Mathlib.Omega.{arith}
-use lib.ListN.{length, take, drop, getD, set, length-set}
+use lib.ListN.{take, getD, length-set}
 use Rattle.changes.specs.Calculus.{find}
 use Rattle.changes.specs.ReadSets.{readOf}
 use Rattle.grounds.specs.declared.Outcome.the-variants.{Done}
 use Rattle.grounds.proofs.Firsts.{new-is}
 use Rattle.layout.specs.declared.head.Head.{Head}
-use Rattle.layout.specs.View.{Store, View, Slot, holding, heldSteps, encode, decode, mapAt, openOf, issuedOf, NotAbove, Good, Shaped}
-use Rattle.layout.proofs.Sounds.{Sound}
+use Rattle.layout.specs.View.{Store, View, holding, encode, decode, mapAt, openOf, NotAbove, Good, Shaped}
 use Rattle.layout.proofs.States.{map-is}
 use Rattle.layout.proofs.Views.{restored, decoded-good}
 use Rattle.reads.specs.Issue.{issueCheck, issueHead, issueList}
