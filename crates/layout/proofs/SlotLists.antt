@@ -78,3 +78,27 @@ unfolding leastSlot
 least-most c [] = omega arith
 least-most c (closed ∷ ss) = least-most c ss
 least-most c (holding n ∷ ss) = omega (arith, least-most c ss)
+
+-- the same of the numbers in a head
+pub least-up-to : (c : ℕ) (marks : List Bool) (numbers : List ℕ) → least c marks numbers ≤ c
+unfolding least
+least-up-to c [] numbers = omega arith
+least-up-to c (m ∷ marks) [] = omega arith
+least-up-to c (true ∷ marks) (n ∷ numbers) = omega (arith, least-up-to c marks numbers)
+least-up-to c (false ∷ marks) (n ∷ numbers) = least-up-to c marks numbers
+
+-- with a later checkpoint the least is no lower, and no open slot lies above it
+pub least-later : (c d : ℕ) (marks : List Bool) (numbers : List ℕ) → c ≤ d → least c marks numbers ≤ least d marks numbers
+unfolding least
+least-later c d [] numbers h = h
+least-later c d (m ∷ marks) [] h = h
+least-later c d (true ∷ marks) (n ∷ numbers) h = omega (arith, least-later c d marks numbers h)
+least-later c d (false ∷ marks) (n ∷ numbers) h = least-later c d marks numbers h
+
+pub below-later : (c d : ℕ) (ss : List Slot) → c ≤ d → All (NotAbove c) ss → All (NotAbove d) ss
+unfolding All
+below-later c d [] h a = tt
+below-later c d (closed ∷ ss) h a = (tt, below-later c d ss h (a .1))
+below-later c d (holding n ∷ ss) h a =
+    let first : n ≤ c = a .0 in
+    (omega arith, below-later c d ss h (a .1))

@@ -1,18 +1,24 @@
 -- The map at each kept state: "here the k-th state after the anchor takes the first k steps."
 -- Assumes nothing.
-use mathlib.Core.Path.{_≡_, refl, sym, ap, ap₂, subst, _∙_}
+use mathlib.Core.Path.{_≡_, sym, ap, subst, _∙_}
 use mathlib.Core.Bool.{true}
 use mathlib.Core.List.{List, [], _∷_, _++_}
 use Prim.Native.Nat.{ℕ, zero, suc, _+_, _-_, _≤_, _<_}
 use native.Mathlib.Omega.{arith}
 use lib.ListN.{length, getD, take, drop}
-use lib.Seq.{take-suc}
-use Rattle.changes.specs.Calculus.{apply, compose, composeAll, applyAll}
+use lib.Seq.{take-suc, take-at, drop-at}
+use Rattle.changes.specs.Calculus.{apply, compose, composeAll}
 use Rattle.changes.specs.Lists.{listB, From, All, Changes, Map}
+use Rattle.changes.specs.Runs.{runOf}
 use Rattle.changes.proofs.Applying.{compose-all-nil, compose-all-one}
-use Rattle.changes.proofs.Laws.{apply-zero, apply-twice, apply-map, run-changes, run-split}
+use Rattle.changes.proofs.Laws.{apply-zero, apply-twice, apply-map, run-changes, run-split, steps-split}
 use Rattle.changes.proofs.ListTest.{list-facts}
-use Rattle.layout.specs.View.{View, mapAt, heldSteps, tipOf, Good}
+use Rattle.layout.specs.declared.head.Head.{Head}
+use Rattle.layout.specs.Sound.{heldOf}
+use Rattle.layout.specs.States.{stepIndex, stepsBetween, mapHere}
+use Rattle.layout.specs.View.{Store, View, decode, mapAt, tipOf, Good, Shaped}
+use Rattle.layout.proofs.Sounds.{Sound}
+use Rattle.layout.proofs.Views.{decoded-good, run-count}
 
 -- the steps of a good view are changes
 all-changes : (ds : List (List ℕ)) → All (λ d. listB d ≡ true) ds → All Changes ds
@@ -43,7 +49,8 @@ module _ (v : View) (g : Good v) where
   steps-changes : All Changes (v .steps)
   steps-changes = all-changes (v .steps) (all-second (v .old) (v .steps) (g .lists))
 
-  first-changes : (n : ℕ) → Changes (composeAll (take n (v .steps)))
+  -- the first of them, composed, are changes
+  pub first-changes : (n : ℕ) → Changes (composeAll (take n (v .steps)))
   first-changes n = run-changes (take n (v .steps)) (all-take n (v .steps) steps-changes)
 
   -- the state of the checkpoint is the table's map
@@ -72,3 +79,37 @@ module _ (v : View) (g : Good v) where
       ∙ ap (λ (l : List (List ℕ)). apply (v .base) (composeAll l)) (take-suc (v .steps) (s - v .checkpoint) [] inside)
       ∙ ap (apply (v .base)) (run-split (take (s - v .checkpoint) (v .steps)) (step ∷ []) ∙ ap (compose (composeAll (take (s - v .checkpoint) (v .steps)))) (compose-all-one step))
       ∙ sym (apply-twice (v .base) (composeAll (take (s - v .checkpoint) (v .steps))) step (g .map .rises) (first-changes (s - v .checkpoint) .rises) (all-get (s - v .checkpoint) (v .steps) steps-changes inside .rises))
+
+-- some steps in the middle of a run
+pub run-middle : (words ends : List ℕ) (n a k : ℕ) → a + k ≤ n → take k (drop a (runOf words ends 0 n)) ≡ runOf words ends a k
+run-middle words ends n a k h =
+    let whole : n ≡ a + (k + (n - (a + k))) = omega arith in
+    let start : 0 + a ≡ a = omega arith in
+    ap (λ (m : ℕ). take k (drop a (runOf words ends 0 m))) whole
+    ∙ ap (λ (l : List (List ℕ)). take k (drop a l)) (steps-split words ends a (k + (n - (a + k))) 0)
+    ∙ ap (take k) (drop-at (runOf words ends 0 a) _ a (run-count words ends a 0))
+    ∙ ap (λ (m : ℕ). take k (runOf words ends m (k + (n - (a + k))))) start
+    ∙ ap (take k) (steps-split words ends k (n - (a + k)) a)
+    ∙ take-at (runOf words ends a k) _ k (run-count words ends k a)
+
+-- a sound store: its steps from the checkpoint to a state are the first of its view's, and the map at the state is its view's
+module _ (table journal : List ℕ) (head : Head) (s : Sound table journal head) (state : ℕ) (low : head .checkpoint ≤ state) (high : state ≤ head .tip) where
+  abbrev here : Store
+  here = record { table = table; journal = journal; head = head }
+
+  pub steps-since : stepsBetween journal head (head .checkpoint) state ≡ take (state - head .checkpoint) (decode here .steps)
+  unfolding decode
+  steps-since =
+      let count : stepIndex head state - stepIndex head (head .checkpoint) ≡ state - head .checkpoint = omega (arith, s .low) in
+      ap (runOf journal (head .ends) (stepIndex head (head .checkpoint))) count
+      ∙ sym (run-middle journal (head .ends) (heldOf head) (head .checkpoint - head .oldest) (state - head .checkpoint) (omega (arith, s .low)))
+
+  pub map-is : mapHere table journal head state ≡ mapAt (decode here) state
+  unfolding mapAt decode
+  map-is = ap (λ (ds : List (List ℕ)). apply (take (head .used) table) (composeAll ds)) steps-since
+
+  pub since-rises : Shaped head → From 0 (composeAll (stepsBetween journal head (head .checkpoint) state))
+  unfolding decode
+  since-rises p =
+      subst (λ (ds : List (List ℕ)). From 0 (composeAll ds)) (sym steps-since)
+      (first-changes (decode here) (decoded-good table journal head p s) (state - head .checkpoint) .rises)

@@ -2,3 +2,4 @@ pub mod Tests
 pub mod Trim
 pub mod View
 pub mod Sound
+pub mod States

@@ -1,15 +1,15 @@
 -- What an accepted call knows of its memory.
 -- Assumes nothing.
-use mathlib.Core.Path.{_≡_, sym, ap, _∙_}
-use mathlib.Core.Bool.{Bool, true, false, not}
-use mathlib.Core.List.{List, [], _∷_}
-use Prim.Native.Nat.{ℕ, _+_, _-_, _^_, _≤_, _<_}
+use mathlib.Core.Path.{_≡_}
+use mathlib.Core.Bool.{true, false}
+use mathlib.Core.List.{List}
+use Prim.Native.Nat.{ℕ, _^_, _≤_, _<_}
 use native.Mathlib.Omega.{arith}
 use borrow.Author.Tests.{ltb-false, leb-false, not-false}
 use lib.ListN.{length, take, getD}
 use lib.Seq.{length-take-le}
 use Rattle.entry.specs.Word.{offerOf, noneOf}
-use Rattle.changes.specs.Lists.{listB, All, Changes}
+use Rattle.changes.specs.Lists.{listB, All}
 use Rattle.changes.specs.ReadSets.{readOf, over}
 use Rattle.changes.proofs.Laws.{fill-none}
 use Rattle.changes.proofs.ListTest.{list-facts}
@@ -17,7 +17,7 @@ use Rattle.changes.proofs.Running.{marked-fewer}
 use Rattle.grounds.specs.declared.Outcome.the-variants.{Done}
 use Rattle.grounds.proofs.Firsts.{done-not}
 use Rattle.layout.specs.declared.head.Head.{Head}
-use Rattle.layout.specs.Sound.{heldOf}
+use Rattle.layout.specs.States.{stepIndex}
 use Rattle.layout.specs.View.{Shaped}
 use Rattle.layout.proofs.HeadTests.{InRange, lengths-facts}
 use Rattle.layout.proofs.Sounds.{Sound, sound-facts, sound-marked}
@@ -26,7 +26,7 @@ use Rattle.reads.specs.Forward.{forwardCheck}
 use Rattle.reads.specs.Issue.{issueCheck}
 use Rattle.reads.specs.LookUp.{lookUpCheck}
 use Rattle.reads.specs.Release.{releaseCheck}
-use Rattle.reads.specs.Steps.{Rising, stepIndex}
+use Rattle.reads.specs.Steps.{Rising}
 use Rattle.reads.proofs.NoPuts.{show-none}
 
 -- a head whose arrays have their lengths

@@ -1,26 +1,19 @@
 -- A slot that closes: the floor does not fall, and the store can be trimmed.
 -- Assumes nothing.
-use mathlib.Core.Path.{_≡_, refl, sym, ap, _∙_}
-use mathlib.Core.Bool.{Bool, true, false, cond}
+use mathlib.Core.Path.{_≡_}
+use mathlib.Core.Bool.{Bool, true, false}
 use mathlib.Core.List.{List, [], _∷_}
-use Prim.Native.Nat.{ℕ, zero, suc, _≤_, _<_, min}
+use Prim.Native.Nat.{ℕ, zero, suc, _≤_, _<_}
 use native.Mathlib.Omega.{arith}
 use borrow.Author.Tests.{leb-true}
-use lib.Dec.{leb, eqb}
 use lib.ListN.{length, getD, set}
 use Rattle.layout.specs.declared.head.Head.{Head}
 use Rattle.layout.specs.Tests.{least}
 use Rattle.layout.specs.Trim.{Trimmable}
 use Rattle.layout.specs.View.{Shaped}
+use Rattle.layout.proofs.SlotLists.{least-up-to}
 use Rattle.layout.proofs.Sounds.{Sound, sound-marked}
 use Rattle.reads.specs.Slots.{shut}
-
-least-up-to : (c : ℕ) (marks : List Bool) (numbers : List ℕ) → least c marks numbers ≤ c
-unfolding least
-least-up-to c [] numbers = omega arith
-least-up-to c (m ∷ marks) [] = omega arith
-least-up-to c (true ∷ marks) (n ∷ numbers) = omega (arith, least-up-to c marks numbers)
-least-up-to c (false ∷ marks) (n ∷ numbers) = least-up-to c marks numbers
 
 -- with a slot closed the least number is no lower
 least-closed : (c : ℕ) (marks : List Bool) (numbers : List ℕ) (k : ℕ) → least c marks numbers ≤ least c (set marks k false) (set numbers k 0)

@@ -5,4 +5,4 @@ mod NoPuts
 pub mod OnViews
 mod Quoting
 mod Seeking
-mod SlotSets
+pub mod SlotSets

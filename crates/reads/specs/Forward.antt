@@ -14,9 +14,9 @@ use Rattle.grounds.specs.declared.Refusal.the-variants.{Lengths, Unsound, SlotR
 use Rattle.grounds.specs.First.{Ground, met, first, ifDone}
 use Rattle.layout.specs.declared.head.Head.{Head}
 use Rattle.layout.specs.Sound.{lengthsB, soundB}
+use Rattle.layout.specs.States.{stepsBetween}
 use Rattle.layout.specs.Trim.{trimmedHead, trimmedJournal}
 use Rattle.reads.specs.Slots.{shut}
-use Rattle.reads.specs.Steps.{stepsBetween}
 
 -- grounds 1, 2, 3, 5, 6 ("A list breaks its rules"), 11 ("below the anchor or above the tip")
 abbrev pub forwardCheck : List ℕ → List ℕ → Head → ℕ → ℕ → List ℕ → Outcome

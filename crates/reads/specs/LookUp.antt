@@ -4,11 +4,11 @@ use mathlib.Core.Bool.{not}
 use mathlib.Core.List.{List, [], _∷_}
 use Prim.Native.Nat.{ℕ, _^_}
 use lib.Dec.{ltb, leb}
-use lib.ListN.{length, take}
+use lib.ListN.{length}
 use Rattle.entry.specs.Word.{priceOf}
 use Rattle.changes.specs.declared.search.Found.{Found}
 use Rattle.changes.specs.declared.search.Found.the-variants.{Word, Nothing}
-use Rattle.changes.specs.Calculus.{find, apply, composeAll}
+use Rattle.changes.specs.Calculus.{find}
 use Rattle.grounds.specs.declared.Outcome.{Outcome}
 use Rattle.grounds.specs.declared.Outcome.the-variants.{Done, Refused}
 use Rattle.grounds.specs.declared.Quote.{Quote}
@@ -17,7 +17,7 @@ use Rattle.grounds.specs.declared.Refusal.the-variants.{Lengths, Unsound, BadLi
 use Rattle.grounds.specs.First.{Ground, met, first}
 use Rattle.layout.specs.declared.head.Head.{Head}
 use Rattle.layout.specs.Sound.{lengthsB, soundB}
-use Rattle.reads.specs.Steps.{stepsBetween}
+use Rattle.layout.specs.States.{mapHere}
 
 -- the price of the word that a map has at an offer, or none; "zero is a true price"
 abbrev pub quoteOf : Found → Quote
@@ -34,10 +34,6 @@ lookUpCheck table journal head offer state =
     ∷ met (ltb state (head .checkpoint)) StateRange
     ∷ met (ltb (head .tip) state) StateRange
     ∷ [])
-
--- "State number s is the book with the steps from the anchor to s applied"
-abbrev pub mapHere : List ℕ → List ℕ → Head → ℕ → List ℕ
-mapHere table journal head state = apply (take (head .used) table) (composeAll (stepsBetween journal head (head .checkpoint) state))
 
 -- the price or none where the call is accepted, else the ground
 abbrev pub quoteOr : Outcome → Found → Quote

@@ -1,4 +1,4 @@
--- Commit and rollback on views: what an accepted call leaves is the encoding of the view that the call makes of the view before it.
+-- Commit, rollback and flush on views: what an accepted call leaves is the encoding of the view that the call makes of the view before it.
 -- Assumes nothing.
 use mathlib.Core.Path.{_≡_, refl, sym, ap, subst, _∙_}
 use mathlib.Core.List.{List}
@@ -6,18 +6,27 @@ use Prim.Native.Nat.{ℕ, _+_, _≤_, _<_}
 use native.Mathlib.Omega.{arith}
 use lib.ListN.{length}
 use Rattle.changes.specs.Runs.{startOf}
-use Rattle.grounds.specs.declared.Outcome.the-variants.{Done}
-use Rattle.grounds.proofs.Firsts.{new-is}
+use Rattle.grounds.specs.declared.Outcome.{Outcome}
+use Rattle.grounds.specs.declared.Outcome.the-variants.{Done, Refused}
+use Rattle.grounds.specs.declared.Refusal.{Refusal}
+use Rattle.grounds.proofs.Firsts.{new-is, old-is}
 use Rattle.layout.specs.declared.head.Head.{Head}
 use Rattle.layout.specs.Sound.{heldOf}
-use Rattle.layout.specs.View.{Store, heldSteps, tipOf, flat, encode, decode, Good, Shaped}
+use Rattle.layout.specs.States.{mapHere}
+use Rattle.layout.specs.Trim.{trimmedHead, trimmedJournal, trimmed}
+use Rattle.layout.specs.View.{Store, heldSteps, tipOf, padded, flat, encode, decode, mapAt, Good, Shaped}
 use Rattle.layout.proofs.Sounds.{Sound}
+use Rattle.layout.proofs.States.{map-is}
+use Rattle.layout.proofs.Trims.{trimStore}
 use Rattle.layout.proofs.Views.{restored, decoded-good, encoded-sound, decoded}
 use Rattle.steps.specs.Commit.{usedOf, commitCheck, withList, withStep, commitJournal, commitHead}
+use Rattle.steps.specs.Flush.{flushCheck, flushedHead, flushTable, flushJournal, flushHead}
 use Rattle.steps.specs.RollBack.{rollCheck, keptOf, cutAt, cutTo, rollJournal, rollHead}
-use Rattle.steps.specs.StepViews.{commitView, rollView}
+use Rattle.steps.specs.StepViews.{commitView, rollView, flushedView}
 use Rattle.steps.proofs.Accepted.{CommitOk, commit-ok, RollOk, roll-ok}
 use Rattle.steps.proofs.CommitViews.{held-is, used-is, committed, commit-encoded, commit-good}
+use Rattle.steps.proofs.FlushViews.{flushedIn, flush-trimmed, flush-good, flush-nothing}
+use Rattle.steps.proofs.Flushing.{FlushOk, flush-ok}
 use Rattle.steps.proofs.RollViews.{rolledBack, roll-encoded, roll-good}
 
 -- what lies in memory after each accepted call
@@ -114,3 +123,74 @@ module _ (table journal : List ℕ) (head : Head) (p : Shaped head) where
     roll-sound =
         subst (λ (s : Store). Sound (s .table) (s .journal) (s .head)) (sym roll-leaves)
         (encoded-sound (rollView (decode here) state) roll-leaves-good)
+
+  abbrev pub afterFlush : ℕ → Store
+  afterFlush state = record { table = flushTable table journal head state; journal = flushJournal table journal head state; head = flushHead table journal head state }
+
+  module _ (state : ℕ) (e : flushCheck table journal head state ≡ Done) where
+    flush-met : FlushOk table journal head state
+    flush-met = flush-ok table journal head state e
+
+    map-same : mapHere table journal head state ≡ mapAt (decode here) state
+    map-same = map-is table journal head (flush-met .sound) state (flush-met .low) (flush-met .high)
+
+    above : decode here .checkpoint ≤ state
+    unfolding decode
+    above = flush-met .low
+
+    tip-there : tipOf (decode here) ≡ head .tip
+    unfolding encode
+    tip-there = ap (λ (s : Store). s .head .tip) (same (flush-met .sound))
+
+    below : state ≤ tipOf (decode here)
+    below = omega (arith, tip-there, flush-met .high)
+
+    fits : length (mapAt (decode here) state) ≤ decode here .limits .table
+    unfolding decode
+    fits = omega (arith, flush-met .fits, ap length map-same)
+
+    -- "Flush to s makes the book the map at s, and s the anchor."
+    pub flush-leaves : afterFlush state ≡ encode (trimmed (flushedView (decode here) state))
+    flush-leaves =
+        (λ i. record {
+          table = new-is e (padded (length table) (mapHere table journal head state)) table i;
+          journal = new-is e (trimmedJournal (flushedHead head (length (mapHere table journal head state)) state) journal) journal i;
+          head = new-is e (trimmedHead (flushedHead head (length (mapHere table journal head state)) state)) head i;
+        })
+        ∙ ap (λ (m : List ℕ). trimStore (flushedIn here state m)) map-same
+        ∙ ap (λ (s : Store). trimStore (flushedIn s state (mapAt (decode here) state))) (sym (same (flush-met .sound)))
+        ∙ flush-trimmed (decode here) (good (flush-met .sound)) state above below fits
+
+    pub flush-leaves-good : Good (trimmed (flushedView (decode here) state))
+    flush-leaves-good = flush-good (decode here) (good (flush-met .sound)) state above below fits
+
+    pub flush-decoded : decode (afterFlush state) ≡ trimmed (flushedView (decode here) state)
+    flush-decoded = ap decode flush-leaves ∙ decoded (trimmed (flushedView (decode here) state)) flush-leaves-good
+
+    -- a sound store stays sound
+    pub flush-sound : Sound (flushTable table journal head state) (flushJournal table journal head state) (flushHead table journal head state)
+    flush-sound =
+        subst (λ (s : Store). Sound (s .table) (s .journal) (s .head)) (sym flush-leaves)
+        (encoded-sound (trimmed (flushedView (decode here) state)) flush-leaves-good)
+
+  -- "A flush to the anchor changes nothing.": it leaves what came, accepted or not
+  accepted-nothing : flushCheck table journal head (head .checkpoint) ≡ Done → afterFlush (head .checkpoint) ≡ here
+  unfolding decode
+  accepted-nothing e =
+      let s = flush-ok table journal head (head .checkpoint) e .sound in
+      flush-leaves (head .checkpoint) e ∙ ap encode (flush-nothing (decode here) (good s)) ∙ same s
+
+  refused-nothing : (state : ℕ) (r : Refusal) → flushCheck table journal head state ≡ Refused r → afterFlush state ≡ here
+  refused-nothing state r e i =
+      record {
+        table = old-is e (padded (length table) (mapHere table journal head state)) table i;
+        journal = old-is e (trimmedJournal (flushedHead head (length (mapHere table journal head state)) state) journal) journal i;
+        head = old-is e (trimmedHead (flushedHead head (length (mapHere table journal head state)) state)) head i;
+      }
+
+  pub flush-anchor : afterFlush (head .checkpoint) ≡ here
+  flush-anchor = by-check (flushCheck table journal head (head .checkpoint)) refl
+    where
+      by-check : (o : Outcome) → flushCheck table journal head (head .checkpoint) ≡ o → afterFlush (head .checkpoint) ≡ here
+      by-check Done e = accepted-nothing e
+      by-check (Refused r) e = refused-nothing (head .checkpoint) r e

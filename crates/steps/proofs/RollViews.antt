@@ -31,7 +31,7 @@ module _ (v : View) (g : Good v) (state : ℕ) (low : v .checkpoint ≤ state) (
   abbrev gone : List (List ℕ)
   gone = drop (state - v .checkpoint) (v .steps)
 
-  split : heldSteps v ≡ kept ++ gone
+  pub split : heldSteps v ≡ kept ++ gone
   split =
       sym
       (append-assoc (v .old) (take (state - v .checkpoint) (v .steps)) gone
@@ -43,7 +43,7 @@ module _ (v : View) (g : Good v) (state : ℕ) (low : v .checkpoint ≤ state) (
   marks-split : marksFrom 0 (heldSteps v) ≡ marksFrom 0 kept ++ marksFrom (0 + length (flat kept)) gone
   marks-split = ap (marksFrom 0) split ∙ marks-append 0 kept gone
 
-  steps-long : length (take (state - v .checkpoint) (v .steps)) ≡ state - v .checkpoint
+  pub steps-long : length (take (state - v .checkpoint) (v .steps)) ≡ state - v .checkpoint
   steps-long = length-take-le (state - v .checkpoint) (v .steps) (omega arith)
 
   kept-is : keptOf (encode v .head) state ≡ length kept

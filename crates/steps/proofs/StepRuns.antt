@@ -50,7 +50,7 @@ marks-more ss d =
     ∙ ap (λ (l : List ℕ). marksFrom 0 ss ++ l) (marks-one (0 + length (flat ss)) d ∙ ap (λ (n : ℕ). n ∷ []) same)
 
 -- zeros from a place on
-zeros-from : (n m : ℕ) → drop n (replicate {A = ℕ} m 0) ≡ replicate (m - n) 0
+pub zeros-from : (n m : ℕ) → drop n (replicate {A = ℕ} m 0) ≡ replicate (m - n) 0
 zeros-from zero m =
     let same : m ≡ m - 0 = omega arith in
     ap (λ (k : ℕ). replicate {A = ℕ} k 0) same

@@ -1,3 +1,4 @@
 pub mod Commit
+pub mod Flush
 pub mod RollBack
 pub mod StepViews

@@ -12,6 +12,7 @@ use Rattle.grounds.specs.declared.Refusal.the-variants.{Lengths, Unsound, State
 use Rattle.grounds.specs.First.{met, first, ifDone}
 use Rattle.layout.specs.declared.head.Head.{Head}
 use Rattle.layout.specs.Sound.{lengthsB, soundB}
+use Rattle.layout.specs.States.{stepIndex}
 
 -- grounds 1, 2, 11
 abbrev pub rollCheck : List ℕ → List ℕ → Head → ℕ → Outcome
@@ -25,7 +26,7 @@ rollCheck table journal head state =
 
 -- how many of the held steps lead to states up to this one
 abbrev pub keptOf : Head → ℕ → ℕ
-keptOf head state = state - head .oldest
+keptOf = stepIndex
 
 -- "zeroes the words above"
 abbrev pub cutAt : List ℕ → ℕ → List ℕ

@@ -1,9 +1,9 @@
--- Commit and rollback on the view of a store.
+-- Commit, rollback and flush on the view of a store.
 -- Assumes nothing.
 use mathlib.Core.List.{List, [], _∷_, _++_}
 use Prim.Native.Nat.{ℕ, _-_}
-use lib.ListN.{take}
-use Rattle.layout.specs.View.{View}
+use lib.ListN.{take, drop}
+use Rattle.layout.specs.View.{View, mapAt}
 
 -- "Commit appends a list as state tip + 1."
 unfoldable pub commitView : View → List ℕ → View
@@ -23,6 +23,17 @@ rollView v state = record {
   old = v .old;
   steps = take (state - v .checkpoint) (v .steps);
   checkpoint = v .checkpoint;
+  slots = v .slots;
+  limits = v .limits;
+}
+
+-- "Flush to s makes the book the map at s, and s the anchor": the steps up to it become old ones, until the view is trimmed
+unfoldable pub flushedView : View → ℕ → View
+flushedView v state = record {
+  base = mapAt v state;
+  old = v .old ++ take (state - v .checkpoint) (v .steps);
+  steps = drop (state - v .checkpoint) (v .steps);
+  checkpoint = state;
   slots = v .slots;
   limits = v .limits;
 }

@@ -1,0 +1,10 @@
+pub mod Alike
+pub mod FlushCall
+pub mod Lines
+pub mod Loads
+pub mod StepCalls
+pub mod ReadCalls
+pub mod Stored
+pub mod Theorem
+pub mod Tickets
+pub mod Views

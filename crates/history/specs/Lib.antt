@@ -1,0 +1,5 @@
+pub mod Calls
+pub mod Plain
+pub mod Served
+pub mod Runs
+pub mod Condition3
