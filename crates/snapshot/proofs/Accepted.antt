@@ -61,6 +61,14 @@ module _ {table journal : List ℕ} {head : Head} {room : ℕ} (w : WriteOk tabl
   pub write-room : (length (take (head .used) table) < 2 ^ 16) × (6 + 8 * length (take (head .used) table) ≤ room)
   write-room = (omega (arith, used-long, w .sound .used-in, w .range .table-most), omega (arith, used-long, w .fits))
 
+  -- the image that is written reads back: it is one, of the checkpoint's number and map
+  module _ (small : head .checkpoint < 2 ^ 32) where
+    pub reads-back : (imageB (imageHere table head) ≡ true) × (numberIn (imageHere table head) ≡ head .checkpoint) × (wordsIn (imageHere table head) ≡ take (head .used) table)
+    reads-back = written-reads-back (head .checkpoint) (take (head .used) table) small (write-room .0) (w .sound .map)
+
+    pub count-back : countIn (imageHere table head) ≡ head .used
+    count-back = sym (words-in-length (imageHere table head)) ∙ ap length (reads-back .2) ∙ used-long
+
   module _ (bytes last : List ℕ) (n : ℕ) (en : n ≡ 6 + 8 * length (take (head .used) table)) (el : last ≡ imageHere table head ++ drop n bytes) where
     pub size-is : n ≡ 6 + 8 * head .used
     size-is = omega (arith, used-long)
@@ -79,13 +87,6 @@ module _ {table journal : List ℕ} {head : Head} {room : ℕ} (w : WriteOk tabl
     image-part = ap (take n) el ∙ take-at (imageHere table head) (drop n bytes) n image-long
 
     -- and what it needs to be loaded back
-    module _ (small : head .checkpoint < 2 ^ 32) where
-      back : (imageB (imageHere table head) ≡ true) × (numberIn (imageHere table head) ≡ head .checkpoint) × (wordsIn (imageHere table head) ≡ take (head .used) table)
-      back = written-reads-back (head .checkpoint) (take (head .used) table) small (write-room .0) (w .sound .map)
-
-      pub count-is : countIn (imageHere table head) ≡ head .used
-      count-is = sym (words-in-length (imageHere table head)) ∙ ap length (back .2) ∙ used-long
-
-      pub load-room : (6 + 8 * countIn (take n last) ≤ length (take n last)) × (countIn (take n last) ≤ length table)
-      load-room =
-          rw image-part (omega (arith, image-facts (imageHere table head) (back .0) .size), omega (arith, count-is, w .sound .used-in))
+    pub load-room : head .checkpoint < 2 ^ 32 → (6 + 8 * countIn (take n last) ≤ length (take n last)) × (countIn (take n last) ≤ length table)
+    load-room small =
+        rw image-part (omega (arith, image-facts (imageHere table head) (reads-back small .0) .size), omega (arith, count-back small, w .sound .used-in))

@@ -11,7 +11,6 @@ use Rattle.changes.specs.Lists.{From, All, Map}
 use Rattle.grounds.specs.declared.Outcome.the-variants.{Done}
 use Rattle.grounds.proofs.Firsts.{new-is}
 use Rattle.image.specs.Image.{imageOf, countIn, numberIn, wordsIn}
-use Rattle.image.proofs.Theorems.{written-reads-back}
 use Rattle.image.proofs.Words.{words-in-length}
 use Rattle.layout.specs.declared.head.Head.{Head}
 use Rattle.layout.specs.View.{Store, Limits, leastSlot, flat, marksFrom, padded, encode, decode, Good}
@@ -20,7 +19,7 @@ use Rattle.layout.proofs.Views.{encoded-sound, decoded}
 use Rattle.snapshot.specs.Calls.{clearOutcome, clearHead, clearWords, loadOutcome, loadHead, loadTable, loadJournal, writeCheck, imageHere, restartHead, restartTable, restartJournal}
 use Rattle.snapshot.specs.Fresh.{freshHead}
 use Rattle.snapshot.specs.FreshView.{freshView}
-use Rattle.snapshot.proofs.Accepted.{LoadOk, load-ok, WriteOk, write-ok, used-long, write-room}
+use Rattle.snapshot.proofs.Accepted.{LoadOk, load-ok, WriteOk, write-ok, used-long, reads-back, count-back}
 
 -- the memory of a store with one state
 abbrev pub freshStore : List ℕ → ℕ → Limits → Store
@@ -123,11 +122,6 @@ module _ (table journal : List ℕ) (head : Head) where
     write-shows = refl
 
     module _ (small : head .checkpoint < 2 ^ 32) where
-      back : (numberIn (imageHere table head) ≡ head .checkpoint) × (wordsIn (imageHere table head) ≡ take (head .used) table)
-      back =
-          let b = written-reads-back (head .checkpoint) (take (head .used) table) small (write-room w .0) (w .sound .map) in
-          (b .1, b .2)
-
       abbrev restarted : Store
       restarted = record { table = restartTable table journal head room; journal = restartJournal table journal head room; head = restartHead table journal head room }
 
@@ -135,14 +129,14 @@ module _ (table journal : List ℕ) (head : Head) where
       pub restart-leaves : restarted ≡ encode (freshView (take (head .used) table) (head .checkpoint) (limitsOf table journal))
       restart-leaves =
           (λ i. record {
-            table = (new-is e (padded (length table) (wordsIn (imageHere table head))) table ∙ ap (padded (length table)) (back .1)) i;
+            table = (new-is e (padded (length table) (wordsIn (imageHere table head))) table ∙ ap (padded (length table)) (reads-back w small .2)) i;
             journal = new-is e (replicate (length journal) 0) journal i;
-            head = (new-is e (freshHead (countIn (imageHere table head)) (numberIn (imageHere table head))) head ∙ ap₂ freshHead count (back .0)) i;
+            head = (new-is e (freshHead (countIn (imageHere table head)) (numberIn (imageHere table head))) head ∙ ap₂ freshHead count (reads-back w small .1)) i;
           })
           ∙ sym (fresh-encoded (take (head .used) table) (head .checkpoint) (limitsOf table journal))
         where
           count : countIn (imageHere table head) ≡ length (take (head .used) table)
-          count = sym (words-in-length (imageHere table head)) ∙ ap length (back .1)
+          count = count-back w small ∙ sym (used-long w)
 
       pub restart-good : Good (freshView (take (head .used) table) (head .checkpoint) (limitsOf table journal))
       restart-good = fresh-good (take (head .used) table) (head .checkpoint) (limitsOf table journal) (w .sound .map) (omega (arith, used-long w, w .sound .used-in))

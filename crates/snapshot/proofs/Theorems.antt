@@ -17,7 +17,7 @@ use Rattle.grounds.proofs.Firsts.{first-not, none-met, done-not, new-is}
 use Rattle.image.specs.Bytes.{Byte}
 use Rattle.image.specs.Image.{imageB, imageOf, countIn, numberIn, wordsIn}
 use Rattle.image.proofs.ImageTest.{facts-image}
-use Rattle.image.proofs.Theorems.{written-reads-back, accepted-writes-back}
+use Rattle.image.proofs.Theorems.{accepted-writes-back}
 use Rattle.image.proofs.Words.{words-in-length}
 use Rattle.layout.specs.declared.head.Head.{Head}
 use Rattle.layout.specs.Sound.{lengthsB, soundB}
@@ -26,23 +26,20 @@ use Rattle.layout.proofs.Sounds.{Sound, facts-sound}
 use Rattle.layout.proofs.Views.{encoded-sound, padded-length}
 use Rattle.snapshot.specs.Calls.{loadCheck, loadOutcome, loadHead, loadTable, loadJournal, writeCheck, writeAnswer, writeBytes, countOr, imageHere}
 use Rattle.snapshot.specs.Fresh.{freshHead}
-use Rattle.snapshot.proofs.Accepted.{LoadOk, load-ok, write-ok, used-long, write-room}
+use Rattle.snapshot.proofs.Accepted.{LoadOk, load-ok, write-ok, reads-back, count-back}
 use Rattle.snapshot.proofs.OnViews.{load-leaves, load-good}
 
 -- an image that was written loads, into any memory in range whose table holds it, as the checkpoint's map and number
 module _ (table journal : List ℕ) (head : Head) (room : ℕ) (e : writeCheck table journal head room ≡ Done) (small : head .checkpoint < 2 ^ 32) where
-  back : (imageB (imageHere table head) ≡ true) × (numberIn (imageHere table head) ≡ head .checkpoint) × (wordsIn (imageHere table head) ≡ take (head .used) table)
-  back =
-      let w = write-ok table journal head room e in
-      written-reads-back (head .checkpoint) (take (head .used) table) small (write-room w .0) (w .sound .map)
-
   pub written-loads : (table′ journal′ : ℕ) → lengthsB table′ journal′ ≡ true → head .used ≤ table′ → loadCheck table′ journal′ (imageHere table head) ≡ Done
   written-loads table′ journal′ l h =
-      let count : countIn (imageHere table head) ≡ head .used = sym (words-in-length (imageHere table head)) ∙ ap length (back .2) ∙ used-long (write-ok table journal head room e) in
-      first-not _ _ _ (rw l) ∙ first-not _ _ _ (rw (back .0)) ∙ first-not _ _ _ (le-ltb table′ (countIn (imageHere table head)) (omega arith)) ∙ none-met
+      let w = write-ok table journal head room e in
+      first-not _ _ _ (rw l) ∙ first-not _ _ _ (rw (reads-back w small .0)) ∙ first-not _ _ _ (le-ltb table′ (countIn (imageHere table head)) (omega (arith, count-back w small))) ∙ none-met
 
   pub written-same : (numberIn (imageHere table head) ≡ head .checkpoint) × (wordsIn (imageHere table head) ≡ take (head .used) table)
-  written-same = (back .1, back .2)
+  written-same =
+      let back = reads-back (write-ok table journal head room e) small in
+      (back .1, back .2)
 
 -- an image that was accepted is written back byte for byte
 pub loaded-writes-back : (table journal image : List ℕ) → All Byte image → loadOutcome table journal image ≡ Done → imageOf (numberIn image) (wordsIn image) ≡ image
@@ -126,6 +123,5 @@ module _ (table journal : List ℕ) (head : Head) (room : ℕ) (e : writeCheck t
 
   pub write-then-load-head : loadHead table′ journal′ (imageHere table head) before ≡ freshHead (head .used) (head .checkpoint)
   write-then-load-head =
-      let same = written-same table journal head room e small in
-      let count : countIn (imageHere table head) ≡ head .used = sym (words-in-length (imageHere table head)) ∙ ap length (same .1) ∙ used-long (write-ok table journal head room e) in
-      new-is loads (freshHead (countIn (imageHere table head)) (numberIn (imageHere table head))) before ∙ ap₂ freshHead count (same .0)
+      let count : countIn (imageHere table head) ≡ head .used = count-back (write-ok table journal head room e) small in
+      new-is loads (freshHead (countIn (imageHere table head)) (numberIn (imageHere table head))) before ∙ ap₂ freshHead count (written-same table journal head room e small .0)

@@ -82,51 +82,104 @@ fn say_price(title: &[u8], table: &[u64], journal: &[u64], head: Head, offer: u3
     say_quote(title, look_up(table, journal, head, offer, state));
 }
 
+// A commit, a rollback, an issue, a forward and a release: each says what it answered, and gives the head after it.
+fn committed(title: &[u8], table: &[u64], journal: &mut [u64], head: Head, list: &[u64]) -> Head {
+    after(title, commit(table, journal, head, list))
+}
+
+fn rolled_back(title: &[u8], table: &[u64], journal: &mut [u64], head: Head, state: u32) -> Head {
+    after(title, roll_back(table, journal, head, state))
+}
+
+fn issued(
+    title: &[u8],
+    table: &[u64],
+    journal: &[u64],
+    head: Head,
+    slot: usize,
+    reads: &mut [u64],
+) -> Head {
+    after(title, issue(table, journal, head, slot, reads))
+}
+
+// Forwards to state 1.
+fn forwarded(
+    title: &[u8],
+    table: &[u64],
+    journal: &mut [u64],
+    head: Head,
+    slot: usize,
+    reads: &mut [u64],
+) -> Head {
+    after(title, forward(table, journal, head, slot, 1, reads))
+}
+
+fn released(title: &[u8], table: &[u64], journal: &mut [u64], head: Head, slot: usize) -> Head {
+    after(title, release(table, journal, head, slot))
+}
+
 // Moment 4: a commit removes offer 5; it has its price at state 0 and none at state 1.
 fn removal(table: &mut [u64], journal: &mut [u64], none: &[u64]) {
     let loaded = start(b"moment 4\n", table, journal);
-    let head = after(b"commit removes 5", commit(table, journal, loaded, none));
+    let head = committed(b"commit removes 5", table, journal, loaded, none);
+    lookups(table, journal, head);
+}
+
+fn lookups(table: &[u64], journal: &[u64], head: Head) {
+    let above: u32 = 2147483648;
     say_price(b"lookup of 5 at 0", table, journal, head, 5, 0);
     say_price(b"lookup of 5 at 1", table, journal, head, 5, 1);
     say_price(b"lookup of 5 at 2", table, journal, head, 5, 2);
-    say_price(
-        b"lookup of 2147483648 at 1",
-        table,
-        journal,
-        head,
-        2147483648,
-        1,
-    );
+    say_price(b"lookup of 2147483648 at 1", table, journal, head, above, 1);
 }
 
 // Moment 5 without its flush: a read issued at state 0 is forwarded to state 1.
 fn early_read(table: &mut [u64], journal: &mut [u64], reads: &mut [u64], changes: &[u64]) {
     let loaded = start(b"moment 5, without the flush\n", table, journal);
-    let issued = after(b"issue of 5 and 9", issue(table, journal, loaded, 0, reads));
+    read_early(table, journal, loaded, reads, changes);
+}
+
+fn read_early(
+    table: &[u64],
+    journal: &mut [u64],
+    loaded: Head,
+    reads: &mut [u64],
+    changes: &[u64],
+) {
+    let open = issued(b"issue of 5 and 9", table, journal, loaded, 0, reads);
     say_words(reads);
-    let moved = after(
-        b"commit of 5 at 1100 and 9 at 700",
-        commit(table, journal, issued, changes),
-    );
-    let head = after(b"forward to 1", forward(table, journal, moved, 0, 1, reads));
+    let title = b"commit of 5 at 1100 and 9 at 700";
+    let head = committed(title, table, journal, open, changes);
+    forwards(table, journal, head, reads);
+}
+
+// Forwards the read, and then a closed slot.
+fn forwards(table: &[u64], journal: &mut [u64], open: Head, reads: &mut [u64]) {
+    let head = forwarded(b"forward to 1", table, journal, open, 0, reads);
     say_words(reads);
-    after(
+    forwarded(
         b"forward of the closed slot",
-        forward(table, journal, head, 0, 1, reads),
+        table,
+        journal,
+        head,
+        0,
+        reads,
     );
 }
 
-// Moment 7: a state that was rolled back is committed anew. Of moment 6: no rollback above the tip.
+// Moment 7: a state that was rolled back is committed anew.
 fn correction(table: &mut [u64], journal: &mut [u64], first: &[u64], second: &[u64]) {
     let loaded = start(b"moment 7\n", table, journal);
-    let one = after(
-        b"commit of 5 at 1100",
-        commit(table, journal, loaded, first),
-    );
-    let zero = after(b"roll back to 0", roll_back(table, journal, one, 0));
-    let head = after(b"commit of 5 at 1300", commit(table, journal, zero, second));
+    let one = committed(b"commit of 5 at 1100", table, journal, loaded, first);
+    let zero = rolled_back(b"roll back to 0", table, journal, one, 0);
+    anew(table, journal, zero, second);
+}
+
+// The state committed anew. Of moment 6: no rollback above the tip.
+fn anew(table: &[u64], journal: &mut [u64], zero: Head, second: &[u64]) {
+    let head = committed(b"commit of 5 at 1300", table, journal, zero, second);
     say_price(b"lookup of 5 at 1", table, journal, head, 5, 1);
-    after(b"roll back to 2", roll_back(table, journal, head, 2));
+    rolled_back(b"roll back to 2", table, journal, head, 2);
 }
 
 // Commits 63 empty lists, and gives the head after them.
@@ -143,19 +196,27 @@ fn commit_empty(table: &[u64], journal: &mut [u64], head: Head, empty: &[u64]) -
 
 // Closes slot 7, and then no open slot.
 fn releases(table: &[u64], journal: &mut [u64], filled: Head) -> Head {
-    let head = after(b"release", release(table, journal, filled, 7));
-    after(b"release again", release(table, journal, head, 7));
-    after(b"release of slot 8", release(table, journal, head, 8));
+    let head = released(b"release", table, journal, filled, 7);
+    released(b"release again", table, journal, head, 7);
+    released(b"release of slot 8", table, journal, head, 8);
     head
 }
 
 // Moments 8 and 9, without their flush: 64 empty commits pass and the 65th does not, with a slot open or without.
 fn full(table: &mut [u64], journal: &mut [u64], reads: &mut [u64], empty: &[u64]) {
     let loaded = start(b"moments 8 and 9, without the flush\n", table, journal);
-    let issued = after(b"issue of 5", issue(table, journal, loaded, 7, reads));
-    let most = commit_empty(table, journal, issued, empty);
-    let filled = after(b"64th empty commit", commit(table, journal, most, empty));
-    after(b"65th", commit(table, journal, filled, empty));
+    fill(table, journal, loaded, reads, empty);
+}
+
+fn fill(table: &[u64], journal: &mut [u64], loaded: Head, reads: &mut [u64], empty: &[u64]) {
+    let open = issued(b"issue of 5", table, journal, loaded, 7, reads);
+    let most = commit_empty(table, journal, open, empty);
+    one_too_many(table, journal, most, empty);
+}
+
+fn one_too_many(table: &[u64], journal: &mut [u64], most: Head, empty: &[u64]) {
+    let filled = committed(b"64th empty commit", table, journal, most, empty);
+    committed(b"65th", table, journal, filled, empty);
     let head = releases(table, journal, filled);
     say_price(b"lookup of 5 at 64", table, journal, head, 5, 64);
 }
