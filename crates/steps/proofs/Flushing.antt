@@ -22,6 +22,7 @@ use Rattle.grounds.specs.First.{Ground, met, first}
 use Rattle.grounds.proofs.Firsts.{done-not, first-met, first-not, none-met}
 use Rattle.layout.specs.declared.head.Head.{Head}
 use Rattle.layout.specs.States.{stepIndex, mapHere}
+use Rattle.layout.specs.Tests.{zerosB}
 use Rattle.layout.specs.Trim.{Trimmable}
 use Rattle.layout.specs.View.{padded, Shaped}
 use Rattle.layout.proofs.HeadTests.{InRange, lengths-facts}
@@ -102,6 +103,26 @@ flush-ok table journal head state e =
       fits = ltb-false (length table) (length (mapHere table journal head state)) (f .0);
     }
 
+-- words with zeros behind: from a place on there are zeros only, and a map written to their start, with zeros up to the used words, is
+-- the map padded
+zeros-on : (l : List ℕ) (used n : ℕ) → used ≤ n → zerosB (drop used l) ≡ true → drop n l ≡ replicate (length l - n) 0
+zeros-on l used n h z =
+    let sum : used + (n - used) ≡ n = omega arith in
+    let rest : length (drop used l) - (n - used) ≡ length l - n = omega (arith, length-drop used l) in
+    ap (λ (k : ℕ). drop k l) (sym sum)
+    ∙ sym (drop-drop (n - used) used l)
+    ∙ ap (drop (n - used)) (zeros-fact (drop used l) z)
+    ∙ zeros-from (n - used) (length (drop used l))
+    ∙ ap (λ (k : ℕ). replicate k 0) rest
+
+zeros-join : (l : List ℕ) (used : ℕ) (m : List ℕ) (n : ℕ) → n ≡ length m → (used ≤ length l) × (n ≤ length l) → zerosB (drop used l) ≡ true
+    → m ++ replicate (used - n) 0 ++ drop (max used n) l ≡ padded (length l) m
+zeros-join l used m n e h z =
+    let zeros : used - n + (length l - max used n) ≡ length l - length m = omega (arith, h .0, h .1) in
+    ap (λ (r : List ℕ). m ++ replicate (used - n) 0 ++ r) (zeros-on l used (max used n) (omega arith) z)
+    ∙ append-assoc m (replicate (used - n) 0) (replicate (length l - max used n) 0)
+    ∙ ap (λ (r : List ℕ). m ++ r) (replicate-append-replicate (used - n) (length l - max used n) 0 ∙ ap (λ (k : ℕ). replicate k 0) zeros)
+
 -- a plan
 module _ {table journal : List ℕ} {head : Head} {state : ℕ} {changes aside : List ℕ} {n a size : ℕ} (f : FlushPlan table journal head state changes aside n a size) where
   pub changes-in : n ≡ length (take n changes)
@@ -179,27 +200,13 @@ module _ {table journal : List ℕ} {head : Head} {state : ℕ} (p : Shaped head
           fits = rw (f .changes-are) (plan-fits f h);
         }
 
-    -- the words behind the map are zero, as those behind the used words were
     pub table-is : (used : ℕ) (last : List ℕ) → used ≡ length (apply (take (head .used) table) (take n changes))
         → last ≡ apply (take (head .used) table) (take n changes) ++ replicate (head .used - used) 0 ++ drop (max (head .used) used) table
         → last ≡ padded (length table) (mapHere table journal head state)
     table-is used last eu el =
-        let m = mapHere table journal head state in
-        let map-same : apply (take (head .used) table) (take n changes) ≡ m = ap (apply (take (head .used) table)) (f .changes-are) in
-        let count : used ≡ length m = eu ∙ ap length map-same in
-        let sum : head .used + (max (head .used) used - head .used) ≡ max (head .used) used = omega arith in
-        let rest : length (drop (head .used) table) - (max (head .used) used - head .used) ≡ length table - max (head .used) used = omega (arith, length-drop (head .used) table) in
-        let behind : drop (max (head .used) used) table ≡ replicate (length table - max (head .used) used) 0 =
-        ap (λ (k : ℕ). drop k table) (sym sum)
-        ∙ sym (drop-drop (max (head .used) used - head .used) (head .used) table)
-        ∙ ap (drop (max (head .used) used - head .used)) (zeros-fact (drop (head .used) table) (ok .sound .table-zeros))
-        ∙ zeros-from (max (head .used) used - head .used) (length (drop (head .used) table))
-        ∙ ap (λ (k : ℕ). replicate k 0) rest in
-        let zeros : head .used - used + (length table - max (head .used) used) ≡ length table - length m = omega (arith, plan-fits f h, ok .sound .used-in) in
         el
-        ∙ ap₂ (λ (x y : List ℕ). x ++ replicate (head .used - used) 0 ++ y) map-same behind
-        ∙ append-assoc m (replicate (head .used - used) 0) (replicate (length table - max (head .used) used) 0)
-        ∙ ap (λ (l : List ℕ). m ++ l) (replicate-append-replicate (head .used - used) (length table - max (head .used) used) 0 ∙ ap (λ (k : ℕ). replicate k 0) zeros)
+        ∙ zeros-join table (head .used) (apply (take (head .used) table) (take n changes)) used eu (ok .sound .used-in, omega (arith, eu, can-apply .fits)) (ok .sound .table-zeros)
+        ∙ ap (λ (d : List ℕ). padded (length table) (apply (take (head .used) table) d)) (f .changes-are)
 
   -- the floor of the flushed head does not fall, and its steps can be trimmed
   pub flushed-trimmable : (used : ℕ) → Trimmable journal (flushedHead head used state)

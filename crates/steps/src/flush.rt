@@ -3,6 +3,7 @@
 use grounds::Outcome;
 use grounds::Refusal;
 use layout::head::Head;
+use layout::head::JOURNAL_WORDS;
 use layout::head::Stored;
 use layout::sound::is_sound;
 use layout::sound::lengths_fit;
@@ -60,10 +61,13 @@ fn plan_flush(
     let to = (state - head.oldest) as usize;
     let count = compose_run(journal, &head.ends, from, to, changes, aside);
     let plan = prepare(&table[..used], &changes[..count], aside);
+    let kept = plan.kept;
+    let added = plan.added;
+    let size = kept + added;
     Plan {
         changes: count,
-        added: plan.added,
-        size: plan.kept + plan.added,
+        added,
+        size,
     }
 }
 
@@ -84,8 +88,8 @@ pub fn flush(table: &mut [u64], journal: &mut [u64], head: Head, state: u32) -> 
     let Outcome::Done = outcome else {
         return Stored { outcome, head };
     };
-    let mut changes = [0u64; 4096];
-    let mut aside = [0u64; 4096];
+    let mut changes = [0u64; JOURNAL_WORDS];
+    let mut aside = [0u64; JOURNAL_WORDS];
     let plan = plan_flush(table, journal, head, state, &mut changes, &mut aside);
     let size = plan.size;
     if table.len() < size {
