@@ -8,25 +8,41 @@ use crate::plain::Plain;
 use crate::store::Store;
 use crate::unit::{Answer, Call, Reply, Unit};
 use crate::{batch, image, word};
+use std::collections::BTreeSet;
 use std::fmt;
 
 /// What was checked.
 #[derive(Clone, Debug, Default, PartialEq, Eq)]
 pub struct Report {
     pub runs: u64,
+    /// Calls made on a unit and on a plain list.
     pub calls: u64,
     pub accepted: u64,
+    /// The refusals among them: the call's word and document 01's number.
+    pub refusals: BTreeSet<(&'static str, u8)>,
+    /// Prices and forwarded reads compared in two stores with different flushes.
     pub compared: u64,
     pub batches: u64,
 }
 
+impl Report {
+    fn note(&mut self, call: &Call, answer: Answer) {
+        self.calls += 1;
+        match answer {
+            Answer::Refused(ground) => {
+                self.refusals.insert((call.name(), ground.number()));
+            }
+            _ => self.accepted += 1,
+        }
+    }
+}
+
 impl fmt::Display for Report {
     fn fmt(&self, f: &mut fmt::Formatter<'_>) -> fmt::Result {
-        let Report { runs, calls, accepted, compared, batches } = self;
-        write!(
-            f,
-            "runs {runs} calls {calls} accepted {accepted} compared in two stores {compared} batches {batches}"
-        )
+        let Report { runs, calls, accepted, refusals, compared, batches } = self;
+        let refusals = refusals.len();
+        write!(f, "runs {runs} calls {calls} accepted {accepted} refusals met {refusals} ")?;
+        write!(f, "compared in two stores {compared} batches {batches}")
     }
 }
 
@@ -54,6 +70,7 @@ fn expect<T: PartialEq + fmt::Debug>(what: &str, unit: T, plain: T) -> Result<()
 // The unit against the plain list.
 
 /// A unit and the plain list beside it, and the tally counted from the accepted calls.
+#[derive(Clone)]
 struct Pair {
     unit: Unit,
     plain: Plain,
@@ -62,14 +79,14 @@ struct Pair {
 
 fn against_plain(seed: u64, report: &mut Report) -> Result<(), String> {
     let mut draw = Draw::new(seed);
-    let Some(mut pair) = load_both(&mut draw)? else {
+    let Some(mut pair) = load_both(&mut draw, report)? else {
         return Ok(());
     };
+    let weights = if draw.rng.percent(20) { MANY_COMMITS } else { MIXED };
     for _ in 0..draw.rng.within(20, 200) {
-        let call = draw_call(&mut draw, &mut pair.unit);
+        let call = draw_call(&mut draw, &weights, &mut pair.unit);
         let reply = pair.step(&call).map_err(|difference| format!("{call:?}: {difference}"))?;
-        report.calls += 1;
-        report.accepted += u64::from(!matches!(reply.answer, Answer::Refused(_)));
+        report.note(&call, reply.answer);
         if draw.rng.percent(10) {
             pair.compare_maps()?;
         }
@@ -77,8 +94,14 @@ fn against_plain(seed: u64, report: &mut Report) -> Result<(), String> {
     pair.compare_maps()
 }
 
+/// Memory of a length that holds anything.
+fn used_memory(draw: &mut Draw, length: usize) -> Vec<u64> {
+    let any = draw.rng.bits();
+    (0..length as u64).map(|index| any.wrapping_mul(2 * index + 1)).collect()
+}
+
 /// Loads a drawn image into a unit and a plain list; gives none if both refuse it alike.
-fn load_both(draw: &mut Draw) -> Result<Option<Pair>, String> {
+fn load_both(draw: &mut Draw, report: &mut Report) -> Result<Option<Pair>, String> {
     let most = draw.rng.pick(&[1, 3, 8, 100, 8000]);
     let table = draw.rng.within(1, most);
     let most = draw.rng.pick(&[1, 10, 60, 400, 4096]);
@@ -89,8 +112,13 @@ fn load_both(draw: &mut Draw) -> Result<Option<Pair>, String> {
         let at = draw.rng.below(bytes.len());
         bytes[at] ^= 1 << draw.rng.below(8);
     }
-    let mut unit = Unit { store: Store::of_lengths(table, journal), bytes, ..Unit::default() };
+    let mut store = Store::of_lengths(table, journal);
+    store.table = used_memory(draw, table);
+    store.journal = used_memory(draw, journal);
+    store.tally.flushed = draw.rng.bits();
+    let mut unit = Unit { store, bytes, ..Unit::default() };
     let answer = unit.serve(&Call::Load).answer;
+    report.note(&Call::Load, answer);
     match Plain::load(&unit.bytes, table, journal) {
         Ok(plain) => {
             expect("load", answer, Answer::Done)?;
@@ -103,20 +131,25 @@ fn load_both(draw: &mut Draw) -> Result<Option<Pair>, String> {
     }
 }
 
+/// How often each call is drawn, in the order of [`draw_call`]: all of them, or so many commits that the steps run out.
+const MIXED: [usize; 9] = [30, 0, 5, 8, 20, 12, 12, 4, 4];
+const MANY_COMMITS: [usize; 9] = [2, 80, 2, 2, 10, 4, 2, 1, 1];
+
 /// Draws one of the named calls, most of them to be accepted.
-fn draw_call(draw: &mut Draw, unit: &mut Unit) -> Call {
+fn draw_call(draw: &mut Draw, weights: &[usize; 9], unit: &mut Unit) -> Call {
     let head = &unit.store.head;
-    let state = draw.state(head.checkpoint, head.tip);
-    match draw.rng.weighted(&[30, 5, 8, 20, 12, 12, 4, 4]) {
+    let state = draw.state(head);
+    match draw.rng.weighted(weights) {
         0 if draw.rng.percent(95) => Call::Commit { list: draw.changes() },
         0 => Call::Commit { list: draw.broken_list() },
-        1 => Call::RollBack { state },
-        2 => Call::Flush { state },
-        3 if draw.rng.percent(95) => Call::LookUp { offer: draw.offer(), state },
-        3 => Call::LookUp { offer: draw.offer() + word::OFFERS, state },
-        4 => Call::Issue { slot: draw.slot(&head.held, false), list: draw_question(draw) },
-        5 => Call::Forward { slot: draw.slot(&head.held, true), state, with: None },
-        6 => Call::Release { slot: draw.slot(&head.held, true) },
+        1 => Call::Commit { list: draw.short_changes() },
+        2 => Call::RollBack { state },
+        3 => Call::Flush { state },
+        4 if draw.rng.percent(95) => Call::LookUp { offer: draw.offer(), state },
+        4 => Call::LookUp { offer: draw.offer() + word::OFFERS, state },
+        5 => Call::Issue { slot: draw.slot(&head.held, false), list: draw_question(draw) },
+        6 => Call::Forward { slot: draw.slot(&head.held, true), state, with: None },
+        7 => Call::Release { slot: draw.slot(&head.held, true) },
         _ => {
             let exact = image::length(head.used as usize);
             unit.bytes = vec![0xEE; draw.rng.pick(&[exact, exact - 1, exact + 9])];
@@ -220,6 +253,52 @@ impl Pair {
     }
 }
 
+// All short runs.
+
+/// Makes every run of so many accepted calls, out of a few on a small store, and every refused call after each of them;
+/// gives the number of calls made, or the first difference.
+pub fn all_short_runs(table: usize, journal: usize, length: usize) -> Result<u64, String> {
+    let bytes = image::write(0, &[word::entry(0, Some(3))]);
+    let plain = Plain::load(&bytes, table, journal).map_err(|ground| format!("load: {ground:?}"))?;
+    let mut unit = Unit { store: Store::of_lengths(table, journal), bytes, ..Unit::default() };
+    expect("load", unit.serve(&Call::Load).answer, Answer::Done)?;
+    let pair = Pair { unit, plain, tally: Tally::default() };
+    runs_after(&pair, &few_calls(), length)
+}
+
+fn runs_after(pair: &Pair, calls: &[Call], length: usize) -> Result<u64, String> {
+    let mut count = 0;
+    for call in calls {
+        let mut next = pair.clone();
+        let told = |difference: String| format!("{call:?} on {:?}: {difference}", pair.unit);
+        let reply = next.step(call).map_err(told)?;
+        count += 1;
+        if !matches!(reply.answer, Answer::Refused(_)) {
+            next.compare_maps().map_err(told)?;
+            if length > 1 {
+                count += runs_after(&next, calls, length - 1)?;
+            }
+        }
+    }
+    Ok(count)
+}
+
+/// Calls on offers 0 and 1, states 0 to 2 and slots 0 and 1.
+fn few_calls() -> Vec<Call> {
+    let puts = [word::entry(0, Some(0)), word::entry(1, Some(1))];
+    let removals = [word::entry(0, None), word::entry(1, None)];
+    let lists = [vec![], vec![puts[0]], vec![removals[0]], vec![puts[1]], vec![removals[0], puts[1]]];
+    let mut calls: Vec<Call> = lists.map(|list| Call::Commit { list }).into();
+    for state in 0..3 {
+        calls.extend([Call::RollBack { state }, Call::Flush { state }]);
+        calls.extend([0, 1].map(|slot| Call::Forward { slot, state, with: None }));
+    }
+    for slot in 0..2 {
+        calls.extend([Call::Issue { slot, list: removals.to_vec() }, Call::Release { slot }]);
+    }
+    calls
+}
+
 // Two stores whose accepted calls agree, flushes apart.
 
 fn two_stores(seed: u64, report: &mut Report) -> Result<(), String> {
@@ -229,12 +308,12 @@ fn two_stores(seed: u64, report: &mut Report) -> Result<(), String> {
     for _ in 0..draw.rng.within(20, 120) {
         for unit in &mut units {
             if draw.rng.percent(20) {
-                let state = draw.state(unit.store.head.checkpoint, unit.store.head.tip);
+                let state = draw.state(&unit.store.head);
                 unit.serve(&Call::Flush { state });
             }
         }
         let latest = if units[0].store.head.checkpoint > units[1].store.head.checkpoint { 0 } else { 1 };
-        let call = draw_call(&mut draw, &mut units[latest]);
+        let call = draw_call(&mut draw, &MIXED, &mut units[latest]);
         if matches!(call, Call::Flush { .. }) {
             continue;
         }

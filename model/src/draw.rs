@@ -1,7 +1,7 @@
 //! Drawing arguments: offers, prices, lists, states and slots, with their ends drawn often.
 
 use crate::changes::Changes;
-use crate::head::SLOTS;
+use crate::head::{Head, SLOTS};
 use crate::rng::Rng;
 use crate::word;
 
@@ -127,22 +127,17 @@ impl Draw {
         }
     }
 
-    /// A state, mostly one from a checkpoint to a tip.
-    pub fn state(&mut self, checkpoint: u32, tip: u32) -> u32 {
+    /// A state, mostly one that a head keeps, from its checkpoint to its tip; at times one just outside.
+    pub fn state(&mut self, head: &Head) -> u32 {
+        let Head { oldest, checkpoint, tip, .. } = *head;
         if self.rng.percent(80) && checkpoint <= tip {
             let kept = (tip - checkpoint).min(200) as usize;
             return checkpoint + self.rng.within(0, kept) as u32;
         }
         let anything = self.rng.bits() as u32;
-        self.rng.pick(&[
-            checkpoint.saturating_sub(1),
-            tip.saturating_add(1),
-            checkpoint,
-            tip,
-            0,
-            u32::MAX,
-            anything,
-        ])
+        let below = checkpoint.saturating_sub(1);
+        let above = tip.saturating_add(1);
+        self.rng.pick(&[below, below, oldest, above, above, checkpoint, tip, 0, u32::MAX, anything])
     }
 
     /// A slot, mostly one that is open or closed as wanted.

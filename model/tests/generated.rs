@@ -3,7 +3,7 @@
 mod common;
 
 use common::{all_answers, run, ANSWERS};
-use model::check::self_check;
+use model::check::{all_short_runs, self_check};
 use model::gen::{script, Coverage};
 use model::sound::CLAUSES;
 
@@ -64,4 +64,22 @@ fn unit_against_plain_list() {
     assert_eq!(report.runs, 600);
     assert!(report.accepted > 20_000 && report.calls - report.accepted > 10_000, "{report}");
     assert!(report.compared > 5_000, "{report}");
+    for (call, answers) in ANSWERS {
+        for answer in answers.iter().filter(|_| !["clear", "restart", "price_batch"].contains(&call)) {
+            let number = answer.strip_prefix("refused ").and_then(|number| number.parse().ok());
+            // In the named calls 1 and 2 do not arise, nor 6 at a forward.
+            let arises = |number| number > 2 && (call, number) != ("forward", 6);
+            let met = |number| report.refusals.contains(&(call, number));
+            assert!(number.is_none_or(|number| met(number) == arises(number)), "{call} {answer}");
+        }
+    }
+}
+
+/// Every run of up to five calls that are accepted, on tables of 1 and 2 words and journals of 1 and 3.
+#[test]
+fn all_short_runs_agree() {
+    for (table, journal) in [(1, 1), (1, 3), (2, 3)] {
+        let calls = all_short_runs(table, journal, 5).unwrap_or_else(|difference| panic!("{difference}"));
+        assert!(calls > 100_000, "{calls} calls");
+    }
 }

@@ -3,7 +3,7 @@
 mod common;
 
 use common::{all_answers, files, run};
-use model::gen::{items, Item};
+use model::gen::{items, script, Item};
 use model::rng::Rng;
 use model::script::{lines, parse, respond, Line, Poke, LINE_BYTES};
 use model::unit::{Call, Unit};
@@ -43,6 +43,23 @@ fn stored_output_is_the_models() {
         let stored = std::fs::read_to_string(file.with_extension("out")).expect("each script has its output");
         assert!(run(&script) == stored, "{} prints something else", file.display());
     }
+}
+
+/// A stored random script is the one that its first line names.
+#[test]
+fn stored_random_scripts_are_the_generators() {
+    let mut count = 0;
+    for (file, stored) in files("scripts", "script") {
+        let title = String::from_utf8_lossy(lines(&stored).next().unwrap_or_default()).into_owned();
+        if let Some((seed, calls)) =
+            title.strip_prefix("# model generate ").and_then(|rest| rest.split_once(' '))
+        {
+            let (seed, calls) = (seed.parse().expect("a seed"), calls.parse().expect("a count"));
+            assert!(script(seed, calls).0 == stored, "{}", file.display());
+            count += 1;
+        }
+    }
+    assert!(count >= 3);
 }
 
 /// The script of refusals has every answer of every call among what its comments expect.

@@ -9,7 +9,7 @@ use crate::unit::Call;
 use crate::word;
 
 /// How often each call is drawn, in the order of [`Generator::one_call`].
-pub(super) const WEIGHTS: [usize; 12] = [1, 4, 5, 3, 22, 6, 9, 14, 11, 11, 4, 10];
+pub(super) const WEIGHTS: [usize; 12] = [1, 4, 8, 2, 50, 12, 22, 28, 26, 18, 6, 20];
 
 impl Generator {
     /// One call, by its index in [`WEIGHTS`].
@@ -32,7 +32,7 @@ impl Generator {
     }
 
     fn state(&mut self) -> u32 {
-        self.draw.state(self.unit.store.head.checkpoint, self.unit.store.head.tip)
+        self.draw.state(&self.unit.store.head)
     }
 
     fn slot(&mut self, open: bool) -> u64 {

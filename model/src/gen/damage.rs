@@ -33,7 +33,7 @@ impl Generator {
             self.emit(command);
         }
         let count = self.draw.rng.within(1, 3);
-        self.some_calls(count);
+        self.any_calls(count);
         if !self.unit.store.is_sound() && self.draw.rng.percent(90) {
             while let Some(repair) = repairs.pop() {
                 self.emit(repair);

@@ -25,15 +25,21 @@ pub enum Item {
 /// A random script with at least so many calls, and what it meets.
 pub fn script(seed: u64, calls: usize) -> (Vec<u8>, Coverage) {
     let (items, coverage) = items(seed, calls);
-    let mut text = format!("# model generate {seed} {calls}\n").into_bytes();
-    for item in &items {
+    let title = format!("# model generate {seed} {calls}\n").into_bytes();
+    ([title, text(&items)].concat(), coverage)
+}
+
+/// The lines as a script.
+pub fn text(items: &[Item]) -> Vec<u8> {
+    let mut text = Vec::new();
+    for item in items {
         match item {
             Item::Command(command) => text.extend(command.to_string().bytes()),
             Item::Noise(line) => text.extend(line),
         }
         text.push(b'\n');
     }
-    (text, coverage)
+    text
 }
 
 /// The lines of a random script with at least so many calls, and what it meets.
@@ -46,7 +52,7 @@ pub fn items(seed: u64, calls: usize) -> (Vec<Item>, Coverage) {
         coverage: Coverage::default(),
     };
     if generator.draw.rng.percent(20) {
-        generator.some_calls(3);
+        generator.any_calls(3);
     }
     generator.set_up();
     while generator.calls < calls {
@@ -67,7 +73,9 @@ struct Generator {
 impl Generator {
     /// Adds a command to the script and carries it out.
     fn emit(&mut self, command: Command) {
-        perform(&mut self.unit, &command);
+        if !matches!(command, Command::Show(_)) {
+            perform(&mut self.unit, &command);
+        }
         self.items.push(Item::Command(command));
     }
 
@@ -86,24 +94,27 @@ impl Generator {
 
     /// One thing after another: mostly a call, at times something that comes between calls.
     fn episode(&mut self) {
-        match self.draw.rng.weighted(&[20, 50, 30, 25, 6, 10, 859]) {
+        match self.draw.rng.weighted(&[15, 70, 40, 25, 8, 10, 832]) {
             0 => self.set_up(),
             1 => self.break_a_clause(),
             2 => self.damage_at_random(),
             3 => self.noise(),
             4 => self.many_commits(),
             5 => self.poke_tally(),
-            _ => self.some_calls(1),
+            _ => {
+                let which = self.draw.rng.weighted(&calls::WEIGHTS);
+                self.one_call(which);
+            }
         }
         if !self.unit.store.is_sound() && self.draw.rng.percent(50) {
             self.set_up();
         }
     }
 
-    /// Some calls, drawn one by one.
-    fn some_calls(&mut self, count: usize) {
+    /// Some calls, each kind as often as any other.
+    fn any_calls(&mut self, count: usize) {
         for _ in 0..count {
-            let which = self.draw.rng.weighted(&calls::WEIGHTS);
+            let which = self.draw.rng.below(calls::WEIGHTS.len());
             self.one_call(which);
         }
     }

@@ -13,7 +13,7 @@ impl Generator {
         if self.draw.rng.percent(25) {
             self.lend_out_of_range();
             let count = self.draw.rng.within(1, 6);
-            self.some_calls(count);
+            self.any_calls(count);
         }
         let (table, journal) = (self.table_length(), self.journal_length());
         self.lend(table, journal);
