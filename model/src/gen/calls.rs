@@ -8,8 +8,12 @@ use crate::script::LIST_WORDS;
 use crate::unit::Call;
 use crate::word;
 
-/// How often each call is drawn, in the order of [`Generator::one_call`].
-pub(super) const WEIGHTS: [usize; 12] = [1, 4, 8, 2, 50, 12, 22, 28, 26, 18, 6, 20];
+/// How often each call is drawn, in the order of [`Generator::one_call`]. What begins a store anew is rare, so that stores live
+/// long enough for open slots to fall behind the checkpoint and for steps to run out.
+pub(super) const WEIGHTS: [usize; 12] = [1, 6, 16, 3, 100, 24, 44, 56, 52, 40, 10, 40];
+
+/// The same on damaged memory and on memory of wrong lengths: each call, but seldom one that mends the store.
+pub(super) const EVEN: [usize; 12] = [1, 1, 4, 4, 4, 4, 4, 4, 4, 4, 4, 2];
 
 impl Generator {
     /// One call, by its index in [`WEIGHTS`].

@@ -94,7 +94,7 @@ impl Generator {
 
     /// One thing after another: mostly a call, at times something that comes between calls.
     fn episode(&mut self) {
-        match self.draw.rng.weighted(&[15, 70, 40, 25, 8, 10, 832]) {
+        match self.draw.rng.weighted(&[10, 70, 40, 25, 8, 10, 837]) {
             0 => self.set_up(),
             1 => self.break_a_clause(),
             2 => self.damage_at_random(),
@@ -111,10 +111,10 @@ impl Generator {
         }
     }
 
-    /// Some calls, each kind as often as any other.
+    /// Some calls on a store that is damaged or of wrong lengths.
     fn any_calls(&mut self, count: usize) {
         for _ in 0..count {
-            let which = self.draw.rng.below(calls::WEIGHTS.len());
+            let which = self.draw.rng.weighted(&calls::EVEN);
             self.one_call(which);
         }
     }
