@@ -1,0 +1,379 @@
+//! The model's check of itself: the store on raw memory against the plain list of whole maps, over the named calls of
+//! document 01's third condition; two stores with different flushes; and batches against orders run on whole maps.
+
+use crate::changes::{apply, changes_of, map_of, words_of, Map};
+use crate::draw::Draw;
+use crate::head::{count_on, Tally};
+use crate::plain::Plain;
+use crate::store::Store;
+use crate::unit::{Answer, Call, Reply, Unit};
+use crate::{batch, image, word};
+use std::collections::BTreeSet;
+use std::fmt;
+
+/// What was checked.
+#[derive(Clone, Debug, Default, PartialEq, Eq)]
+pub struct Report {
+    pub runs: u64,
+    /// Calls made on a unit and on a plain list.
+    pub calls: u64,
+    pub accepted: u64,
+    /// The refusals among them: the call's word and document 01's number.
+    pub refusals: BTreeSet<(&'static str, u8)>,
+    /// Prices and forwarded reads compared in two stores with different flushes.
+    pub compared: u64,
+    pub batches: u64,
+}
+
+impl Report {
+    fn note(&mut self, call: &Call, answer: Answer) {
+        self.calls += 1;
+        match answer {
+            Answer::Refused(ground) => {
+                self.refusals.insert((call.name(), ground.number()));
+            }
+            _ => self.accepted += 1,
+        }
+    }
+}
+
+impl fmt::Display for Report {
+    fn fmt(&self, f: &mut fmt::Formatter<'_>) -> fmt::Result {
+        let Report { runs, calls, accepted, refusals, compared, batches } = self;
+        let refusals = refusals.len();
+        write!(f, "runs {runs} calls {calls} accepted {accepted} refusals met {refusals} ")?;
+        write!(f, "compared in two stores {compared} batches {batches}")
+    }
+}
+
+/// Checks so many runs of seeds from one on; gives what was checked, or the first difference.
+pub fn self_check(seed: u64, runs: u64) -> Result<Report, String> {
+    let mut report = Report::default();
+    for seed in (0..runs).map(|run| seed.wrapping_add(run)) {
+        let told = |difference: String| format!("seed {seed}: {difference}");
+        against_plain(seed, &mut report).map_err(told)?;
+        two_stores(seed, &mut report).map_err(told)?;
+        batches(seed, &mut report).map_err(told)?;
+        report.runs += 1;
+    }
+    Ok(report)
+}
+
+fn expect<T: PartialEq + fmt::Debug>(what: &str, unit: T, plain: T) -> Result<(), String> {
+    if unit == plain {
+        Ok(())
+    } else {
+        Err(format!("{what}: {unit:?} and not {plain:?}"))
+    }
+}
+
+// The unit against the plain list.
+
+/// A unit and the plain list beside it, and the tally counted from the accepted calls.
+#[derive(Clone)]
+struct Pair {
+    unit: Unit,
+    plain: Plain,
+    tally: Tally,
+}
+
+fn against_plain(seed: u64, report: &mut Report) -> Result<(), String> {
+    let mut draw = Draw::new(seed);
+    let Some(mut pair) = load_both(&mut draw, report)? else {
+        return Ok(());
+    };
+    let weights = if draw.rng.percent(20) { MANY_COMMITS } else { MIXED };
+    for _ in 0..draw.rng.within(20, 200) {
+        let call = draw_call(&mut draw, &weights, &mut pair.unit);
+        let reply = pair.step(&call).map_err(|difference| format!("{call:?}: {difference}"))?;
+        report.note(&call, reply.answer);
+        if draw.rng.percent(10) {
+            pair.compare_maps()?;
+        }
+    }
+    pair.compare_maps()
+}
+
+/// Memory of a length that holds anything.
+fn used_memory(draw: &mut Draw, length: usize) -> Vec<u64> {
+    let any = draw.rng.bits();
+    (0..length as u64).map(|index| any.wrapping_mul(2 * index + 1)).collect()
+}
+
+/// Loads a drawn image into a unit and a plain list; gives none if both refuse it alike.
+fn load_both(draw: &mut Draw, report: &mut Report) -> Result<Option<Pair>, String> {
+    let most = draw.rng.pick(&[1, 3, 8, 100, 8000]);
+    let table = draw.rng.within(1, most);
+    let most = draw.rng.pick(&[1, 10, 60, 400, 4096]);
+    let journal = draw.rng.within(1, most);
+    let words = draw.map(table + 1);
+    let mut bytes = image::write(draw.number(), &words);
+    if draw.rng.percent(5) {
+        let at = draw.rng.below(bytes.len());
+        bytes[at] ^= 1 << draw.rng.below(8);
+    }
+    let mut store = Store::of_lengths(table, journal);
+    store.table = used_memory(draw, table);
+    store.journal = used_memory(draw, journal);
+    store.tally.flushed = draw.rng.bits();
+    let mut unit = Unit { store, bytes, ..Unit::default() };
+    let answer = unit.serve(&Call::Load).answer;
+    report.note(&Call::Load, answer);
+    match Plain::load(&unit.bytes, table, journal) {
+        Ok(plain) => {
+            expect("load", answer, Answer::Done)?;
+            Ok(Some(Pair { unit, plain, tally: Tally::default() }))
+        }
+        Err(ground) => {
+            expect("load", answer, Answer::Refused(ground))?;
+            Ok(None)
+        }
+    }
+}
+
+/// How often each call is drawn, in the order of [`draw_call`]: all of them, or so many commits that the steps run out.
+const MIXED: [usize; 9] = [30, 0, 5, 8, 20, 12, 12, 4, 4];
+const MANY_COMMITS: [usize; 9] = [2, 80, 2, 2, 10, 4, 2, 1, 1];
+
+/// Draws one of the named calls, most of them to be accepted.
+fn draw_call(draw: &mut Draw, weights: &[usize; 9], unit: &mut Unit) -> Call {
+    let head = &unit.store.head;
+    let state = draw.state(head);
+    match draw.rng.weighted(weights) {
+        0 if draw.rng.percent(95) => Call::Commit { list: draw.changes() },
+        0 => Call::Commit { list: draw.broken_list() },
+        1 => Call::Commit { list: draw.short_changes() },
+        2 => Call::RollBack { state },
+        3 => Call::Flush { state },
+        4 if draw.rng.percent(95) => Call::LookUp { offer: draw.offer(), state },
+        4 => Call::LookUp { offer: draw.offer() + word::OFFERS, state },
+        5 => Call::Issue { slot: draw.slot(&head.held, false), list: draw_question(draw) },
+        6 => Call::Forward { slot: draw.slot(&head.held, true), state, with: None },
+        7 => Call::Release { slot: draw.slot(&head.held, true) },
+        _ => {
+            let exact = image::length(head.used as usize);
+            unit.bytes = vec![0xEE; draw.rng.pick(&[exact, exact - 1, exact + 9])];
+            Call::WriteImage
+        }
+    }
+}
+
+fn draw_question(draw: &mut Draw) -> Vec<u64> {
+    match draw.rng.below(20) {
+        0 => draw.broken_list(),
+        1 => vec![word::entry(draw.offer(), Some(0))],
+        _ => draw.questions(),
+    }
+}
+
+impl Pair {
+    /// Makes a call on both and compares answers, words, bytes, tally and, if it is refused, all memory.
+    fn step(&mut self, call: &Call) -> Result<Reply, String> {
+        let before = self.unit.clone();
+        let reply = self.unit.serve(call);
+        let (expected, bytes) = self.plain_step(call, &before);
+        expect("answer", &reply, &expected)?;
+        expect("bytes", &self.unit.bytes, &bytes)?;
+        if matches!(reply.answer, Answer::Refused(_)) {
+            expect("refused, unit", &self.unit, &before)?;
+        } else {
+            self.count(call, &before);
+        }
+        self.compare_numbers()?;
+        Ok(reply)
+    }
+
+    /// What the plain list answers, and the bytes after the call.
+    fn plain_step(&mut self, call: &Call, before: &Unit) -> (Reply, Vec<u8>) {
+        let plain = &mut self.plain;
+        let mut bytes = before.bytes.clone();
+        let mut words = Vec::new();
+        let outcome = match call {
+            Call::Commit { list } => plain.commit(list).map(|()| Answer::Done),
+            Call::RollBack { state } => plain.roll_back(*state).map(|()| Answer::Done),
+            Call::Flush { state } => plain.flush(*state).map(|()| Answer::Done),
+            Call::LookUp { offer, state } => {
+                plain.look_up(*offer, *state).map(|price| price.map_or(Answer::NoPrice, Answer::Price))
+            }
+            Call::Issue { slot, list } => {
+                words = list.clone();
+                plain.issue(*slot, list).map(|filled| {
+                    words = filled;
+                    Answer::Done
+                })
+            }
+            Call::Forward { slot, state, .. } => {
+                words = before.filled_at(*slot).to_vec();
+                plain.forward(*slot, *state).map(|shown| {
+                    words = shown;
+                    Answer::Done
+                })
+            }
+            Call::Release { slot } => plain.release(*slot).map(|()| Answer::Done),
+            Call::WriteImage => plain.write_image(bytes.len()).map(|image| {
+                bytes[..image.len()].copy_from_slice(&image);
+                Answer::Count(image.len())
+            }),
+            Call::Clear | Call::Load | Call::Restart | Call::PriceBatch { .. } => {
+                unreachable!("not one of the named calls")
+            }
+        };
+        let answer = outcome.unwrap_or_else(Answer::Refused);
+        (Reply { answer, words }, bytes)
+    }
+
+    /// Counts an accepted call.
+    fn count(&mut self, call: &Call, before: &Unit) {
+        match call {
+            Call::Commit { .. } => count_on(&mut self.tally.committed, 1),
+            Call::RollBack { state } => count_on(&mut self.tally.rolled_back, before.store.head.tip - state),
+            Call::Flush { state } => count_on(&mut self.tally.flushed, state - before.store.head.checkpoint),
+            _ => {}
+        }
+    }
+
+    /// Soundness, checkpoint and tip, the tally and its equation.
+    fn compare_numbers(&self) -> Result<(), String> {
+        let Store { head, tally, .. } = &self.unit.store;
+        expect("sound", self.unit.store.is_sound(), true)?;
+        expect("checkpoint", head.checkpoint, self.plain.checkpoint())?;
+        expect("tip", head.tip, self.plain.tip())?;
+        expect("tally", *tally, self.tally)?;
+        let above = u64::from(head.tip - head.checkpoint);
+        expect("equation of the tally", tally.committed, tally.rolled_back + tally.flushed + above)
+    }
+
+    /// The map of every state from the checkpoint to the tip.
+    fn compare_maps(&self) -> Result<(), String> {
+        let head = &self.unit.store.head;
+        for state in head.checkpoint..=head.tip {
+            expect("map", &self.unit.store.map_at(state), self.plain.map_at(state))?;
+        }
+        Ok(())
+    }
+}
+
+// All short runs.
+
+/// Makes every run of so many accepted calls, out of a few on a small store, and every refused call after each of them;
+/// gives the number of calls made, or the first difference.
+pub fn all_short_runs(table: usize, journal: usize, length: usize) -> Result<u64, String> {
+    let bytes = image::write(0, &[word::entry(0, Some(3))]);
+    let plain = Plain::load(&bytes, table, journal).map_err(|ground| format!("load: {ground:?}"))?;
+    let mut unit = Unit { store: Store::of_lengths(table, journal), bytes, ..Unit::default() };
+    expect("load", unit.serve(&Call::Load).answer, Answer::Done)?;
+    let pair = Pair { unit, plain, tally: Tally::default() };
+    runs_after(&pair, &few_calls(), length)
+}
+
+fn runs_after(pair: &Pair, calls: &[Call], length: usize) -> Result<u64, String> {
+    let mut count = 0;
+    for call in calls {
+        let mut next = pair.clone();
+        let told = |difference: String| format!("{call:?} on {:?}: {difference}", pair.unit);
+        let reply = next.step(call).map_err(told)?;
+        count += 1;
+        if !matches!(reply.answer, Answer::Refused(_)) {
+            next.compare_maps().map_err(told)?;
+            if length > 1 {
+                count += runs_after(&next, calls, length - 1)?;
+            }
+        }
+    }
+    Ok(count)
+}
+
+/// Calls on offers 0 and 1, states 0 to 2 and slots 0 and 1.
+fn few_calls() -> Vec<Call> {
+    let puts = [word::entry(0, Some(0)), word::entry(1, Some(1))];
+    let removals = [word::entry(0, None), word::entry(1, None)];
+    let lists = [vec![], vec![puts[0]], vec![removals[0]], vec![puts[1]], vec![removals[0], puts[1]]];
+    let mut calls: Vec<Call> = lists.map(|list| Call::Commit { list }).into();
+    for state in 0..3 {
+        calls.extend([Call::RollBack { state }, Call::Flush { state }]);
+        calls.extend([0, 1].map(|slot| Call::Forward { slot, state, with: None }));
+    }
+    for slot in 0..2 {
+        calls.extend([Call::Issue { slot, list: removals.to_vec() }, Call::Release { slot }]);
+    }
+    calls
+}
+
+// Two stores whose accepted calls agree, flushes apart.
+
+fn two_stores(seed: u64, report: &mut Report) -> Result<(), String> {
+    let mut draw = Draw::new(!seed);
+    let bytes = image::write(draw.number(), &draw.map(40));
+    let mut units = [loaded(&mut draw, &bytes), loaded(&mut draw, &bytes)];
+    for _ in 0..draw.rng.within(20, 120) {
+        for unit in &mut units {
+            if draw.rng.percent(20) {
+                let state = draw.state(&unit.store.head);
+                unit.serve(&Call::Flush { state });
+            }
+        }
+        let latest = if units[0].store.head.checkpoint > units[1].store.head.checkpoint { 0 } else { 1 };
+        let call = draw_call(&mut draw, &MIXED, &mut units[latest]);
+        if matches!(call, Call::Flush { .. }) {
+            continue;
+        }
+        report.compared += u64::from(step_both(&mut units, &call)?);
+    }
+    Ok(())
+}
+
+fn loaded(draw: &mut Draw, bytes: &[u8]) -> Unit {
+    let store = Store::of_lengths(draw.rng.within(121, 200), draw.rng.within(100, 1000));
+    let mut unit = Unit { store, bytes: bytes.to_vec(), ..Unit::default() };
+    unit.serve(&Call::Load);
+    unit
+}
+
+/// Makes a call on both stores if both accept it; says whether it showed a price or a forwarded read.
+fn step_both(units: &mut [Unit; 2], call: &Call) -> Result<bool, String> {
+    let mut after = units.clone();
+    let replies = [after[0].serve(call), after[1].serve(call)];
+    if replies.iter().any(|reply| matches!(reply.answer, Answer::Refused(_))) {
+        return Ok(false);
+    }
+    *units = after;
+    let compared = matches!(call, Call::LookUp { .. } | Call::Forward { .. });
+    if compared {
+        expect(&format!("two stores: {call:?}"), &replies[0], &replies[1])?;
+    }
+    Ok(compared)
+}
+
+// Batches.
+
+fn batches(seed: u64, report: &mut Report) -> Result<(), String> {
+    let mut draw = Draw::new(seed.rotate_left(32) ^ 0x5EED);
+    for _ in 0..10 {
+        let map = map_of(&draw.map(100));
+        let reads = draw_reads(&mut draw, &map);
+        let orders = draw_orders(&mut draw, &reads);
+        let on_map = batch::run_on_map(&orders, &map);
+        let on_reads = batch::priced(&reads, &orders).map(|words| apply(&map, &changes_of(&words)));
+        expect(&format!("batch {reads:X?} {orders:X?} on {map:?}"), on_reads, on_map)?;
+        report.batches += 1;
+    }
+    Ok(())
+}
+
+/// A read set of a map.
+fn draw_reads(draw: &mut Draw, map: &Map) -> Vec<u64> {
+    let offers = draw.read_set();
+    words_of(&offers.into_keys().map(|offer| (offer, map.get(&offer).copied())).collect())
+}
+
+/// Orders of known kinds on the offers of a read set.
+fn draw_orders(draw: &mut Draw, reads: &[u64]) -> Vec<u64> {
+    let count = draw.rng.below(8);
+    (0..count)
+        .map(|_| {
+            let kind = draw.rng.pick(&[0, 0, 1, 2, 3, 16, 20, 27, 31]);
+            let amount = if kind == 1 { 0 } else { draw.rng.below(1500) as u32 };
+            batch::order(kind, amount, word::offer(draw.rng.pick(reads)))
+        })
+        .collect()
+}

@@ -1,0 +1,247 @@
+//! Drawing calls and what they are lent.
+
+use super::Generator;
+use crate::batch::{order, priced, ORDERS};
+use crate::changes::{changes_of, words_of, Changes};
+use crate::image;
+use crate::script::LIST_WORDS;
+use crate::unit::Call;
+use crate::word;
+
+/// How often each call is drawn, in the order of [`Generator::one_call`]. What begins a store anew is rare, so that stores live
+/// long enough for open slots to fall behind the checkpoint and for steps to run out.
+pub(super) const WEIGHTS: [usize; 12] = [1, 6, 16, 3, 100, 24, 44, 56, 52, 40, 10, 40];
+
+/// The same on damaged memory and on memory of wrong lengths: each call, but seldom one that mends the store.
+pub(super) const EVEN: [usize; 12] = [1, 1, 4, 4, 4, 4, 4, 4, 4, 4, 4, 2];
+
+impl Generator {
+    /// One call, by its index in [`WEIGHTS`].
+    pub(super) fn one_call(&mut self, which: usize) {
+        let call = match which {
+            0 => Call::Clear,
+            1 => self.load(),
+            2 => self.output_for(Call::WriteImage),
+            3 => self.output_for(Call::Restart),
+            4 => Call::Commit { list: self.list_for_commit() },
+            5 => Call::RollBack { state: self.state() },
+            6 => Call::Flush { state: self.state() },
+            7 => Call::LookUp { offer: self.offer(), state: self.state() },
+            8 => Call::Issue { slot: self.slot(false), list: self.question() },
+            9 => self.forward(),
+            10 => Call::Release { slot: self.slot(true) },
+            _ => self.batch(),
+        };
+        self.call(call);
+    }
+
+    fn state(&mut self) -> u32 {
+        self.draw.state(&self.unit.store.head)
+    }
+
+    fn slot(&mut self, open: bool) -> u64 {
+        self.draw.slot(&self.unit.store.head.held, open)
+    }
+
+    fn offer(&mut self) -> u32 {
+        let offer = self.draw.offer();
+        match self.draw.rng.below(15) {
+            0 => offer + word::OFFERS,
+            1 => self.draw.rng.pick(&[0, word::OFFERS - 1, word::OFFERS, u32::MAX]),
+            _ => offer,
+        }
+    }
+
+    fn list_for_commit(&mut self) -> Vec<u64> {
+        if self.draw.rng.percent(93) {
+            self.draw.changes()
+        } else {
+            self.draw.broken_list()
+        }
+    }
+
+    fn question(&mut self) -> Vec<u64> {
+        match self.draw.rng.weighted(&[84, 8, 8]) {
+            0 => self.draw.questions(),
+            1 => self.draw.changes(),
+            _ => self.draw.broken_list(),
+        }
+    }
+
+    fn forward(&mut self) -> Call {
+        let (slot, state) = (self.slot(true), self.state());
+        let with = match self.draw.rng.weighted(&[70, 20, 10]) {
+            0 => None,
+            1 => Some(self.draw.changes()),
+            _ => Some(self.draw.broken_list()),
+        };
+        Call::Forward { slot, state, with }
+    }
+
+    /// Lends bytes for an image to be written: as many as it needs, some more, or too few.
+    fn output_for(&mut self, call: Call) -> Call {
+        let exact = image::length(self.unit.store.head.used.min(8192) as usize);
+        match self.draw.rng.weighted(&[40, 20, 20, 10, 10]) {
+            0 => self.lend_output(exact),
+            1 => {
+                let more = self.draw.rng.within(1, 20);
+                self.lend_output(exact + more);
+            }
+            2 => self.lend_output(exact - 1),
+            3 => {
+                let less = self.draw.rng.below(exact);
+                self.lend_output(less);
+            }
+            _ => {}
+        }
+        call
+    }
+
+    /// Lends an image, often a broken one, to be loaded.
+    fn load(&mut self) -> Call {
+        let table = self.unit.store.table.len();
+        match self.draw.rng.weighted(&[50, 35, 15]) {
+            0 => {
+                let words = self.draw.map(table.min(100));
+                let bytes = image::write(self.draw.number(), &words);
+                self.lend_bytes(&bytes);
+            }
+            1 => {
+                let bytes = self.broken_image();
+                self.lend_bytes(&bytes);
+            }
+            _ => {
+                let count = self.draw.rng.pick(&[table + 1, table + 1, table, 8192]);
+                self.lend_series(count.min(8192));
+            }
+        }
+        Call::Load
+    }
+
+    /// An image with something wrong in it.
+    fn broken_image(&mut self) -> Vec<u8> {
+        let offer = self.draw.offer();
+        let price = Some(self.draw.price());
+        let two = |first, second| vec![word::entry(first, price), word::entry(second, price)];
+        let next = (offer + 1) % word::OFFERS;
+        let words = match self.draw.rng.below(8) {
+            0 => two(offer, offer),
+            1 => two(offer.max(next), offer.min(next)),
+            2 => vec![word::entry(offer, None)],
+            3 => vec![word::entry(offer, price) % (1 << 63)],
+            _ => self.draw.map(20),
+        };
+        let mut bytes = image::write(self.draw.number(), &words);
+        match self.draw.rng.below(8) {
+            0 => bytes.push(0),
+            1 => bytes.truncate(bytes.len() - 1),
+            2 => bytes.truncate(self.draw.rng.below(7)),
+            3 => bytes[5] = bytes[5].wrapping_add(1),
+            4 => bytes[5] = bytes[5].wrapping_sub(1),
+            5 => bytes[4] = 1,
+            6 => {
+                let at = self.draw.rng.below(bytes.len());
+                bytes[at] ^= 1 << self.draw.rng.below(8);
+            }
+            _ => {}
+        }
+        bytes
+    }
+
+    // Batches.
+
+    /// A batch: orders that run, and then perhaps something wrong, or two things.
+    fn batch(&mut self) -> Call {
+        let mut now = self.draw.read_set();
+        let mut reads = words_of(&now);
+        let count = match self.draw.rng.weighted(&[10, 80, 10]) {
+            0 => 0,
+            1 => self.draw.rng.within(1, 8),
+            _ => ORDERS,
+        };
+        let mut orders: Vec<u64> = (0..count).map(|_| self.order_that_runs(&mut now)).collect();
+        let wrongs = self.draw.rng.weighted(&[50, 40, 10]);
+        for _ in 0..wrongs {
+            self.spoil(&mut reads, &mut orders, &now);
+        }
+        let named = priced(&reads, &orders).map_or(orders.len().min(5), |words| words.len());
+        let length = match self.draw.rng.weighted(&[40, 40, 20]) {
+            0 => named,
+            1 => named + self.draw.rng.within(1, 4),
+            _ => self.draw.rng.below(named + 1),
+        };
+        let output = (0..length).map(|_| self.draw.rng.bits()).collect();
+        Call::PriceBatch { reads, orders, output }
+    }
+
+    /// An order on a read offer that does not fail, and the price after it.
+    fn order_that_runs(&mut self, now: &mut Changes) -> u64 {
+        let offers: Vec<u32> = now.keys().copied().collect();
+        let offer = self.draw.rng.pick(&offers);
+        let amount = self.amount();
+        let word = match now[&offer] {
+            None => order(0, amount, offer),
+            Some(price) => {
+                let kind = self.draw.rng.pick(&[0, 1, 2, 3, 16, 23, 27, 30, 31]);
+                let most = match kind {
+                    1 => 0,
+                    2 => u32::MAX - price,
+                    3 => price,
+                    _ => u32::MAX,
+                };
+                order(kind, amount.min(most).min((1 << 25) - 1), offer)
+            }
+        };
+        let after = priced(&words_of(now), &[word]).unwrap_or_default();
+        now.extend(changes_of(&after));
+        word
+    }
+
+    /// An amount of 25 bits, its ends often.
+    fn amount(&mut self) -> u32 {
+        match self.draw.rng.below(5) {
+            0 => 0,
+            1 => (1 << 25) - 1,
+            2 => self.draw.rng.below(1 << 25) as u32,
+            _ => self.draw.rng.within(1, 1500) as u32,
+        }
+    }
+
+    /// Makes a batch fail: by its lists, by an order's kind or offer, or as the orders run.
+    fn spoil(&mut self, reads: &mut Vec<u64>, orders: &mut Vec<u64>, now: &Changes) {
+        let offers: Vec<u32> = now.keys().copied().collect();
+        let offer = self.draw.rng.pick(&offers);
+        let known = self.draw.rng.pick(&[2, 3, 16, 27, 31]);
+        match self.draw.rng.below(8) {
+            0 => *reads = self.draw.broken_list(),
+            1 => orders.resize(self.draw.rng.pick(&[ORDERS + 1, LIST_WORDS]), order(0, 1, offer)),
+            2 => {
+                let kind = self.draw.rng.pick(&[4, 15, 32, 128, 255]);
+                self.insert(orders, order(kind, 0, offer));
+            }
+            3 => {
+                let amount = self.draw.rng.within(1, 9) as u32;
+                self.insert(orders, order(1, amount, offer));
+            }
+            4 => {
+                let other = self.draw.rng.bits() as u32;
+                self.insert(orders, order(known, 1, other));
+            }
+            5 => orders.extend([order(1, 0, offer), order(known, 1, offer)]),
+            6 => orders.extend([order(0, 5, offer), order(3, 6, offer)]),
+            _ => {
+                orders.clear();
+                reads.retain(|&word| word::offer(word) != offer);
+                reads.push(word::entry(offer, Some(u32::MAX - 1)));
+                reads.sort_by_key(|&word| word::offer(word));
+                orders.extend([order(2, 1, offer), order(2, 1, offer)]);
+            }
+        }
+        orders.truncate(LIST_WORDS);
+    }
+
+    fn insert(&mut self, orders: &mut Vec<u64>, word: u64) {
+        let at = self.draw.rng.within(0, orders.len());
+        orders.insert(at, word);
+    }
+}

@@ -1,0 +1,56 @@
+//! The grounds for turning a call away, with document 01's numbers.
+
+/// A ground; its number is document 01's.
+#[derive(Clone, Copy, Debug, PartialEq, Eq, PartialOrd, Ord)]
+pub enum Ground {
+    /// The table's or the journal's length is outside its range.
+    Length = 1,
+    /// The store is not sound.
+    Unsound = 2,
+    /// The slot is above 7.
+    Slot = 3,
+    /// The slot named for an issue is open.
+    SlotOpen = 4,
+    /// The slot named for a forward or a release is closed.
+    SlotClosed = 5,
+    /// A list breaks its rules, or what document 01 counts with it.
+    List = 6,
+    /// Some order's kind is unknown, or a withdrawal has an amount.
+    Order = 7,
+    /// Some order's offer is not in the read set.
+    NotRead = 8,
+    /// The first order that fails needs a price where there is none.
+    NoPrice = 9,
+    /// The first order that fails takes a price out of its range.
+    PriceRange = 10,
+    /// The state named is below the checkpoint or above the tip.
+    State = 11,
+    /// The tip is the largest number at a commit.
+    LastState = 12,
+    /// 64 steps are held at a commit.
+    Steps = 13,
+    /// The commit's words exceed the unused journal.
+    JournalFull = 14,
+    /// An image's length, order of offers or kind bits are wrong.
+    Image = 15,
+    /// The map to be flushed or loaded has more offers than the table has words.
+    TableFull = 16,
+    /// Output is shorter than what is to be written.
+    Output = 17,
+}
+
+impl Ground {
+    /// Document 01's number.
+    pub fn number(self) -> u8 {
+        self as u8
+    }
+}
+
+/// Turns a call away unless the test holds.
+pub fn unless(test: bool, ground: Ground) -> Result<(), Ground> {
+    if test {
+        Ok(())
+    } else {
+        Err(ground)
+    }
+}

@@ -1,0 +1,67 @@
+//! The head and the tally of a store.
+
+/// The number of slots.
+pub const SLOTS: usize = 8;
+
+/// The most steps that are held.
+pub const STEPS: usize = 64;
+
+/// The head: a value that travels with the calls.
+#[derive(Clone, Debug, PartialEq, Eq)]
+pub struct Head {
+    /// The table's words in use.
+    pub used: u64,
+    /// Document 01's floor.
+    pub oldest: u32,
+    /// Document 01's anchor: the number of the state that the table holds.
+    pub checkpoint: u32,
+    /// The number of the newest state.
+    pub tip: u32,
+    /// Which slots are open.
+    pub held: [bool; SLOTS],
+    /// The checkpoint at the issue of each open slot; a closed one has 0.
+    pub issued: [u32; SLOTS],
+    /// The marks: journal words through the end of each held step; those not in use are 0.
+    pub ends: [u64; STEPS],
+}
+
+impl Head {
+    /// The head of a store that holds one state, no step and no open slot.
+    pub fn at_rest(state: u32, used: u64) -> Head {
+        Head {
+            used,
+            oldest: state,
+            checkpoint: state,
+            tip: state,
+            held: [false; SLOTS],
+            issued: [0; SLOTS],
+            ends: [0; STEPS],
+        }
+    }
+
+    /// The numbers of the open slots.
+    pub fn open_numbers(&self) -> impl Iterator<Item = u32> + '_ {
+        self.held.iter().zip(&self.issued).filter(|(held, _)| **held).map(|(_, issued)| *issued)
+    }
+
+    /// The least of the checkpoint and the open slots' numbers.
+    pub fn least(&self) -> u32 {
+        self.open_numbers().fold(self.checkpoint, u32::min)
+    }
+}
+
+/// The tally: steps committed, rolled back and flushed. A count stops at its largest value.
+#[derive(Clone, Copy, Debug, Default, PartialEq, Eq)]
+pub struct Tally {
+    /// Steps committed.
+    pub committed: u64,
+    /// Steps rolled back.
+    pub rolled_back: u64,
+    /// Steps flushed.
+    pub flushed: u64,
+}
+
+/// Adds steps to a count, which stops at its largest value.
+pub fn count_on(count: &mut u64, steps: u32) {
+    *count = count.saturating_add(u64::from(steps));
+}

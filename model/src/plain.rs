@@ -1,0 +1,157 @@
+//! The plain list of whole maps (document 01): what the unit is held to over whole lists of calls.
+//!
+//! It is fed the load's image, the calls' arguments except a forward's read set, and the lengths lent.
+
+use crate::changes::{apply, changes_of, map_of, map_words, read, Map};
+use crate::ground::{unless, Ground};
+use crate::head::{SLOTS, STEPS};
+use crate::{image, word};
+
+/// An open slot: its number and its offers.
+#[derive(Clone, Debug, PartialEq, Eq)]
+struct Reading {
+    number: u32,
+    offers: Vec<u32>,
+}
+
+/// Whole maps numbered one after another, and beside each but the first the list that led to it.
+#[derive(Clone, Debug)]
+pub struct Plain {
+    first: u32,
+    maps: Vec<Map>,
+    lists: Vec<Vec<u64>>,
+    checkpoint: u32,
+    slots: [Option<Reading>; SLOTS],
+    table_words: usize,
+    journal_words: usize,
+}
+
+impl Plain {
+    /// The load: the image's map under its number, all slots closed.
+    pub fn load(bytes: &[u8], table_words: usize, journal_words: usize) -> Result<Plain, Ground> {
+        let (state, words) = image::read(bytes)?;
+        unless(words.len() <= table_words, Ground::TableFull)?;
+        Ok(Plain {
+            first: state,
+            maps: vec![map_of(&words)],
+            lists: Vec::new(),
+            checkpoint: state,
+            slots: Default::default(),
+            table_words,
+            journal_words,
+        })
+    }
+
+    /// The number of the last map.
+    pub fn tip(&self) -> u32 {
+        self.first + self.lists.len() as u32
+    }
+
+    /// The checkpoint's number.
+    pub fn checkpoint(&self) -> u32 {
+        self.checkpoint
+    }
+
+    /// The least of the checkpoint and the open slots' numbers.
+    fn oldest(&self) -> u32 {
+        self.slots.iter().flatten().map(|reading| reading.number).fold(self.checkpoint, u32::min)
+    }
+
+    /// The map of a state.
+    pub fn map_at(&self, state: u32) -> &Map {
+        &self.maps[(state - self.first) as usize]
+    }
+
+    /// The lists that lead to states above the oldest.
+    fn held_lists(&self) -> &[Vec<u64>] {
+        &self.lists[(self.oldest() - self.first) as usize..]
+    }
+
+    fn test_slot(&self, slot: u64) -> Result<usize, Ground> {
+        unless(slot < SLOTS as u64, Ground::Slot)?;
+        Ok(slot as usize)
+    }
+
+    /// Grounds 3 and 5, and the open slot's index and reading.
+    fn test_reading(&self, slot: u64) -> Result<(usize, &Reading), Ground> {
+        let slot = self.test_slot(slot)?;
+        let reading = self.slots[slot].as_ref().ok_or(Ground::SlotClosed)?;
+        Ok((slot, reading))
+    }
+
+    fn test_state(&self, state: u32) -> Result<(), Ground> {
+        unless(self.checkpoint <= state && state <= self.tip(), Ground::State)
+    }
+
+    /// A commit adds the last map with the new list applied.
+    pub fn commit(&mut self, list: &[u64]) -> Result<(), Ground> {
+        unless(word::is_list(list), Ground::List)?;
+        unless(self.tip() < u32::MAX, Ground::LastState)?;
+        unless(self.held_lists().len() < STEPS, Ground::Steps)?;
+        let held_words: usize = self.held_lists().iter().map(Vec::len).sum();
+        unless(held_words + list.len() <= self.journal_words, Ground::JournalFull)?;
+        let next = apply(self.map_at(self.tip()), &changes_of(list));
+        self.maps.push(next);
+        self.lists.push(list.to_vec());
+        Ok(())
+    }
+
+    /// A rollback cuts the maps above its state.
+    pub fn roll_back(&mut self, state: u32) -> Result<(), Ground> {
+        self.test_state(state)?;
+        let steps = (state - self.first) as usize;
+        self.lists.truncate(steps);
+        self.maps.truncate(steps + 1);
+        Ok(())
+    }
+
+    /// A flush only moves the checkpoint.
+    pub fn flush(&mut self, state: u32) -> Result<(), Ground> {
+        self.test_state(state)?;
+        unless(self.map_at(state).len() <= self.table_words, Ground::TableFull)?;
+        self.checkpoint = state;
+        Ok(())
+    }
+
+    /// A lookup reads the map of the state named.
+    pub fn look_up(&self, offer: u32, state: u32) -> Result<Option<u32>, Ground> {
+        unless(offer < word::OFFERS, Ground::List)?;
+        self.test_state(state)?;
+        Ok(self.map_at(state).get(&offer).copied())
+    }
+
+    /// An issue opens its slot with the checkpoint's number and its list's offers. Gives the list as filled.
+    pub fn issue(&mut self, slot: u64, list: &[u64]) -> Result<Vec<u64>, Ground> {
+        let slot = self.test_slot(slot)?;
+        unless(self.slots[slot].is_none(), Ground::SlotOpen)?;
+        unless(word::is_list(list), Ground::List)?;
+        unless(list.iter().all(|&word| word::kind(word) == 0), Ground::List)?;
+        let offers: Vec<u32> = list.iter().map(|&word| word::offer(word)).collect();
+        let filled = read(self.map_at(self.checkpoint), &offers);
+        self.slots[slot] = Some(Reading { number: self.checkpoint, offers });
+        Ok(filled)
+    }
+
+    /// A forward gives, for each of the slot's offers, the word that shows it at the state, and closes the slot.
+    pub fn forward(&mut self, slot: u64, state: u32) -> Result<Vec<u64>, Ground> {
+        let (slot, reading) = self.test_reading(slot)?;
+        self.test_state(state)?;
+        let shown = read(self.map_at(state), &reading.offers);
+        self.slots[slot] = None;
+        Ok(shown)
+    }
+
+    /// A release closes the slot.
+    pub fn release(&mut self, slot: u64) -> Result<(), Ground> {
+        let (slot, _) = self.test_reading(slot)?;
+        self.slots[slot] = None;
+        Ok(())
+    }
+
+    /// Writing an image changes nothing. Gives the image, given the length of the output lent.
+    pub fn write_image(&self, output: usize) -> Result<Vec<u8>, Ground> {
+        let words = map_words(self.map_at(self.checkpoint));
+        unless(image::length(words.len()) <= output, Ground::Output)?;
+        Ok(image::write(self.checkpoint, &words))
+    }
+}

@@ -1,0 +1,106 @@
+//! Commands as the lines that say them.
+
+use super::{Command, HeadField, Memory, Poke, Show, TallyField};
+use crate::unit::Call;
+use std::fmt;
+
+/// Words as 16 hexadecimal digits, each after a space.
+pub fn words_text(words: &[u64]) -> String {
+    words.iter().map(|word| format!(" {word:016X}")).collect()
+}
+
+/// Bytes as 2 hexadecimal digits, each after a space.
+pub fn bytes_text(bytes: &[u8]) -> String {
+    bytes.iter().map(|byte| format!(" {byte:02X}")).collect()
+}
+
+impl fmt::Display for Memory {
+    fn fmt(&self, f: &mut fmt::Formatter<'_>) -> fmt::Result {
+        f.write_str(match self {
+            Memory::Table => "table",
+            Memory::Journal => "journal",
+            Memory::Bytes => "bytes",
+        })
+    }
+}
+
+impl fmt::Display for Command {
+    fn fmt(&self, f: &mut fmt::Formatter<'_>) -> fmt::Result {
+        match self {
+            Command::Lend { memory, length } => write!(f, "lend {memory} {length}"),
+            Command::Poke { at, poke } => write_poke(f, *at, poke),
+            Command::Fill { memory, at, count, word, rise } => {
+                write!(f, "fill {memory} {at} {count} {word:016X} {rise:016X}")
+            }
+            Command::Head(field) => write!(f, "head {field}"),
+            Command::Tally(field) => write!(f, "tally {field}"),
+            Command::Show(what) => write!(f, "show {what}"),
+            Command::Call(call) => write!(f, "{call}"),
+        }
+    }
+}
+
+fn write_poke(f: &mut fmt::Formatter<'_>, at: u64, poke: &Poke) -> fmt::Result {
+    match poke {
+        Poke::Table(words) => write!(f, "poke table {at}{}", words_text(words)),
+        Poke::Journal(words) => write!(f, "poke journal {at}{}", words_text(words)),
+        Poke::Bytes(bytes) => write!(f, "poke bytes {at}{}", bytes_text(bytes)),
+    }
+}
+
+impl fmt::Display for HeadField {
+    fn fmt(&self, f: &mut fmt::Formatter<'_>) -> fmt::Result {
+        match self {
+            HeadField::Used(value) => write!(f, "used {value}"),
+            HeadField::Oldest(value) => write!(f, "oldest {value}"),
+            HeadField::Checkpoint(value) => write!(f, "checkpoint {value}"),
+            HeadField::Tip(value) => write!(f, "tip {value}"),
+            HeadField::Held(slot, value) => write!(f, "held {slot} {}", u8::from(*value)),
+            HeadField::Issued(slot, value) => write!(f, "issued {slot} {value}"),
+            HeadField::Ends(mark, value) => write!(f, "ends {mark} {value}"),
+        }
+    }
+}
+
+impl fmt::Display for TallyField {
+    fn fmt(&self, f: &mut fmt::Formatter<'_>) -> fmt::Result {
+        match self {
+            TallyField::Committed(value) => write!(f, "committed {value}"),
+            TallyField::RolledBack(value) => write!(f, "rolled_back {value}"),
+            TallyField::Flushed(value) => write!(f, "flushed {value}"),
+        }
+    }
+}
+
+impl fmt::Display for Show {
+    fn fmt(&self, f: &mut fmt::Formatter<'_>) -> fmt::Result {
+        match self {
+            Show::Head => write!(f, "head"),
+            Show::Tally => write!(f, "tally"),
+            Show::Memory(memory) => write!(f, "{memory}"),
+            Show::All => write!(f, "all"),
+            Show::Part { memory, at, count } => write!(f, "{memory} {at} {count}"),
+        }
+    }
+}
+
+impl fmt::Display for Call {
+    fn fmt(&self, f: &mut fmt::Formatter<'_>) -> fmt::Result {
+        f.write_str(self.name())?;
+        match self {
+            Call::Clear | Call::Load | Call::WriteImage | Call::Restart => Ok(()),
+            Call::Commit { list } => f.write_str(&words_text(list)),
+            Call::RollBack { state } | Call::Flush { state } => write!(f, " {state}"),
+            Call::LookUp { offer, state } => write!(f, " {offer} {state}"),
+            Call::Issue { slot, list } => write!(f, " {slot}{}", words_text(list)),
+            Call::Forward { slot, state, with: None } => write!(f, " {slot} {state}"),
+            Call::Forward { slot, state, with: Some(list) } => {
+                write!(f, " {slot} {state} with{}", words_text(list))
+            }
+            Call::Release { slot } => write!(f, " {slot}"),
+            Call::PriceBatch { reads, orders, output } => {
+                write!(f, "{} /{} /{}", words_text(reads), words_text(orders), words_text(output))
+            }
+        }
+    }
+}

@@ -1,0 +1,180 @@
+//! The calls as values, their answers, and a unit that serves them on memory it is lent.
+
+use crate::batch;
+use crate::ground::Ground;
+use crate::head::SLOTS;
+use crate::store::Store;
+use std::fmt;
+
+/// A call, with its arguments besides the store and the lent bytes.
+#[derive(Clone, Debug, PartialEq, Eq)]
+pub enum Call {
+    Clear,
+    Load,
+    WriteImage,
+    Restart,
+    Commit {
+        list: Vec<u64>,
+    },
+    RollBack {
+        state: u32,
+    },
+    Flush {
+        state: u32,
+    },
+    LookUp {
+        offer: u32,
+        state: u32,
+    },
+    Issue {
+        slot: u64,
+        list: Vec<u64>,
+    },
+    /// Without words of its own a forward takes what the slot's last accepted issue filled.
+    Forward {
+        slot: u64,
+        state: u32,
+        with: Option<Vec<u64>>,
+    },
+    Release {
+        slot: u64,
+    },
+    PriceBatch {
+        reads: Vec<u64>,
+        orders: Vec<u64>,
+        output: Vec<u64>,
+    },
+}
+
+impl Call {
+    /// The call's word in a script.
+    pub fn name(&self) -> &'static str {
+        match self {
+            Call::Clear => "clear",
+            Call::Load => "load",
+            Call::WriteImage => "write_image",
+            Call::Restart => "restart",
+            Call::Commit { .. } => "commit",
+            Call::RollBack { .. } => "roll_back",
+            Call::Flush { .. } => "flush",
+            Call::LookUp { .. } => "look_up",
+            Call::Issue { .. } => "issue",
+            Call::Forward { .. } => "forward",
+            Call::Release { .. } => "release",
+            Call::PriceBatch { .. } => "price_batch",
+        }
+    }
+}
+
+/// What a call answers.
+#[derive(Clone, Copy, Debug, PartialEq, Eq)]
+pub enum Answer {
+    /// Accepted, with nothing to give.
+    Done,
+    /// Accepted, with a count of what was written.
+    Count(usize),
+    /// A price.
+    Price(u32),
+    /// No price at that state.
+    NoPrice,
+    /// Turned away.
+    Refused(Ground),
+}
+
+impl fmt::Display for Answer {
+    fn fmt(&self, f: &mut fmt::Formatter<'_>) -> fmt::Result {
+        match self {
+            Answer::Done => write!(f, "ok"),
+            Answer::Count(count) => write!(f, "ok {count}"),
+            Answer::Price(price) => write!(f, "ok {price}"),
+            Answer::NoPrice => write!(f, "none"),
+            Answer::Refused(ground) => write!(f, "refused {}", ground.number()),
+        }
+    }
+}
+
+/// An answer, and the words that the call was lent to change, as it left them.
+#[derive(Clone, Debug, PartialEq, Eq)]
+pub struct Reply {
+    pub answer: Answer,
+    pub words: Vec<u64>,
+}
+
+/// A store, the lent bytes, and the words that each slot's last accepted issue filled.
+#[derive(Clone, Debug, PartialEq, Eq)]
+pub struct Unit {
+    pub store: Store,
+    pub bytes: Vec<u8>,
+    pub filled: [Vec<u64>; SLOTS],
+}
+
+impl Default for Unit {
+    fn default() -> Unit {
+        Unit { store: Store::of_lengths(0, 0), bytes: Vec::new(), filled: Default::default() }
+    }
+}
+
+impl Unit {
+    /// Carries out a call.
+    pub fn serve(&mut self, call: &Call) -> Reply {
+        let store = &mut self.store;
+        let answer = match call {
+            Call::Clear => done(store.clear()),
+            Call::Load => done(store.load(&self.bytes)),
+            Call::WriteImage => counted(store.write_image(&mut self.bytes)),
+            Call::Restart => done(store.restart(&mut self.bytes)),
+            Call::Commit { list } => done(store.commit(list)),
+            Call::RollBack { state } => done(store.roll_back(*state)),
+            Call::Flush { state } => done(store.flush(*state)),
+            Call::LookUp { offer, state } => quoted(store.look_up(*offer, *state)),
+            Call::Release { slot } => done(store.release(*slot)),
+            Call::Issue { slot, list } => return self.issue(*slot, list),
+            Call::Forward { slot, state, with } => return self.forward(*slot, *state, with.as_deref()),
+            Call::PriceBatch { reads, orders, output } => return price_batch(reads, orders, output),
+        };
+        Reply { answer, words: Vec::new() }
+    }
+
+    fn issue(&mut self, slot: u64, list: &[u64]) -> Reply {
+        let mut words = list.to_vec();
+        let outcome = self.store.issue(slot, &mut words);
+        if outcome.is_ok() {
+            self.filled[slot as usize] = words.clone();
+        }
+        Reply { answer: done(outcome), words }
+    }
+
+    fn forward(&mut self, slot: u64, state: u32, with: Option<&[u64]>) -> Reply {
+        let mut words = with.unwrap_or_else(|| self.filled_at(slot)).to_vec();
+        let answer = done(self.store.forward(slot, state, &mut words));
+        Reply { answer, words }
+    }
+
+    /// The words that a slot's last accepted issue filled; none above slot 7.
+    pub fn filled_at(&self, slot: u64) -> &[u64] {
+        let index = usize::try_from(slot).unwrap_or(usize::MAX);
+        self.filled.get(index).map_or(&[], Vec::as_slice)
+    }
+}
+
+fn price_batch(reads: &[u64], orders: &[u64], output: &[u64]) -> Reply {
+    let mut words = output.to_vec();
+    let answer = counted(batch::price_batch(reads, orders, &mut words));
+    Reply { answer, words }
+}
+
+fn done(outcome: Result<(), Ground>) -> Answer {
+    outcome.map_or_else(Answer::Refused, |()| Answer::Done)
+}
+
+fn counted(outcome: Result<usize, Ground>) -> Answer {
+    outcome.map_or_else(Answer::Refused, Answer::Count)
+}
+
+fn quoted(outcome: Result<Option<u32>, Ground>) -> Answer {
+    match outcome {
+        Ok(Some(price)) => Answer::Price(price),
+        Ok(None) => Answer::NoPrice,
+        Err(ground) => Answer::Refused(ground),
+    }
+}

@@ -1,0 +1,57 @@
+//! What several tests need.
+#![allow(dead_code)]
+
+use model::script;
+use std::fs;
+use std::path::PathBuf;
+
+/// Every answer that each call can give, without values, as document 01's grounds concern the call.
+pub const ANSWERS: [(&str, &[&str]); 12] = [
+    ("clear", &["ok", "refused 1"]),
+    ("load", &["ok", "refused 1", "refused 15", "refused 16"]),
+    ("write_image", &["ok", "refused 1", "refused 2", "refused 17"]),
+    ("restart", &["ok", "refused 1", "refused 2", "refused 17"]),
+    ("commit", &["ok", "refused 1", "refused 2", "refused 6", "refused 12", "refused 13", "refused 14"]),
+    ("roll_back", &["ok", "refused 1", "refused 2", "refused 11"]),
+    ("flush", &["ok", "refused 1", "refused 2", "refused 11", "refused 16"]),
+    ("look_up", &["ok", "none", "refused 1", "refused 2", "refused 6", "refused 11"]),
+    ("issue", &["ok", "refused 1", "refused 2", "refused 3", "refused 4", "refused 6"]),
+    ("forward", &["ok", "refused 1", "refused 2", "refused 3", "refused 5", "refused 6", "refused 11"]),
+    ("release", &["ok", "refused 1", "refused 2", "refused 3", "refused 5"]),
+    ("price_batch", &["ok", "refused 6", "refused 7", "refused 8", "refused 9", "refused 10", "refused 17"]),
+];
+
+/// All of [`ANSWERS`] in the form `commit refused 13`.
+pub fn all_answers() -> Vec<String> {
+    let of_call = |&(call, answers): &(&str, &'static [&'static str])| {
+        let call = call.to_string();
+        answers.iter().map(move |answer| format!("{call} {answer}"))
+    };
+    ANSWERS.iter().flat_map(of_call).collect()
+}
+
+/// A file or folder of this crate.
+pub fn path(name: &str) -> PathBuf {
+    PathBuf::from(env!("CARGO_MANIFEST_DIR")).join(name)
+}
+
+/// The files of a folder with an ending, and what they hold.
+pub fn files(folder: &str, ending: &str) -> Vec<(PathBuf, Vec<u8>)> {
+    let mut found = Vec::new();
+    for entry in fs::read_dir(path(folder)).expect("the folder is part of the repository") {
+        let file = entry.expect("the folder can be read").path();
+        if file.extension().is_some_and(|extension| extension == ending) {
+            let bytes = fs::read(&file).expect("the file can be read");
+            found.push((file, bytes));
+        }
+    }
+    found.sort();
+    found
+}
+
+/// What a script prints.
+pub fn run(script: &[u8]) -> String {
+    let mut out = Vec::new();
+    script::run(script, &mut out).expect("writing into memory does not fail");
+    String::from_utf8(out).expect("what is printed is ASCII")
+}
