@@ -1,0 +1,33 @@
+-- "the twelve above are shown to follow from the definitions, as one table with one proof over it": the checker computes what each
+-- entry comes to on the unit's memory and head, every commit of moments 8 and 9 among them, and meets what the table expects.
+-- Assumes nothing.
+use mathlib.Core.Path.{_≡_, refl}
+use mathlib.Core.List.{map}
+use Rattle.changes.specs.Calculus.{find, compose, puts, apply, composeAll}
+use Rattle.changes.specs.Lists.{risingB, mapB}
+use Rattle.changes.specs.ReadSets.{readOf, over}
+use Rattle.changes.specs.Runs.{runOf}
+use Rattle.grounds.specs.First.{first}
+use Rattle.orders.specs.Effects.{sixteenths, putAt, withPrice, effect}
+use Rattle.orders.specs.Orders.{kindNamed, allowedB}
+use Rattle.batch.specs.Batches.{checked, batch}
+use Rattle.batch.specs.Running.{run, priced}
+use Rattle.batch.specs.Tests.{readB, allB as allOrdersB}
+use Rattle.image.specs.Bytes.{bytesOf, valueOf}
+use Rattle.image.specs.Image.{wordBytes, imageOf, wordsOf, numberIn, countIn, wordsIn, imageB}
+use Rattle.layout.specs.Sound.{soundB}
+use Rattle.layout.specs.Tests.{allB, allOf, zerosB, least}
+use Rattle.layout.specs.Trim.{trimmedHead, trimmedJournal}
+use Rattle.snapshot.specs.Fresh.{freshHead}
+use Rattle.steps.specs.Commit.{withStep}
+use Rattle.steps.specs.Flush.{flushedHead}
+use Rattle.steps.specs.RollBack.{cutTo}
+use Rattle.reads.specs.Issue.{noPutB}
+use Rattle.reads.specs.Slots.{opened, shut}
+use Rattle.history.specs.Runs.{storeReplies}
+use Rattle.moments.specs.Moments.{computed, expected}
+use Rattle.moments.specs.Table.{twelve}
+
+pub moments-follow : map computed twelve ≡ map expected twelve
+unfolding find compose puts apply composeAll risingB mapB readOf over runOf first sixteenths putAt withPrice effect kindNamed allowedB checked batch run priced readB allOrdersB bytesOf valueOf wordBytes imageOf wordsOf numberIn countIn wordsIn imageB soundB allB allOf zerosB least trimmedHead trimmedJournal freshHead withStep flushedHead cutTo noPutB opened shut storeReplies twelve
+moments-follow = refl

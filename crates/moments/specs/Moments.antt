@@ -1,0 +1,83 @@
+-- A moment at the counter (document 01, "Twelve moments at the counter"): what is asked, what the unit's definitions compute for it, and
+-- what is expected. The definitions are those that the contracts of the code cite: of a store's calls on its memory and head (history's
+-- `serve`), of a batch, and of the entry word.
+-- Assumes nothing.
+use mathlib.Core.List.{List, [], map}
+use Prim.Native.Nat.{ℕ, _+_, _*_, _^_}
+use lib.ListN.{length, replicate}
+use Rattle.entry.specs.Word.{putOf}
+use Rattle.grounds.specs.Numbers.{Answer}
+use Rattle.layout.specs.View.{Store}
+use Rattle.batch.specs.Batches.{batch, answer, output}
+use Rattle.snapshot.specs.Calls.{clearOutcome, clearHead, clearWords}
+use Rattle.snapshot.specs.Fresh.{freshHead}
+use Rattle.history.specs.Calls.{Call, Reply, done}
+use Rattle.history.specs.Runs.{Asked, nothing, storeReplies, Answers, afterLoad, storeRun}
+
+-- where a store starts: lent memory of two lengths, the table's and the journal's, which is cleared, or loaded from an image
+pub data Start : Type 0 where
+  cleared : ℕ → ℕ → Start
+  loaded : ℕ → ℕ → List ℕ → Start
+
+-- a call, and the answer expected of it
+infix 68 _⇒_
+pub data Exchange : Type 0 where
+  _⇒_ : Call → Reply → Exchange
+
+pub data Moment : Type 0 where
+  -- an offer at a price; its word
+  word : ℕ → ℕ → ℕ → Moment
+  -- a start, which is accepted, and then the calls in turn
+  run : Start → List Exchange → Moment
+  -- a read set, orders and output memory; the answer, and the output memory then
+  priced : List ℕ → List ℕ → List ℕ → Answer → List ℕ → Moment
+
+-- "An order is 64 bits, most significant first: kind 8 bits, amount 25 bits, offer 31 bits."
+abbrev pub orderOf : ℕ → ℕ → ℕ → ℕ
+orderOf kind amount offer = kind * 2 ^ 56 + amount * 2 ^ 31 + offer
+
+-- the lent memory, full of words of no meaning, with any head
+abbrev pub lentOf : ℕ → ℕ → Store
+lentOf table journal = record { table = replicate table 1; journal = replicate journal 1; head = freshHead 0 0 }
+
+-- a clear, and then the calls
+abbrev pub clearedStore : Store → Store
+clearedStore s = record {
+  table = clearWords (s .table) (s .journal) (s .table);
+  journal = clearWords (s .table) (s .journal) (s .journal);
+  head = clearHead (s .table) (s .journal) (s .head);
+}
+
+abbrev pub clearRun : Store → List Asked → Answers
+clearRun lent asked = afterLoad (clearOutcome (lent .table) (lent .journal)) (storeReplies (clearedStore lent) (replicate 8 nothing) asked)
+
+abbrev pub runFrom : Start → List Asked → Answers
+runFrom (cleared table journal) asked = clearRun (lentOf table journal) asked
+runFrom (loaded table journal image) asked = storeRun (lentOf table journal) image asked
+
+-- No moment forwards a slot that is not open: a forward is lent what the slot's issue filled, and no other words.
+abbrev pub askedIn : Exchange → Asked
+askedIn (c ⇒ r) = record { call = c; words = [] }
+
+abbrev pub replyIn : Exchange → Reply
+replyIn (c ⇒ r) = r
+
+-- what a moment comes to
+pub data Result : Type 0 where
+  asWord : ℕ → Result
+  asAnswers : Answers → Result
+  asBatch : Answer → List ℕ → Result
+
+-- by the definitions,
+abbrev pub computed : Moment → Result
+computed (word offer price w) = asWord (putOf offer price)
+computed (run start exchanges) = asAnswers (runFrom start (map askedIn exchanges))
+computed (priced reads orders out a after) =
+    let ran = batch reads orders (length out) in
+    asBatch (answer ran) (output ran out)
+
+-- and by the table
+abbrev pub expected : Moment → Result
+expected (word offer price w) = asWord w
+expected (run start exchanges) = asAnswers (record { load = done; replies = map replyIn exchanges })
+expected (priced reads orders out a after) = asBatch a after
