@@ -10,7 +10,9 @@ use Rattle.steps.proofs.flush.plan_flush.Statement.{statement}
 use Rattle.steps.proofs.flush.plan_flush.Tie as tie
 
 sub-from : tie.Need-sub-from
-sub-from c = (early-ok (c .before .before .before .before .args .table .now) (c .before .before .before .before .args .journal .now) (c .before .before .before .before .args .t3) (c .before .before .before .before .args .state) (c .before .before .before .before .pre .0)) .sound .low
+sub-from c =
+    let k = (early-ok (c .before .before .before .before .args .table .now) (c .before .before .before .before .args .journal .now) (c .before .before .before .before .args .t3) (c .before .before .before .before .args .state) (c .before .before .before .before .pre .0)) in
+    omega (arith, k .sound .low)
 
 cast-from : tie.Need-cast-from
 cast-from c = search needs
@@ -41,7 +43,8 @@ prepare-requires c κs = count-room (shaped (c .before .before .before .before .
 add-size : tie.Need-add-size
 add-size c =
     let few = sum-small (shaped (c .before .before .before .before .before .before .before .before .before .before .before .before .before .before .before .before .before .before .before .before .args .t3) (length-unmapped Bool (c .before .before .before .before .before .before .before .before .before .before .before .before .before .before .before .before .before .before .before .before .args .t3 .held) 8 (c .before .before .before .before .before .before .before .before .before .before .before .before .before .before .before .before .before .before .before .before .good .1 .1 .0 .1 .1 .1 .1 .1 .1 .0 .1 .0 .1)) (length-unmapped ℕ (c .before .before .before .before .before .before .before .before .before .before .before .before .before .before .before .before .before .before .before .before .args .t3 .issued) 8 (c .before .before .before .before .before .before .before .before .before .before .before .before .before .before .before .before .before .before .before .before .good .1 .1 .0 .1 .1 .1 .1 .1 .1 .1 .0 .1 .0 .1)) (length-unmapped ℕ (c .before .before .before .before .before .before .before .before .before .before .before .before .before .before .before .before .before .before .before .before .args .t3 .ends) 64 (c .before .before .before .before .before .before .before .before .before .before .before .before .before .before .before .before .before .before .before .before .good .1 .1 .0 .1 .1 .1 .1 .1 .1 .1 .1 .0 .1 .0 .1))) (early-ok (c .before .before .before .before .before .before .before .before .before .before .before .before .before .before .before .before .before .before .before .before .args .table .now) (c .before .before .before .before .before .before .before .before .before .before .before .before .before .before .before .before .before .before .before .before .args .journal .now) (c .before .before .before .before .before .before .before .before .before .before .before .before .before .before .before .before .before .before .before .before .args .t3) (c .before .before .before .before .before .before .before .before .before .before .before .before .before .before .before .before .before .before .before .before .args .state) (c .before .before .before .before .before .before .before .before .before .before .before .before .before .before .before .before .before .before .before .before .pre .0)) (c .before .before .before .before .before .before .before .before .before .before .compose-run .ensures) _ _ _ (c .before .before .prepare .ensures .0) (c .before .before .prepare .ensures .1) (c .before .before .prepare .ensures .2) ((c .before .before .before .before .before .before .before .before .before .changes .given) ∙ (c .before .before .before .before .before .before .before .before .before .before .before .before .before .before .before .before .before .before .before .before .pre .1)) in
-    omega (arith, few)
+    let k = (early-ok (c .before .before .before .before .before .before .before .before .before .before .before .before .before .before .before .before .before .before .before .before .args .table .now) (c .before .before .before .before .before .before .before .before .before .before .before .before .before .before .before .before .before .before .before .before .args .journal .now) (c .before .before .before .before .before .before .before .before .before .before .before .before .before .before .before .before .before .before .before .before .args .t3) (c .before .before .before .before .before .before .before .before .before .before .before .before .before .before .before .before .before .before .before .before .args .state) (c .before .before .before .before .before .before .before .before .before .before .before .before .before .before .before .before .before .before .before .before .pre .0)) in
+    omega (arith, few, k .sound .used-in, k .range .table-most)
 
 same-length : tie.Need-same-length
 same-length c = search needs
