@@ -1,8 +1,8 @@
 -- A count after a call, and what is served from its parts.
 -- Assumes nothing.
 use mathlib.Core.Path.{_≡_, refl, ap, _∙_}
-use mathlib.Core.Bool.{true, false}
-use Prim.Native.Nat.{ℕ, _+_, _-_, _≤_, _<_, min}
+use mathlib.Core.Bool.{Bool, true, false, cond}
+use Prim.Native.Nat.{ℕ, _+_, _≤_, min}
 use native.Mathlib.Omega.{arith}
 use Rattle.layout.specs.declared.head.Head.{Head}
 use Rattle.unit.specs.declared.call.Answer.{Answer}
@@ -22,6 +22,12 @@ module _ (answer : Answer) (call : Call) (count more : ℕ) where
 
   pub count-added : acceptedB answer ≡ true → startsAnew call ≡ false → countAfter answer call count more ≡ min (count + more) largest
   count-added e f = rw e (rw f refl)
+
+-- a call that counts nothing leaves a count of 64 bits as it came
+pub count-kept : (accepted anew : Bool) (count : ℕ) → anew ≡ false → count ≤ largest
+    → cond accepted (cond anew 0 (min (count + 0) largest)) count ≡ count
+count-kept false anew count e h = refl
+count-kept true anew count e h = rw e (omega arith)
 
 module _ (c r f : ℕ) (head : Head) (call : Call) (meant : Reply) {reply : Reply} {one : Tally} {c' r' f' : ℕ} where
   pub served-is : reply ≡ meant → one ≡ countsOf head call

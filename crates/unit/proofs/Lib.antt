@@ -1,2 +1,5 @@
+pub mod Balance
 pub mod Counting
+pub mod Effects
 pub mod Replies
+pub mod Theorems

@@ -2,3 +2,4 @@ pub mod Answers
 pub mod Calls
 pub mod Tally
 pub mod Serve
+pub mod Runs
