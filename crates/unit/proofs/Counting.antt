@@ -5,13 +5,13 @@ use mathlib.Core.Bool.{Bool, true, false, cond}
 use Prim.Native.Nat.{ℕ, _+_, _≤_, min}
 use native.Mathlib.Omega.{arith}
 use Rattle.layout.specs.declared.head.Head.{Head}
-use Rattle.unit.specs.declared.call.Answer.{Answer}
-use Rattle.unit.specs.declared.call.Call.{Call}
-use Rattle.unit.specs.declared.call.Reply.{Reply}
+use Rattle.calls.specs.declared.call.Answer.{Answer}
+use Rattle.calls.specs.declared.call.Call.{Call}
+use Rattle.calls.specs.declared.call.Reply.{Reply}
 use Rattle.unit.specs.declared.tally.Tally.{Tally}
-use Rattle.unit.specs.Answers.{answerAs, acceptedB}
+use Rattle.calls.specs.Answers.{answerAs}
 use Rattle.unit.specs.Serve.{servedAs, GivesServed}
-use Rattle.unit.specs.Tally.{largest, startsAnew, counts, countsOf, countAfter, tallyAfter}
+use Rattle.unit.specs.Tally.{acceptedB, largest, startsAnew, counts, countsOf, countAfter, tallyAfter}
 
 module _ (answer : Answer) (call : Call) (count more : ℕ) where
   pub count-refused : acceptedB answer ≡ false → countAfter answer call count more ≡ count

@@ -27,12 +27,12 @@ use Rattle.steps.specs.Flush.{flushCheck, flushedHead}
 use Rattle.steps.specs.RollBack.{rollCheck, keptOf, cutTo}
 use Rattle.steps.proofs.Accepted.{roll-ok}
 use Rattle.steps.proofs.Flushing.{flush-ok}
-use Rattle.unit.specs.declared.call.Call.{Call}
-use Rattle.unit.specs.declared.call.Call.the-variants.{Clear, Load, WriteImage, Restart, Commit, RollBack, Flush, LookUp, Issue, Forward, Release}
+use Rattle.calls.specs.declared.call.Call.{Call}
+use Rattle.calls.specs.declared.call.Call.the-variants.{Clear, Load, WriteImage, Restart, Commit, RollBack, Flush, LookUp, Issue, Forward, Release}
 use Rattle.unit.specs.declared.tally.Tally.{Tally}
-use Rattle.unit.specs.Answers.{acceptedB, actedAs, quotedAs, countedAs}
-use Rattle.unit.specs.Calls.{answerTo, headAfter}
-use Rattle.unit.specs.Tally.{startsAnew, counts, countsOf}
+use Rattle.calls.specs.Answers.{actedAs, quotedAs, countedAs}
+use Rattle.calls.specs.Calls.{answerTo, headAfter}
+use Rattle.unit.specs.Tally.{acceptedB, startsAnew, counts, countsOf}
 
 -- from one head to another by so many steps committed, rolled back and flushed
 pub record Moves (count : Tally) (from to : Head) : Type 0 where

@@ -8,12 +8,11 @@ use mathlib.Core.List.{List, []}
 use Prim.Native.Nat.{ℕ, _+_, _-_, _≤_, min}
 use native.Mathlib.Omega.{arith}
 use Rattle.layout.specs.declared.head.Head.{Head}
-use Rattle.unit.specs.declared.call.Answer.{Answer}
-use Rattle.unit.specs.declared.call.Call.{Call}
+use Rattle.calls.specs.declared.call.Answer.{Answer}
+use Rattle.calls.specs.declared.call.Call.{Call}
 use Rattle.unit.specs.declared.tally.Tally.{Tally}
-use Rattle.unit.specs.Answers.{acceptedB}
 use Rattle.unit.specs.Runs.{Lent, Asked, next, after, setsToZeroB, committedBy, rolledBackBy, flushedBy}
-use Rattle.unit.specs.Tally.{largest, startsAnew, counts, countsOf, tallyAfter}
+use Rattle.unit.specs.Tally.{acceptedB, largest, startsAnew, counts, countsOf, tallyAfter}
 use Rattle.unit.proofs.Balance.{Balanced, kept-after, starts, exact}
 use Rattle.unit.proofs.Counting.{count-kept}
 

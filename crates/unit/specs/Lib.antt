@@ -1,5 +1,3 @@
-pub mod Answers
-pub mod Calls
-pub mod Tally
-pub mod Serve
 pub mod Runs
+pub mod Serve
+pub mod Tally

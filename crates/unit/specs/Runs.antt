@@ -5,12 +5,11 @@ use mathlib.Core.Bool.{Bool, _&&_, cond}
 use mathlib.Core.List.{List, [], _∷_}
 use Prim.Native.Nat.{ℕ, _+_}
 use Rattle.layout.specs.declared.head.Head.{Head}
-use Rattle.unit.specs.declared.call.Answer.{Answer}
-use Rattle.unit.specs.declared.call.Call.{Call}
+use Rattle.calls.specs.declared.call.Answer.{Answer}
+use Rattle.calls.specs.declared.call.Call.{Call}
 use Rattle.unit.specs.declared.tally.Tally.{Tally}
-use Rattle.unit.specs.Answers.{acceptedB}
-use Rattle.unit.specs.Calls.{answerTo, headAfter, tableAfter, journalAfter}
-use Rattle.unit.specs.Tally.{startsAnew, countsOf, tallyAfter}
+use Rattle.calls.specs.Calls.{answerTo, headAfter, tableAfter, journalAfter}
+use Rattle.unit.specs.Tally.{acceptedB, startsAnew, countsOf, tallyAfter}
 
 -- what the caller hands from one call to the next
 pub record Lent : Type 0 where

@@ -4,15 +4,23 @@
 use mathlib.Core.Bool.{Bool, true, false, cond}
 use Prim.Native.Nat.{ℕ, _+_, _-_, min}
 use Rattle.layout.specs.declared.head.Head.{Head}
-use Rattle.unit.specs.declared.call.Answer.{Answer}
-use Rattle.unit.specs.declared.call.Call.{Call}
-use Rattle.unit.specs.declared.call.Call.the-variants.{Clear, Load, WriteImage, Restart, Commit, RollBack, Flush, LookUp, Issue, Forward, Release}
+use Rattle.calls.specs.declared.call.Answer.{Answer}
+use Rattle.calls.specs.declared.call.Answer.the-variants.{Done, Price, NoPrice, Count, Refused}
+use Rattle.calls.specs.declared.call.Call.{Call}
+use Rattle.calls.specs.declared.call.Call.the-variants.{Clear, Load, WriteImage, Restart, Commit, RollBack, Flush, LookUp, Issue, Forward, Release}
 use Rattle.unit.specs.declared.tally.Tally.{Tally}
-use Rattle.unit.specs.Answers.{acceptedB}
 
 -- 2^64 - 1
 abbrev pub largest : ℕ
 largest = 18446744073709551615
+
+-- whether a call was accepted
+abbrev pub acceptedB : Answer → Bool
+acceptedB Done = true
+acceptedB (Price p) = true
+acceptedB NoPrice = true
+acceptedB (Count n) = true
+acceptedB (Refused ground) = false
 
 -- "Clear, load and restart set it to zero."
 abbrev pub startsAnew : Call → Bool

@@ -1,13 +1,13 @@
 // The one function that is lent the tally, and its core on plain numbers, which proved callers use.
-use crate::call::Call;
-use crate::call::Reply;
-use crate::perform::perform;
 use crate::tally::Tally;
 use crate::tally::count_after;
 use crate::tally::counts_of;
+use calls::call::Call;
+use calls::call::Reply;
+use calls::perform::perform;
 use layout::head::Head;
 ghost use mathlib.Core.Path.{_≡_};
-ghost use Rattle.unit.specs.Calls.{GivesReply, answerTo, replyTo, tableAfter, journalAfter, wordsAfter, bytesAfter};
+ghost use Rattle.calls.specs.Calls.{GivesReply, answerTo, replyTo, tableAfter, journalAfter, wordsAfter, bytesAfter};
 ghost use Rattle.unit.specs.Serve.{GivesServed, served};
 ghost use Rattle.unit.specs.Tally.{tallyAfter};
 

@@ -1,11 +1,10 @@
 // The one place where counts are worked out.
-use crate::call::Answer;
-use crate::call::Call;
+use calls::call::Answer;
+use calls::call::Call;
 use layout::head::Head;
 ghost use mathlib.Core.Path.{_≡_};
 ghost use Prim.Native.Nat.{_-_};
-ghost use Rattle.unit.specs.Answers.{acceptedB};
-ghost use Rattle.unit.specs.Tally.{startsAnew, countsOf, countAfter};
+ghost use Rattle.unit.specs.Tally.{acceptedB, startsAnew, countsOf, countAfter};
 
 // The steps committed, rolled back and flushed since the last clear, load or restart.
 pub struct Tally {

@@ -1,6 +1,6 @@
 -- `serve::serve_core` meets its contract.
 -- Assumes nothing.
-use Rattle.unit.specs.Calls.{replyTo}
+use Rattle.calls.specs.Calls.{replyTo}
 use Rattle.unit.proofs.Counting.{served-is}
 use borrow.Author.Needs.{needs}
 use Rattle.unit.proofs.serve.serve_core.Statement.{statement}

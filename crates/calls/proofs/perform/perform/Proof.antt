@@ -1,11 +1,11 @@
 -- `perform::perform` meets its contract: each arm has what its call promises.
 -- Assumes nothing.
 use mathlib.Core.Path.{refl, ap, _∙_}
-use Rattle.unit.specs.Answers.{quotedAs, countedAs}
-use Rattle.unit.proofs.Replies.{reply-is, acted-is}
+use Rattle.calls.specs.Answers.{quotedAs, countedAs}
+use Rattle.calls.proofs.Replies.{reply-is, acted-is}
 use borrow.Author.Needs.{needs}
-use Rattle.unit.proofs.perform.perform.Statement.{statement}
-use Rattle.unit.proofs.perform.perform.Tie as tie
+use Rattle.calls.proofs.perform.perform.Statement.{statement}
+use Rattle.calls.proofs.perform.perform.Tie as tie
 
 enum-told : tie.Need-enum-told
 enum-told c = search needs

@@ -2,8 +2,8 @@
 -- Assumes nothing.
 use mathlib.Core.Path.{refl}
 use borrow.Author.Needs.{needs}
-use Rattle.unit.proofs.perform.counted.Statement.{statement}
-use Rattle.unit.proofs.perform.counted.Tie as tie
+use Rattle.calls.proofs.perform.counted.Statement.{statement}
+use Rattle.calls.proofs.perform.counted.Tie as tie
 
 enum-known-written : tie.Need-enum-known-written
 enum-known-written c = search needs

@@ -2,8 +2,8 @@
 -- Assumes nothing.
 use mathlib.Core.Path.{refl}
 use borrow.Author.Needs.{needs}
-use Rattle.unit.proofs.perform.quoted.Statement.{statement}
-use Rattle.unit.proofs.perform.quoted.Tie as tie
+use Rattle.calls.proofs.perform.quoted.Statement.{statement}
+use Rattle.calls.proofs.perform.quoted.Tie as tie
 
 enum-known-quote : tie.Need-enum-known-quote
 enum-known-quote c = search needs

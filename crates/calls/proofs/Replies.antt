@@ -4,10 +4,10 @@ use mathlib.Core.Path.{_≡_, ap, _∙_}
 use Rattle.grounds.specs.declared.Outcome.{Outcome}
 use Rattle.layout.specs.declared.head.Head.{Head}
 use Rattle.layout.specs.declared.head.Stored.{Stored}
-use Rattle.unit.specs.declared.call.Answer.{Answer}
-use Rattle.unit.specs.declared.call.Reply.{Reply}
-use Rattle.unit.specs.Answers.{answerAs, actedAs}
-use Rattle.unit.specs.Calls.{GivesReply}
+use Rattle.calls.specs.declared.call.Answer.{Answer}
+use Rattle.calls.specs.declared.call.Reply.{Reply}
+use Rattle.calls.specs.Answers.{answerAs, actedAs}
+use Rattle.calls.specs.Calls.{GivesReply}
 
 pub reply-is : {r : Reply} {answer : Answer} {head : Head} → r .answer ≡ answer → r .head ≡ head → GivesReply r (record { answer = answer; head = head })
 reply-is p q = (λ i. record { answer = p i; head = q i }, ap answerAs p)

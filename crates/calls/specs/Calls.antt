@@ -14,11 +14,11 @@ use Rattle.snapshot.specs.Calls.{clearOutcome, clearHead, clearWords, loadOutco
 use Rattle.steps.specs.Commit.{commitCheck, commitJournal, commitHead}
 use Rattle.steps.specs.Flush.{flushCheck, flushTable, flushJournal, flushHead}
 use Rattle.steps.specs.RollBack.{rollCheck, rollJournal, rollHead}
-use Rattle.unit.specs.declared.call.Answer.{Answer}
-use Rattle.unit.specs.declared.call.Call.{Call}
-use Rattle.unit.specs.declared.call.Call.the-variants.{Clear, Load, WriteImage, Restart, Commit, RollBack, Flush, LookUp, Issue, Forward, Release}
-use Rattle.unit.specs.declared.call.Reply.{Reply}
-use Rattle.unit.specs.Answers.{answerAs, actedAs, quotedAs, countedAs}
+use Rattle.calls.specs.declared.call.Answer.{Answer}
+use Rattle.calls.specs.declared.call.Call.{Call}
+use Rattle.calls.specs.declared.call.Call.the-variants.{Clear, Load, WriteImage, Restart, Commit, RollBack, Flush, LookUp, Issue, Forward, Release}
+use Rattle.calls.specs.declared.call.Reply.{Reply}
+use Rattle.calls.specs.Answers.{answerAs, actedAs, quotedAs, countedAs}
 
 module _ (table journal words bytes : List ℕ) (head : Head) where
   abbrev pub answerTo : Call → Answer

@@ -19,8 +19,8 @@ use steps::commit::commit;
 use steps::flush::flush;
 use steps::roll_back::roll_back;
 ghost use mathlib.Core.Path.{_≡_};
-ghost use Rattle.unit.specs.Answers.{actedAs, quotedAs, countedAs};
-ghost use Rattle.unit.specs.Calls.{GivesReply, replyTo, tableAfter, journalAfter, wordsAfter, bytesAfter};
+ghost use Rattle.calls.specs.Answers.{actedAs, quotedAs, countedAs};
+ghost use Rattle.calls.specs.Calls.{GivesReply, replyTo, tableAfter, journalAfter, wordsAfter, bytesAfter};
 
 // The reply of a call that moves a store.
 fn acted(stored: Stored) -> Reply

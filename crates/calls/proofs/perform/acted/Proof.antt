@@ -2,8 +2,8 @@
 -- Assumes nothing.
 use mathlib.Core.Path.{refl}
 use borrow.Author.Needs.{needs}
-use Rattle.unit.proofs.perform.acted.Statement.{statement}
-use Rattle.unit.proofs.perform.acted.Tie as tie
+use Rattle.calls.proofs.perform.acted.Statement.{statement}
+use Rattle.calls.proofs.perform.acted.Tie as tie
 
 enum-told : tie.Need-enum-told
 enum-told c = search needs
