@@ -1,4 +1,5 @@
 pub mod Alike
+pub mod Door
 pub mod FlushCall
 pub mod Lines
 pub mod Loads

@@ -3,3 +3,4 @@ pub mod Plain
 pub mod Served
 pub mod Runs
 pub mod Condition3
+pub mod Door
