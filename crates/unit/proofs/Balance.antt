@@ -6,8 +6,8 @@ use mathlib.Core.List.{List, [], _∷_}
 use Prim.Native.Nat.{ℕ, _+_, _-_, _≤_, min}
 use native.Mathlib.Omega.{arith}
 use Rattle.layout.specs.declared.head.Head.{Head}
-use Rattle.unit.specs.declared.tally.Tally.{Tally}
 use Rattle.calls.specs.Calls.{headAfter}
+use Rattle.unit.specs.declared.tally.Tally.{Tally}
 use Rattle.unit.specs.Runs.{Lent, Asked, Accepted, acceptsB, next, after, setsToZeroB, noted, notedAll, sumOf}
 use Rattle.unit.specs.Tally.{largest, startsAnew, countsOf}
 use Rattle.unit.proofs.Effects.{Moves, Effect, turned, began, moved, effect}
@@ -32,14 +32,18 @@ balance-moves c r f cc rr ff tip checkpoint tip' checkpoint' h h' e m = omega (a
 abbrev pub Kept : List Accepted → Lent → Type 0
 Kept calls l = Balanced (sumOf (λ (t : Tally). t .committed) calls) (sumOf (λ (t : Tally). t .«rolled_back») calls) (sumOf (λ (t : Tally). t .flushed) calls) (l .tally) (l .head)
 
-module _ (calls : List Accepted) (l : Lent) (a : Asked) where
-  To : Head
-  To = headAfter (l .table) (l .journal) (a .words) (a .bytes) (l .head) (a .call)
+-- what a call does to the head that is lent to it
+abbrev EffectOf : Lent → Asked → Type 0
+EffectOf l a =
+    Effect (acceptsB l a) (startsAnew (a .call)) (countsOf (l .head) (a .call)) (l .head) (headAfter (l .table) (l .journal) (a .words) (a .bytes) (l .head) (a .call))
 
-  kept-by : Effect (acceptsB l a) (startsAnew (a .call)) (countsOf (l .head) (a .call)) (l .head) To → Kept calls l → Kept (noted calls l a) (next l a)
-  unfolding noted next sumOf To
-  kept-by (turned n same) k =
-      rw n (rw same k)
+effect-of : (l : Lent) (a : Asked) → EffectOf l a
+effect-of l a = effect (l .table) (l .journal) (a .words) (a .bytes) (l .head) (a .call)
+
+module _ (calls : List Accepted) (l : Lent) (a : Asked) where
+  kept-by : EffectOf l a → Kept calls l → Kept (noted calls l a) (next l a)
+  unfolding noted next sumOf
+  kept-by (turned n same) k = rw n (rw same k)
   kept-by (began y anew level) k =
       rw y (rw anew (record { order = omega (arith, level); committed = refl; rolled-back = refl; flushed = refl; balance = omega (arith, level) }))
   kept-by (moved y on moves) k =
@@ -53,8 +57,7 @@ module _ (calls : List Accepted) (l : Lent) (a : Asked) where
       }))
 
 pub kept-next : (calls : List Accepted) (l : Lent) (a : Asked) → Kept calls l → Kept (noted calls l a) (next l a)
-unfolding To
-kept-next calls l a = kept-by calls l a (effect (l .table) (l .journal) (a .words) (a .bytes) (l .head) (a .call))
+kept-next calls l a = kept-by calls l a (effect-of l a)
 
 pub kept-after : (calls : List Accepted) (l : Lent) (asked : List Asked) → Kept calls l → Kept (notedAll calls l asked) (after l asked)
 unfolding notedAll after
@@ -68,18 +71,17 @@ both-true true false e = absurd (let z : _≡_ {A = ℕ} 0 1 = cc in omega arith
 both-true false y e = absurd (let z : _≡_ {A = ℕ} 0 1 = cc in omega arith)
 
 module _ (l : Lent) (a : Asked) where
-  starts-by : Effect (acceptsB l a) (startsAnew (a .call)) (countsOf (l .head) (a .call)) (l .head) (To [] l a) → acceptsB l a ≡ true → startsAnew (a .call) ≡ true → Kept [] (next l a)
-  unfolding next sumOf To
+  starts-by : EffectOf l a → acceptsB l a ≡ true → startsAnew (a .call) ≡ true → Kept [] (next l a)
+  unfolding next sumOf
   starts-by (turned n same) y anew = absurd (let z : _≡_ {A = Bool} true false = sym y ∙ n in let z : _≡_ {A = ℕ} 0 1 = cc in omega arith)
   starts-by (moved t on moves) y anew = absurd (let z : _≡_ {A = Bool} true false = sym anew ∙ on in let z : _≡_ {A = ℕ} 0 1 = cc in omega arith)
   starts-by (began t u level) y anew =
       rw y (rw anew (record { order = omega (arith, level); committed = refl; rolled-back = refl; flushed = refl; balance = omega (arith, level) }))
 
   pub starts : setsToZeroB l a ≡ true → Kept [] (next l a)
-  unfolding To
   starts e =
       let b = both-true (acceptsB l a) (startsAnew (a .call)) e in
-      starts-by (effect (l .table) (l .journal) (a .words) (a .bytes) (l .head) (a .call)) (b .0) (b .1)
+      starts-by (effect-of l a) (b .0) (b .1)
 
 -- a count below its largest value is its sum
 pub exact : (sum count : ℕ) → count ≡ min sum largest → (count ≡ largest → ⊥) → count ≡ sum

@@ -8,8 +8,8 @@ use Rattle.layout.specs.declared.head.Head.{Head}
 use Rattle.calls.specs.declared.call.Answer.{Answer}
 use Rattle.calls.specs.declared.call.Call.{Call}
 use Rattle.calls.specs.declared.call.Reply.{Reply}
-use Rattle.unit.specs.declared.tally.Tally.{Tally}
 use Rattle.calls.specs.Answers.{answerAs}
+use Rattle.unit.specs.declared.tally.Tally.{Tally}
 use Rattle.unit.specs.Serve.{servedAs, GivesServed}
 use Rattle.unit.specs.Tally.{acceptedB, largest, startsAnew, counts, countsOf, countAfter, tallyAfter}
 

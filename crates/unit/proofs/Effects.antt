@@ -29,9 +29,9 @@ use Rattle.steps.proofs.Accepted.{roll-ok}
 use Rattle.steps.proofs.Flushing.{flush-ok}
 use Rattle.calls.specs.declared.call.Call.{Call}
 use Rattle.calls.specs.declared.call.Call.the-variants.{Clear, Load, WriteImage, Restart, Commit, RollBack, Flush, LookUp, Issue, Forward, Release}
-use Rattle.unit.specs.declared.tally.Tally.{Tally}
 use Rattle.calls.specs.Answers.{actedAs, quotedAs, countedAs}
 use Rattle.calls.specs.Calls.{answerTo, headAfter}
+use Rattle.unit.specs.declared.tally.Tally.{Tally}
 use Rattle.unit.specs.Tally.{acceptedB, startsAnew, counts, countsOf}
 
 -- from one head to another by so many steps committed, rolled back and flushed

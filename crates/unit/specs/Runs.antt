@@ -7,8 +7,8 @@ use Prim.Native.Nat.{ℕ, _+_}
 use Rattle.layout.specs.declared.head.Head.{Head}
 use Rattle.calls.specs.declared.call.Answer.{Answer}
 use Rattle.calls.specs.declared.call.Call.{Call}
-use Rattle.unit.specs.declared.tally.Tally.{Tally}
 use Rattle.calls.specs.Calls.{answerTo, headAfter, tableAfter, journalAfter}
+use Rattle.unit.specs.declared.tally.Tally.{Tally}
 use Rattle.unit.specs.Tally.{acceptedB, startsAnew, countsOf, tallyAfter}
 
 -- what the caller hands from one call to the next
@@ -53,10 +53,11 @@ pub record Accepted : Type 0 where
   pub head : Head
   pub call : Call
 
--- the accepted calls since the last one that sets the tally to zero, newest first, before and after a call
+-- the accepted calls since the last one that set the tally to zero, newest first: those before a call, and with it
 unfoldable pub noted : List Accepted → Lent → Asked → List Accepted
 noted calls l a = cond (acceptsB l a) (cond (startsAnew (a .call)) [] (record { head = l .head; call = a .call } ∷ calls)) calls
 
+-- and with a list of calls
 unfoldable pub notedAll : List Accepted → Lent → List Asked → List Accepted
 notedAll calls l [] = calls
 notedAll calls l (a ∷ asked) = notedAll (noted calls l a) (next l a) asked
@@ -66,7 +67,7 @@ unfoldable pub sumOf : (Tally → ℕ) → List Accepted → ℕ
 sumOf count [] = 0
 sumOf count (c ∷ calls) = count (countsOf (c .head) (c .call)) + sumOf count calls
 
--- the same of a list of calls that follows one that sets the tally to zero
+-- the same of a list of calls that follows one that set the tally to zero; one of the list that sets it to zero starts the sums anew
 abbrev pub committedBy : Lent → List Asked → ℕ
 committedBy l asked = sumOf (λ (t : Tally). t .committed) (notedAll [] l asked)
 

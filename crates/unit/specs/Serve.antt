@@ -6,10 +6,10 @@ use Prim.Native.Nat.{ℕ}
 use Rattle.layout.specs.declared.head.Head.{Head}
 use Rattle.calls.specs.declared.call.Call.{Call}
 use Rattle.calls.specs.declared.call.Reply.{Reply}
-use Rattle.unit.specs.declared.serve.Served.{Served}
-use Rattle.unit.specs.declared.tally.Tally.{Tally}
 use Rattle.calls.specs.Answers.{answerAs}
 use Rattle.calls.specs.Calls.{answerTo, replyTo}
+use Rattle.unit.specs.declared.serve.Served.{Served}
+use Rattle.unit.specs.declared.tally.Tally.{Tally}
 use Rattle.unit.specs.Tally.{counts, tallyAfter}
 
 abbrev pub servedAs : Reply → Tally → Served
