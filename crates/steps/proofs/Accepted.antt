@@ -14,16 +14,19 @@ use lib.Seq.{drop-drop, length-take-le}
 use Rattle.changes.specs.Lists.{listB}
 use Rattle.changes.specs.Runs.{startOf}
 use Rattle.words.proofs.Parts.{part, put-part}
-use Rattle.grounds.specs.declared.Outcome.the-variants.{Done}
-use Rattle.grounds.proofs.Firsts.{done-not}
+use Rattle.grounds.specs.declared.Outcome.{Outcome}
+use Rattle.grounds.specs.declared.Outcome.the-variants.{Done, Refused}
+use Rattle.grounds.specs.declared.Refusal.{Refusal}
+use Rattle.grounds.specs.Numbers.{Gives}
+use Rattle.grounds.proofs.Firsts.{done-not, gives, if-refused, if-done}
 use Rattle.layout.specs.declared.head.Head.{Head}
 use Rattle.layout.specs.Sound.{heldOf, stepB}
 use Rattle.layout.proofs.HeadTests.{InRange, lengths-facts}
 use Rattle.layout.proofs.Holds.{all-of}
 use Rattle.layout.proofs.Sounds.{Sound, sound-facts}
 use Rattle.layout.proofs.StepTests.{steps-inside}
-use Rattle.steps.specs.Commit.{usedOf, commitCheck, withList}
-use Rattle.steps.specs.RollBack.{rollCheck, keptOf, cutAt}
+use Rattle.steps.specs.Commit.{usedOf, commitCheck, commitHead, commitJournal, withList, withStep}
+use Rattle.steps.specs.RollBack.{rollCheck, rollHead, rollJournal, keptOf, cutAt, cutTo}
 
 -- the held steps of a sound store, or the first of them, end within the journal
 pub inside : {table journal : List ℕ} {head : Head} → Sound table journal head → (n : ℕ) → n ≤ heldOf head → startOf (head .ends) n ≤ length journal
@@ -79,6 +82,23 @@ with-list journal list last u h e =
     (e ∙ ap (λ (l : List ℕ). list ++ l) (ap (drop (length list)) (part journal u) ∙ drop-drop (length list) u journal))
     ∙ sym (append-assoc (take u journal) list (drop (u + length list) journal))
 
+-- from what the test of a commit answers: what is known, and what the call gives back
+module _ (table journal : List ℕ) (head : Head) (list : List ℕ) {r : Outcome} (e : r ≡ commitCheck table journal head list) where
+  pub commit-known : r ≡ Done → CommitOk table journal head list
+  commit-known d = commit-ok table journal head list (sym e ∙ d)
+
+  pub commit-refused : {why : Refusal} → r ≡ Refused why
+      → Gives r (commitCheck table journal head list) × (head ≡ commitHead table journal head list) × (journal ≡ commitJournal table journal head list)
+  commit-refused d = (gives e, if-refused (sym e ∙ d) _ _, if-refused (sym e ∙ d) _ _)
+
+  pub commit-done : r ≡ Done → {next : Head} {left : List ℕ} (u : ℕ) → u ≡ usedOf head → next ≡ withStep head (heldOf head) (u + length list) → left ≡ withList journal u list
+      → Gives Done (commitCheck table journal head list) × (next ≡ commitHead table journal head list) × (left ≡ commitJournal table journal head list)
+  commit-done d u f n l = (
+    gives (sym d ∙ e),
+    if-done (sym e ∙ d) _ _ (n ∙ ap (λ (k : ℕ). withStep head (heldOf head) (k + length list)) f),
+    if-done (sym e ∙ d) _ _ (l ∙ ap (λ (k : ℕ). withList journal k list) f),
+  )
+
 -- a rollback
 pub record RollOk (table journal : List ℕ) (head : Head) (state : ℕ) : Type 0 where
   pub range : InRange (length table) (length journal)
@@ -109,6 +129,19 @@ roll-ok table journal head state e =
 module _ {table journal : List ℕ} {head : Head} {state : ℕ} (ok : RollOk table journal head state) where
   pub kept-inside : (end : ℕ) → end ≡ startOf (head .ends) (keptOf head state) → end ≤ length journal
   kept-inside end e = omega (arith, inside (ok .sound) (keptOf head state) (omega (arith, ok .high)))
+
+-- from what the test of a rollback answers: what is known, and what the call gives back
+module _ (table journal : List ℕ) (head : Head) (state : ℕ) {r : Outcome} (e : r ≡ rollCheck table journal head state) where
+  pub roll-known : r ≡ Done → RollOk table journal head state
+  roll-known d = roll-ok table journal head state (sym e ∙ d)
+
+  pub roll-refused : {why : Refusal} → r ≡ Refused why
+      → Gives r (rollCheck table journal head state) × (head ≡ rollHead table journal head state) × (journal ≡ rollJournal table journal head state)
+  roll-refused d = (gives e, if-refused (sym e ∙ d) _ _, if-refused (sym e ∙ d) _ _)
+
+  pub roll-done : r ≡ Done → {next : Head} {left : List ℕ} (end : ℕ) → end ≡ startOf (head .ends) (keptOf head state) → next ≡ cutTo head (keptOf head state) state → left ≡ cutAt journal end
+      → Gives Done (rollCheck table journal head state) × (next ≡ rollHead table journal head state) × (left ≡ rollJournal table journal head state)
+  roll-done d end f n l = (gives (sym d ∙ e), if-done (sym e ∙ d) _ _ n, if-done (sym e ∙ d) _ _ (l ∙ ap (cutAt journal) f))
 
 -- the test of a state
 pub below-low : (state checkpoint tip : ℕ) → ltb state checkpoint ≡ true → (ltb state checkpoint || ltb tip state) ≡ true

@@ -15,22 +15,24 @@ use Rattle.runs.specs.Composed.{RunRoom, Composed}
 use Rattle.changes.proofs.Laws.{apply-length}
 use Rattle.table.proofs.Laws.{apply-size}
 use Rattle.changes.proofs.Running.{marked-fewer}
+use Rattle.grounds.specs.declared.Outcome.{Outcome}
 use Rattle.grounds.specs.declared.Outcome.the-variants.{Done, Refused}
 use Rattle.grounds.specs.declared.Refusal.{Refusal}
 use Rattle.grounds.specs.declared.Refusal.the-variants.{TableFull}
 use Rattle.grounds.specs.First.{Ground, met, first}
-use Rattle.grounds.proofs.Firsts.{done-not, first-met, first-not, none-met}
+use Rattle.grounds.specs.Numbers.{Gives}
+use Rattle.grounds.proofs.Firsts.{done-not, first-met, first-not, none-met, gives, if-refused, if-done}
 use Rattle.layout.specs.declared.head.Head.{Head}
 use Rattle.layout.specs.States.{stepIndex, mapHere}
 use Rattle.layout.specs.Tests.{zerosB}
-use Rattle.layout.specs.Trim.{Trimmable}
+use Rattle.layout.specs.Trim.{Trimmable, trimmedHead, trimmedJournal}
 use Rattle.layout.specs.View.{padded, Shaped}
 use Rattle.layout.proofs.HeadTests.{InRange, lengths-facts}
 use Rattle.layout.proofs.SlotLists.{least-up-to, least-later}
 use Rattle.layout.proofs.Sounds.{Sound, sound-facts, sound-marked}
 use Rattle.layout.proofs.States.{since-rises}
 use Rattle.layout.proofs.WordTests.{zeros-fact}
-use Rattle.steps.specs.Flush.{flushCheck, earlyCheck, flushChanges, flushedHead, FlushPlan}
+use Rattle.steps.specs.Flush.{flushCheck, earlyCheck, flushHead, flushTable, flushJournal, flushChanges, flushedHead, FlushPlan}
 use Rattle.steps.proofs.StepRuns.{zeros-from}
 
 -- a head whose arrays have their lengths
@@ -79,6 +81,38 @@ early-ok table journal head state e =
       low = ltb-false state (head .checkpoint) (c .0);
       high = ltb-false (head .tip) state (d .0);
     }
+
+-- what is known where the early grounds are passed
+pub record FlushStart (table journal : List ℕ) (head : Head) (state : ℕ) : Type 0 where
+  pub shape : Shaped head
+  pub passed : earlyCheck table journal head state ≡ Done
+  pub ok : EarlyOk table journal head state
+
+module _ (table journal : List ℕ) (head : Head) (state : ℕ) where
+  pub flush-start : {r : Outcome} → r ≡ earlyCheck table journal head state → r ≡ Done → length (head .held) ≡ 8 → length (head .issued) ≡ 8 → length (head .ends) ≡ 64
+      → FlushStart table journal head state
+  flush-start e d a b c = record { shape = shaped head a b c; passed = sym e ∙ d; ok = early-ok table journal head state (sym e ∙ d) }
+
+  -- what a flush gives back: where it is turned away all as it came, where it is accepted what it made
+  pub flush-refused : {r : Outcome} {why : Refusal} → r ≡ earlyCheck table journal head state → r ≡ Refused why
+      → Gives r (flushCheck table journal head state) × (head ≡ flushHead table journal head state) × (table ≡ flushTable table journal head state) × (journal ≡ flushJournal table journal head state)
+  flush-refused {why = why} e d =
+      let f = early-refused table journal head state why (sym e ∙ d) in
+      (gives (d ∙ sym f), if-refused f _ _, if-refused f _ _, if-refused f _ _)
+
+  pub flush-full : FlushStart table journal head state → length table < length (mapHere table journal head state)
+      → Gives (Refused TableFull) (flushCheck table journal head state) × (head ≡ flushHead table journal head state) × (table ≡ flushTable table journal head state) × (journal ≡ flushJournal table journal head state)
+  flush-full k h =
+      let e = full-refused table journal head state (k .passed) h in
+      (gives (sym e), if-refused e _ _, if-refused e _ _, if-refused e _ _)
+
+  pub flush-done : FlushStart table journal head state → length (mapHere table journal head state) ≤ length table → {next end : Head} {made left : List ℕ}
+      → next ≡ flushedHead head (length (mapHere table journal head state)) state → end ≡ trimmedHead next
+      → made ≡ padded (length table) (mapHere table journal head state) → left ≡ trimmedJournal next journal
+      → Gives Done (flushCheck table journal head state) × (end ≡ flushHead table journal head state) × (made ≡ flushTable table journal head state) × (left ≡ flushJournal table journal head state)
+  flush-done k h n t m l =
+      let e = room-done table journal head state (k .passed) h in
+      (gives (sym e), if-done e _ _ (t ∙ ap trimmedHead n), if-done e _ _ m, if-done e _ _ (l ∙ ap (λ (x : Head). trimmedJournal x journal) n))
 
 -- a flush
 pub record FlushOk (table journal : List ℕ) (head : Head) (state : ℕ) : Type 0 where

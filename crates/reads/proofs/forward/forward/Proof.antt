@@ -4,11 +4,8 @@ use mathlib.Core.Path.{_∙_, sym, ap, subst}
 use mathlib.Core.Bool.{Bool}
 use Prim.Native.Nat.{ℕ}
 use borrow.Author.Needs.{length-unmapped}
-use lib.ListN.{getD}
-use Rattle.grounds.proofs.Firsts.{gives, if-refused, if-done}
 use Rattle.layout.specs.Trim.{trimmedHead, trimmedJournal, Trimmable}
-use Rattle.reads.proofs.Accepted.{forward-ok, steps-rising, shaped}
-use Rattle.reads.proofs.Closing.{shut-trimmable, number-low, number-high}
+use Rattle.reads.proofs.Closing.{Forwarding, forwarding, forward-refused, forward-done}
 use borrow.Author.Needs.{needs}
 use native.Mathlib.Omega.{arith}
 use Rattle.reads.proofs.forward.forward.Statement.{statement}
@@ -30,24 +27,32 @@ same-length-2 : tie.Need-same-length-2
 same-length-2 c = search needs
 
 returns : tie.Need-returns
-returns c =
-    let e = sym (c .before .before .forward-check .ensures) ∙ (c .enum-told2 .given .1) in
-    (gives (c .before .before .forward-check .ensures), if-refused e _ _, if-refused e _ _, if-refused e _ _)
+returns c = let s = c .before .before .before .before .before .before .before .before in forward-refused (s .args .table .now) (s .args .journal .now) (s .args .head) (s .args .slot) (s .args .state) (s .args .reads .now) (c .before .before .forward-check .ensures) (c .enum-told2 .given .1)
+
+-- what the accepted call knows, from the place where its test is told
+known : (d : tie.After-enum-told) → Forwarding (d .before .before .before .before .before .before .before .before .args .table .now) (d .before .before .before .before .before .before .before .before .args .journal .now) (d .before .before .before .before .before .before .before .before .args .head) (d .before .before .before .before .before .before .before .before .args .slot) (d .before .before .before .before .before .before .before .before .args .state)
+known d =
+    let s = d .before .before .before .before .before .before .before .before in
+    forwarding (s .args .table .now) (s .args .journal .now) (s .args .head) (s .args .slot) (s .args .state) (s .args .reads .now)
+    (d .before .before .forward-check .ensures) (d .enum-told .given .1)
+    (length-unmapped Bool (s .args .head .held) 8 (s .good .1 .1 .0 .1 .1 .1 .1 .1 .1 .0 .1 .0 .1))
+    (length-unmapped ℕ (s .args .head .issued) 8 (s .good .1 .1 .0 .1 .1 .1 .1 .1 .1 .1 .0 .1 .0 .1))
+    (length-unmapped ℕ (s .args .head .ends) 64 (s .good .1 .1 .0 .1 .1 .1 .1 .1 .1 .1 .1 .0 .1 .0 .1))
 
 mul-number : tie.Need-mul-number
-mul-number c = let p = shaped (c .before .before .before .before .before .before .before .before .before .before .args .head) (length-unmapped Bool ((c .before .before .before .before .before .before .before .before .before .before .args .head .held)) 8 (c .before .before .before .before .before .before .before .before .before .before .good .1 .1 .0 .1 .1 .1 .1 .1 .1 .0 .1 .0 .1)) (length-unmapped ℕ ((c .before .before .before .before .before .before .before .before .before .before .args .head .issued)) 8 (c .before .before .before .before .before .before .before .before .before .before .good .1 .1 .0 .1 .1 .1 .1 .1 .1 .1 .0 .1 .0 .1)) (length-unmapped ℕ ((c .before .before .before .before .before .before .before .before .before .before .args .head .ends)) 64 (c .before .before .before .before .before .before .before .before .before .before .good .1 .1 .0 .1 .1 .1 .1 .1 .1 .1 .1 .0 .1 .0 .1)) in let k = forward-ok ((c .before .before .before .before .before .before .before .before .before .before .args .table .now)) ((c .before .before .before .before .before .before .before .before .before .before .args .journal .now)) (c .before .before .before .before .before .before .before .before .before .before .args .head) (c .before .before .before .before .before .before .before .before .before .before .args .slot) (c .before .before .before .before .before .before .before .before .before .before .args .state) ((c .before .before .before .before .before .before .before .before .before .before .args .reads .now)) (sym (c .before .before .before .before .forward-check .ensures) ∙ (c .before .before .enum-told .given .1)) in omega (arith, k .slot-in)
+mul-number c = omega (arith, known (c .before .before) .slot-in)
 
 array-read-number : tie.Need-array-read-number
-array-read-number c = forward-ok ((c .before .before .before .before .before .before .before .before .before .before .args .table .now)) ((c .before .before .before .before .before .before .before .before .before .before .args .journal .now)) (c .before .before .before .before .before .before .before .before .before .before .args .head) (c .before .before .before .before .before .before .before .before .before .before .args .slot) (c .before .before .before .before .before .before .before .before .before .before .args .state) ((c .before .before .before .before .before .before .before .before .before .before .args .reads .now)) (sym (c .before .before .before .before .forward-check .ensures) ∙ (c .before .before .enum-told .given .1)) .slot-in
+array-read-number c = known (c .before .before) .slot-in
 
 sub-from : tie.Need-sub-from
-sub-from c = let p = shaped (c .before .before .before .before .before .before .before .before .before .before .before .args .head) (length-unmapped Bool ((c .before .before .before .before .before .before .before .before .before .before .before .args .head .held)) 8 (c .before .before .before .before .before .before .before .before .before .before .before .good .1 .1 .0 .1 .1 .1 .1 .1 .1 .0 .1 .0 .1)) (length-unmapped ℕ ((c .before .before .before .before .before .before .before .before .before .before .before .args .head .issued)) 8 (c .before .before .before .before .before .before .before .before .before .before .before .good .1 .1 .0 .1 .1 .1 .1 .1 .1 .1 .0 .1 .0 .1)) (length-unmapped ℕ ((c .before .before .before .before .before .before .before .before .before .before .before .args .head .ends)) 64 (c .before .before .before .before .before .before .before .before .before .before .before .good .1 .1 .0 .1 .1 .1 .1 .1 .1 .1 .1 .0 .1 .0 .1)) in let k = forward-ok ((c .before .before .before .before .before .before .before .before .before .before .before .args .table .now)) ((c .before .before .before .before .before .before .before .before .before .before .before .args .journal .now)) (c .before .before .before .before .before .before .before .before .before .before .before .args .head) (c .before .before .before .before .before .before .before .before .before .before .before .args .slot) (c .before .before .before .before .before .before .before .before .before .before .before .args .state) ((c .before .before .before .before .before .before .before .before .before .before .before .args .reads .now)) (sym (c .before .before .before .before .before .forward-check .ensures) ∙ (c .before .before .before .enum-told .given .1)) in omega (arith, number-low ((c .before .before .before .before .before .before .before .before .before .before .before .args .table .now)) ((c .before .before .before .before .before .before .before .before .before .before .before .args .journal .now)) (c .before .before .before .before .before .before .before .before .before .before .before .args .head) p (k .sound) (c .before .before .before .before .before .before .before .before .before .before .before .args .slot) (k .slot-in) (k .taken), number-high ((c .before .before .before .before .before .before .before .before .before .before .before .args .table .now)) ((c .before .before .before .before .before .before .before .before .before .before .before .args .journal .now)) (c .before .before .before .before .before .before .before .before .before .before .before .args .head) p (k .sound) (c .before .before .before .before .before .before .before .before .before .before .before .args .slot) (k .slot-in) (k .taken))
+sub-from c = omega (arith, known (c .before .before .before) .number-from)
 
 cast-from : tie.Need-cast-from
-cast-from c = let p = shaped (c .before .before .before .before .before .before .before .before .before .before .before .args .head) (length-unmapped Bool ((c .before .before .before .before .before .before .before .before .before .before .before .args .head .held)) 8 (c .before .before .before .before .before .before .before .before .before .before .before .good .1 .1 .0 .1 .1 .1 .1 .1 .1 .0 .1 .0 .1)) (length-unmapped ℕ ((c .before .before .before .before .before .before .before .before .before .before .before .args .head .issued)) 8 (c .before .before .before .before .before .before .before .before .before .before .before .good .1 .1 .0 .1 .1 .1 .1 .1 .1 .1 .0 .1 .0 .1)) (length-unmapped ℕ ((c .before .before .before .before .before .before .before .before .before .before .before .args .head .ends)) 64 (c .before .before .before .before .before .before .before .before .before .before .before .good .1 .1 .0 .1 .1 .1 .1 .1 .1 .1 .1 .0 .1 .0 .1)) in let k = forward-ok ((c .before .before .before .before .before .before .before .before .before .before .before .args .table .now)) ((c .before .before .before .before .before .before .before .before .before .before .before .args .journal .now)) (c .before .before .before .before .before .before .before .before .before .before .before .args .head) (c .before .before .before .before .before .before .before .before .before .before .before .args .slot) (c .before .before .before .before .before .before .before .before .before .before .before .args .state) ((c .before .before .before .before .before .before .before .before .before .before .before .args .reads .now)) (sym (c .before .before .before .before .before .forward-check .ensures) ∙ (c .before .before .before .enum-told .given .1)) in omega (arith, number-low ((c .before .before .before .before .before .before .before .before .before .before .before .args .table .now)) ((c .before .before .before .before .before .before .before .before .before .before .before .args .journal .now)) (c .before .before .before .before .before .before .before .before .before .before .before .args .head) p (k .sound) (c .before .before .before .before .before .before .before .before .before .before .before .args .slot) (k .slot-in) (k .taken), number-high ((c .before .before .before .before .before .before .before .before .before .before .before .args .table .now)) ((c .before .before .before .before .before .before .before .before .before .before .before .args .journal .now)) (c .before .before .before .before .before .before .before .before .before .before .before .args .head) p (k .sound) (c .before .before .before .before .before .before .before .before .before .before .before .args .slot) (k .slot-in) (k .taken))
+cast-from c = omega (arith, known (c .before .before .before) .number-from, known (c .before .before .before) .number-to)
 
 sub-to : tie.Need-sub-to
-sub-to c = let p = shaped (c .before .before .before .before .before .before .before .before .before .before .before .before .args .head) (length-unmapped Bool ((c .before .before .before .before .before .before .before .before .before .before .before .before .args .head .held)) 8 (c .before .before .before .before .before .before .before .before .before .before .before .before .good .1 .1 .0 .1 .1 .1 .1 .1 .1 .0 .1 .0 .1)) (length-unmapped ℕ ((c .before .before .before .before .before .before .before .before .before .before .before .before .args .head .issued)) 8 (c .before .before .before .before .before .before .before .before .before .before .before .before .good .1 .1 .0 .1 .1 .1 .1 .1 .1 .1 .0 .1 .0 .1)) (length-unmapped ℕ ((c .before .before .before .before .before .before .before .before .before .before .before .before .args .head .ends)) 64 (c .before .before .before .before .before .before .before .before .before .before .before .before .good .1 .1 .0 .1 .1 .1 .1 .1 .1 .1 .1 .0 .1 .0 .1)) in let k = forward-ok ((c .before .before .before .before .before .before .before .before .before .before .before .before .args .table .now)) ((c .before .before .before .before .before .before .before .before .before .before .before .before .args .journal .now)) (c .before .before .before .before .before .before .before .before .before .before .before .before .args .head) (c .before .before .before .before .before .before .before .before .before .before .before .before .args .slot) (c .before .before .before .before .before .before .before .before .before .before .before .before .args .state) ((c .before .before .before .before .before .before .before .before .before .before .before .before .args .reads .now)) (sym (c .before .before .before .before .before .before .forward-check .ensures) ∙ (c .before .before .before .before .enum-told .given .1)) in omega (arith, k .sound .low, k .low)
+sub-to c = omega (arith, known (c .before .before .before .before) .state-from)
 
 cast-to : tie.Need-cast-to
 cast-to c = search needs
@@ -56,13 +61,13 @@ slice-aggregate-bring-forward : tie.Need-slice-aggregate-bring-forward
 slice-aggregate-bring-forward c = search needs
 
 bring-forward-requires : tie.Need-bring-forward-requires
-bring-forward-requires c κs = let p = shaped (c .before .before .before .before .before .before .before .before .before .before .before .before .before .before .before .args .head) (length-unmapped Bool ((c .before .before .before .before .before .before .before .before .before .before .before .before .before .before .before .args .head .held)) 8 (c .before .before .before .before .before .before .before .before .before .before .before .before .before .before .before .good .1 .1 .0 .1 .1 .1 .1 .1 .1 .0 .1 .0 .1)) (length-unmapped ℕ ((c .before .before .before .before .before .before .before .before .before .before .before .before .before .before .before .args .head .issued)) 8 (c .before .before .before .before .before .before .before .before .before .before .before .before .before .before .before .good .1 .1 .0 .1 .1 .1 .1 .1 .1 .1 .0 .1 .0 .1)) (length-unmapped ℕ ((c .before .before .before .before .before .before .before .before .before .before .before .before .before .before .before .args .head .ends)) 64 (c .before .before .before .before .before .before .before .before .before .before .before .before .before .before .before .good .1 .1 .0 .1 .1 .1 .1 .1 .1 .1 .1 .0 .1 .0 .1)) in let k = forward-ok ((c .before .before .before .before .before .before .before .before .before .before .before .before .before .before .before .args .table .now)) ((c .before .before .before .before .before .before .before .before .before .before .before .before .before .before .before .args .journal .now)) (c .before .before .before .before .before .before .before .before .before .before .before .before .before .before .before .args .head) (c .before .before .before .before .before .before .before .before .before .before .before .before .before .before .before .args .slot) (c .before .before .before .before .before .before .before .before .before .before .before .before .before .before .before .args .state) ((c .before .before .before .before .before .before .before .before .before .before .before .before .before .before .before .args .reads .now)) (sym (c .before .before .before .before .before .before .before .before .before .forward-check .ensures) ∙ (c .before .before .before .before .before .before .before .enum-told .given .1)) in steps-rising ((c .before .before .before .before .before .before .before .before .before .before .before .before .before .before .before .args .table .now)) ((c .before .before .before .before .before .before .before .before .before .before .before .before .before .before .before .args .journal .now)) (c .before .before .before .before .before .before .before .before .before .before .before .before .before .before .before .args .head) p (k .sound) (getD ((c .before .before .before .before .before .before .before .before .before .before .before .before .before .before .before .args .head .issued)) (c .before .before .before .before .before .before .before .before .before .before .before .before .before .before .before .args .slot) 0) (c .before .before .before .before .before .before .before .before .before .before .before .before .before .before .before .args .state) (omega (arith, number-high ((c .before .before .before .before .before .before .before .before .before .before .before .before .before .before .before .args .table .now)) ((c .before .before .before .before .before .before .before .before .before .before .before .before .before .before .before .args .journal .now)) (c .before .before .before .before .before .before .before .before .before .before .before .before .before .before .before .args .head) p (k .sound) (c .before .before .before .before .before .before .before .before .before .before .before .before .before .before .before .args .slot) (k .slot-in) (k .taken), k .low)) (k .high)
+bring-forward-requires c κs = known (c .before .before .before .before .before .before .before) .rising
 
 close-slot-requires : tie.Need-close-slot-requires
-close-slot-requires c κs = forward-ok ((c .before .before .before .before .before .before .before .before .before .before .before .before .before .before .before .before .before .before .before .args .table .now)) ((c .before .before .before .before .before .before .before .before .before .before .before .before .before .before .before .before .before .before .before .args .journal .now)) (c .before .before .before .before .before .before .before .before .before .before .before .before .before .before .before .before .before .before .before .args .head) (c .before .before .before .before .before .before .before .before .before .before .before .before .before .before .before .before .before .before .before .args .slot) (c .before .before .before .before .before .before .before .before .before .before .before .before .before .before .before .before .before .before .before .args .state) ((c .before .before .before .before .before .before .before .before .before .before .before .before .before .before .before .before .before .before .before .args .reads .now)) (sym (c .before .before .before .before .before .before .before .before .before .before .before .before .before .forward-check .ensures) ∙ (c .before .before .before .before .before .before .before .before .before .before .before .enum-told .given .1)) .slot-in
+close-slot-requires c κs = known (c .before .before .before .before .before .before .before .before .before .before .before) .slot-in
 
 trim-requires : tie.Need-trim-requires
-trim-requires c κs = let p = shaped (c .before .before .before .before .before .before .before .before .before .before .before .before .before .before .before .before .before .before .before .before .args .head) (length-unmapped Bool ((c .before .before .before .before .before .before .before .before .before .before .before .before .before .before .before .before .before .before .before .before .args .head .held)) 8 (c .before .before .before .before .before .before .before .before .before .before .before .before .before .before .before .before .before .before .before .before .good .1 .1 .0 .1 .1 .1 .1 .1 .1 .0 .1 .0 .1)) (length-unmapped ℕ ((c .before .before .before .before .before .before .before .before .before .before .before .before .before .before .before .before .before .before .before .before .args .head .issued)) 8 (c .before .before .before .before .before .before .before .before .before .before .before .before .before .before .before .before .before .before .before .before .good .1 .1 .0 .1 .1 .1 .1 .1 .1 .1 .0 .1 .0 .1)) (length-unmapped ℕ ((c .before .before .before .before .before .before .before .before .before .before .before .before .before .before .before .before .before .before .before .before .args .head .ends)) 64 (c .before .before .before .before .before .before .before .before .before .before .before .before .before .before .before .before .before .before .before .before .good .1 .1 .0 .1 .1 .1 .1 .1 .1 .1 .1 .0 .1 .0 .1)) in let k = forward-ok ((c .before .before .before .before .before .before .before .before .before .before .before .before .before .before .before .before .before .before .before .before .args .table .now)) ((c .before .before .before .before .before .before .before .before .before .before .before .before .before .before .before .before .before .before .before .before .args .journal .now)) (c .before .before .before .before .before .before .before .before .before .before .before .before .before .before .before .before .before .before .before .before .args .head) (c .before .before .before .before .before .before .before .before .before .before .before .before .before .before .before .before .before .before .before .before .args .slot) (c .before .before .before .before .before .before .before .before .before .before .before .before .before .before .before .before .before .before .before .before .args .state) ((c .before .before .before .before .before .before .before .before .before .before .before .before .before .before .before .before .before .before .before .before .args .reads .now)) (sym (c .before .before .before .before .before .before .before .before .before .before .before .before .before .before .forward-check .ensures) ∙ (c .before .before .before .before .before .before .before .before .before .before .before .before .enum-told .given .1)) in subst (Trimmable ((c .before .before .before .before .before .before .before .before .before .before .before .before .before .before .before .before .before .before .before .before .args .journal .now))) (sym (c .close-slot .ensures)) (shut-trimmable ((c .before .before .before .before .before .before .before .before .before .before .before .before .before .before .before .before .before .before .before .before .args .table .now)) ((c .before .before .before .before .before .before .before .before .before .before .before .before .before .before .before .before .before .before .before .before .args .journal .now)) (c .before .before .before .before .before .before .before .before .before .before .before .before .before .before .before .before .before .before .before .before .args .head) p (k .sound) (c .before .before .before .before .before .before .before .before .before .before .before .before .before .before .before .before .before .before .before .before .args .slot))
+trim-requires c κs = subst (Trimmable (c .before .before .before .before .before .before .before .before .before .before .before .before .before .before .before .before .before .before .before .before .args .journal .now)) (sym (c .close-slot .ensures)) (known (c .before .before .before .before .before .before .before .before .before .before .before .before) .trimmable)
 
 same-length-3 : tie.Need-same-length-3
 same-length-3 c = search needs
@@ -72,8 +77,13 @@ same-length-4 c = search needs
 
 returns-2 : tie.Need-returns-2
 returns-2 c =
-    let e = sym (c .before .before .before .before .before .before .before .before .before .before .before .before .before .before .before .before .before .forward-check .ensures) ∙ (c .before .before .before .before .before .before .before .before .before .before .before .before .before .before .before .enum-told .given .1) in
-    (gives (sym e), if-done e _ _ ((c .before .before .trim .ensures .0) ∙ ap trimmedHead (c .before .before .before .close-slot .ensures)), if-done e _ _ ((c .before .before .trim .ensures .1) ∙ ap (λ h. trimmedJournal h ((c .before .before .before .before .before .before .before .before .before .before .before .before .before .before .before .before .before .before .before .before .before .before .before .args .journal .now))) (c .before .before .before .close-slot .ensures)), if-done e _ _ (c .before .before .before .before .before .before .before .bring-forward .ensures))
+    let s = c .before .before .before .before .before .before .before .before .before .before .before .before .before .before .before .before .before .before .before .before .before .before .before in
+    let h = c .before .before .before .close-slot .ensures in
+    forward-done (s .args .table .now) (s .args .journal .now) (s .args .head) (s .args .slot) (s .args .state) (s .args .reads .now)
+    (c .before .before .before .before .before .before .before .before .before .before .before .before .before .before .before .before .before .forward-check .ensures) (c .before .before .before .before .before .before .before .before .before .before .before .before .before .before .before .enum-told .given .1)
+    ((c .before .before .trim .ensures .0) ∙ ap trimmedHead h)
+    ((c .before .before .trim .ensures .1) ∙ ap (λ k. trimmedJournal k (s .args .journal .now)) h)
+    (c .before .before .before .before .before .before .before .bring-forward .ensures)
 
 pub forward-spec : {M : Type 1} → statement M
 forward-spec =
