@@ -72,6 +72,7 @@ pub record Forwarding (table journal : List ℕ) (head : Head) (slot state : ℕ
   pub number-from : head .oldest ≤ getD (head .issued) slot 0
   pub number-to : getD (head .issued) slot 0 ≤ head .checkpoint
   pub state-from : head .oldest ≤ state
+  pub state-to : state ≤ head .tip
   pub rising : Rising journal (head .ends) (stepIndex head (getD (head .issued) slot 0)) (stepIndex head state)
   pub trimmable : Trimmable journal (shut head slot)
 
@@ -87,6 +88,7 @@ module _ (table journal : List ℕ) (head : Head) (slot state : ℕ) (words : Li
         number-from = low;
         number-to = high;
         state-from = omega (arith, k .sound .low, k .low);
+        state-to = k .high;
         rising = steps-rising table journal head p (k .sound) (getD (head .issued) slot 0) state (omega (arith, high, k .low)) (k .high);
         trimmable = shut-trimmable table journal head p (k .sound) slot;
       }

@@ -46,13 +46,13 @@ array-read-number : tie.Need-array-read-number
 array-read-number c = known (c .before .before) .slot-in
 
 sub-from : tie.Need-sub-from
-sub-from c = omega (arith, known (c .before .before .before) .number-from)
+sub-from c = let k = known (c .before .before .before) in omega (arith, k .number-from, k .number-to)
 
 cast-from : tie.Need-cast-from
-cast-from c = omega (arith, known (c .before .before .before) .number-from, known (c .before .before .before) .number-to)
+cast-from c = let k = known (c .before .before .before) in omega (arith, k .number-from, k .number-to)
 
 sub-to : tie.Need-sub-to
-sub-to c = omega (arith, known (c .before .before .before .before) .state-from)
+sub-to c = let k = known (c .before .before .before .before) in omega (arith, k .state-from, k .state-to)
 
 cast-to : tie.Need-cast-to
 cast-to c = search needs
