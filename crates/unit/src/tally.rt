@@ -17,7 +17,7 @@ pub struct Tally {
 const LARGEST: u64 = 18446744073709551615;
 
 // Whether the call was accepted.
-fn is_accepted(answer: Answer) -> bool
+pub fn is_accepted(answer: Answer) -> bool
     ensures { λ r. ⌜ r ≡ acceptedB answer ⌝ }
 {
     match answer {

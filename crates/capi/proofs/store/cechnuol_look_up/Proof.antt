@@ -1,0 +1,42 @@
+-- `store::cechnuol_look_up` meets its contract: it has what the call on lent memory promises.
+-- Assumes nothing.
+use mathlib.Core.Path.{ap, _∙_}
+use Rattle.calls.specs.declared.call.Answer.{Answer}
+use Rattle.calls.specs.Answers.{answerAs}
+use Rattle.capi.specs.Codes.{codeOf, valueOf}
+use borrow.Author.Needs.{needs}
+use Rattle.capi.proofs.store.cechnuol_look_up.Statement.{statement}
+use Rattle.capi.proofs.store.cechnuol_look_up.Tie as tie
+
+slice-aggregate-call-on : tie.Need-slice-aggregate-call-on
+slice-aggregate-call-on c = search needs
+
+slice-aggregate-call-on-2 : tie.Need-slice-aggregate-call-on-2
+slice-aggregate-call-on-2 c = search needs
+
+call-on-requires : tie.Need-call-on-requires
+call-on-requires c κs = search needs
+
+value-of-requires : tie.Need-value-of-requires
+value-of-requires c κs = search needs
+
+code-of-requires : tie.Need-code-of-requires
+code-of-requires c κs = search needs
+
+same-length : tie.Need-same-length
+same-length c = search needs
+
+same-length-2 : tie.Need-same-length-2
+same-length-2 c = search needs
+
+same-length-3 : tie.Need-same-length-3
+same-length-3 c = search needs
+
+same-length-4 : tie.Need-same-length-4
+same-length-4 c = search needs
+
+returns : tie.Need-returns
+returns c = (((c .code-of .ensures) ∙ ap (λ (a : Answer). codeOf (answerAs a)) (c .before .before .before .before .before .before .before .before .before .before .before .before .before .call-on .ensures .0), (c .before .before .before .before .before .before .before .before .before .before .before .before .before .call-on .ensures .1), (c .before .before .before .before .before .before .before .before .before .before .before .before .before .call-on .ensures .2), (c .before .before .before .before .before .before .before .before .before .before .before .before .before .call-on .ensures .5), (c .before .before .before .before .before .before .before .before .before .before .before .before .before .call-on .ensures .6)), (c .before .value-of .ensures) ∙ ap (λ (a : Answer). valueOf (answerAs a) (c .before .before .before .before .before .before .before .before .before .before .before .before .before .before .before .before .before .before .before .before .before .before .before .before .args .price .now)) (c .before .before .before .before .before .before .before .before .before .before .before .before .before .call-on .ensures .0))
+
+pub cechnuol-look-up-spec : {M : Type 1} → statement M
+cechnuol-look-up-spec = tie.close (tie.spec slice-aggregate-call-on slice-aggregate-call-on-2 call-on-requires value-of-requires code-of-requires same-length same-length-2 same-length-3 same-length-4 returns)

@@ -1,0 +1,64 @@
+-- The head as a C program lends it: 84 words, which are used, oldest, checkpoint, tip, held (8), issued (8) and ends (64).
+-- Assumes nothing.
+use mathlib.Core.Bool.{Bool, true, cond, _&&_}
+use mathlib.Core.List.{List, [], _∷_, _++_, map}
+use Prim.Native.Nat.{ℕ, _%_}
+use lib.Dec.{eqb, ltb}
+use lib.ListN.{length, getD, take, drop}
+use Rattle.layout.specs.declared.head.Head.{Head}
+use Rattle.layout.specs.Tests.{allOf}
+
+-- 2^32
+abbrev pub limit : ℕ
+limit = 4294967296
+
+-- a flag in a word: 1 where it is set
+abbrev pub flagOf : ℕ → Bool
+flagOf w = eqb w 1
+
+abbrev pub wordOf : Bool → ℕ
+wordOf flag = cond flag 1 0
+
+-- a number of 32 bits in a word
+abbrev pub numberIn : ℕ → ℕ
+numberIn w = w % limit
+
+-- so many words from a place on
+abbrev pub from : ℕ → ℕ → List ℕ → List ℕ
+from i n words = take n (drop i words)
+
+-- the head that the words hold
+abbrev pub headOf : List ℕ → Head
+headOf words =
+    record {
+      used = getD words 0 0;
+      oldest = numberIn (getD words 1 0);
+      checkpoint = numberIn (getD words 2 0);
+      tip = numberIn (getD words 3 0);
+      held = map flagOf (from 4 8 words);
+      issued = map numberIn (from 12 8 words);
+      ends = from 20 64 words;
+    }
+
+-- the words of a head
+abbrev pub wordsOf : Head → List ℕ
+wordsOf head =
+    (head .used ∷ head .oldest ∷ head .checkpoint ∷ head .tip ∷ [])
+    ++ map wordOf (head .held)
+    ++ head .issued
+    ++ head .ends
+
+-- each word is below a number
+unfoldable pub belowB : ℕ → List ℕ → Bool
+belowB bound [] = true
+belowB bound (w ∷ words) = ltb w bound && belowB bound words
+
+-- the words fit their fields: state numbers of 32 bits, flags of one
+abbrev pub headB : List ℕ → Bool
+headB words =
+    allOf
+    (eqb (length words) 84
+    ∷ belowB limit (from 1 3 words)
+    ∷ belowB 2 (from 4 8 words)
+    ∷ belowB limit (from 12 8 words)
+    ∷ [])

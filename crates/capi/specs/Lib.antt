@@ -1,0 +1,3 @@
+pub mod HeadWords
+pub mod Codes
+pub mod Lent
