@@ -158,7 +158,7 @@ impl Generator {
             1 => poke_table(some(store.table.len()).map(|_| table.min(store.head.used as usize))?, word),
             2 => poke_journal(some(store.journal.len()).map(|_| journal)?, word),
             3 => poke_journal(0, some(store.journal.len()).map(|_| word)?),
-            4 => Command::Head(HeadField::Used(rng.pick(&[0, 1, 2, 5, store.head.used + 1, number]))),
+            4 => Command::Head(HeadField::Used(rng.pick(&[0, 1, 2, 5, store.head.used.wrapping_add(1), number]))),
             5 => Command::Head(HeadField::Oldest(number as u32)),
             6 => Command::Head(HeadField::Checkpoint(number as u32)),
             7 => Command::Head(HeadField::Tip(number as u32)),
