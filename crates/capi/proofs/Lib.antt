@@ -2,3 +2,4 @@ pub mod Arrays
 pub mod Below
 pub mod Packing
 pub mod Serving
+pub mod Theorems
