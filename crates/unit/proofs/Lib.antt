@@ -1,0 +1,4 @@
+pub mod Balance
+pub mod Counting
+pub mod Effects
+pub mod Theorems

@@ -1,0 +1,3 @@
+pub mod Runs
+pub mod Serve
+pub mod Tally
