@@ -1,4 +1,4 @@
 // The text of the listing (document 01, "Image and listing"): the map of a state, line by line, in bytes that the
 // caller lends.
-mod decimal;
+pub mod decimal;
 pub mod listing;

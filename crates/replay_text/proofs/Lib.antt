@@ -1,0 +1,3 @@
+pub mod Crcs
+pub mod Digits
+pub mod Hexes

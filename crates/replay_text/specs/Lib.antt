@@ -1,0 +1,4 @@
+pub mod Crc
+pub mod Hex
+pub mod Reading
+pub mod Spans
