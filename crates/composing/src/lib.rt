@@ -31,7 +31,7 @@ pub fn side_at(words: &[u64], at: usize, word: u64) -> Side
 
 // The offer of a word at its place in the word, all other bits zero: a single mask, and words compare by it as
 // by their offers.
-fn offer_field(word: u64) -> u64
+pub fn offer_field(word: u64) -> u64
     ensures { λ r. ⌜ r ≡ offerOf word * 2 ^ 32 ⌝ }
 {
     (Entry::offer_of(word) as u64) * 4294967296
