@@ -1,11 +1,14 @@
 -- The backward pass that weaves words into a table, and why the words that stay woven with those that are added are the map
 -- after the changes.
 -- Assumes nothing.
-use mathlib.Core.Path.{_≡_, sym, ap, ap₂, _∙_}
+use mathlib.Core.Bool.{Bool, true, false, cond, _&&_}
+use mathlib.Core.Path.{_≡_, refl, sym, ap, ap₂, _∙_}
 use mathlib.Core.List.{List, [], _∷_, _++_}
-use Prim.Native.Nat.{ℕ, zero, suc, _+_, _≤_, _<_}
+use Prim.Native.Nat.{ℕ, zero, suc, _+_, _-_, _≤_, _<_}
 use native.Mathlib.Decide.{decLt, ℕ-discrete}
 use native.Mathlib.Omega.{arith}
+use borrow.Author.Tests.{ltb-true, leb-true}
+use lib.Dec.{leb, ltb}
 use lib.ListN.{length, take, drop, getD, set, length-set, take-append-drop}
 use lib.Seq.{take-suc, take-all, take-take, take-set-le, drop-cons, drop-set-lt, getD-take, getD-set-same, append-snoc, length-take-le}
 use Rattle.entry.specs.Word.{kindOf, offerOf, Put}
@@ -140,6 +143,12 @@ module _ {K A rest t : List ℕ} {i j : ℕ} (c : Weaving K A rest t i j) where
               ∙ c .goal;
         }
 
+  -- a word of the first list that lies above the last of the second, as a word does that stands before it
+  weave-up : (m : ℕ) → 0 < j → offerOf (getD A (j - 1) 0) < offerOf (getD K m 0) → (p at : ℕ) → i ≡ suc p → m ≤ p → at ≡ p + j → Weaving K A rest (set t at (getD t p 0)) p j
+  weave-up m hj h p at ei hm ea =
+      let later : offerOf (getD K m 0) ≤ offerOf (getD K p 0) = not-below-at 0 K (c .k-rises) m p hm (omega (arith, c .i-in)) in
+      weave-kept p (j - 1) at ei (omega arith) (omega arith) (rw (word-low p (omega arith)) (omega arith))
+
   -- all of the second list is woven in
   pub woven : j ≡ 0 → t ≡ weave K A ++ rest
   woven e =
@@ -155,6 +164,41 @@ module _ {K A rest t : List ℕ} {i j : ℕ} (c : Weaving K A rest t i j) where
       l
       ∙ ap₂ _++_ (sym (nil-weave (take j A)) ∙ ap (λ (n : ℕ). weave (take n K) (take j A)) (sym e)) (ap (λ (n : ℕ). drop n t) end)
       ∙ c .goal
+
+-- four words in a row, of which the first lies above
+module _ {K A rest t : List ℕ} {i j : ℕ} (c : Weaving K A rest t i j) (hj : 0 < j) (hi : 4 ≤ i) (h : offerOf (getD A (j - 1) 0) < offerOf (getD t (i - 4) 0)) where
+  abbrev t₁ : List ℕ
+  t₁ = set t (i + j - 1) (getD t (i - 1) 0)
+
+  abbrev t₂ : List ℕ
+  t₂ = set t₁ (i + j - 2) (getD t₁ (i - 2) 0)
+
+  abbrev t₃ : List ℕ
+  t₃ = set t₂ (i + j - 3) (getD t₂ (i - 3) 0)
+
+  low : offerOf (getD A (j - 1) 0) < offerOf (getD K (i - 4) 0)
+  low = rw (← word-low c (i - 4) (omega arith)) h
+
+  c₁ : Weaving K A rest t₁ (i - 1) j
+  c₁ = weave-up c (i - 4) hj low (i - 1) (i + j - 1) (omega arith) (omega arith) (omega arith)
+
+  c₂ : Weaving K A rest t₂ (i - 2) j
+  c₂ = weave-up c₁ (i - 4) hj low (i - 2) (i + j - 2) (omega arith) (omega arith) (omega arith)
+
+  c₃ : Weaving K A rest t₃ (i - 3) j
+  c₃ = weave-up c₂ (i - 4) hj low (i - 3) (i + j - 3) (omega arith) (omega arith) (omega arith)
+
+  pub weave-four : Weaving K A rest (set t₃ (i + j - 4) (getD t₃ (i - 4) 0)) (i - 4) j
+  weave-four = weave-up c₃ (i - 4) hj low (i - 4) (i + j - 4) (omega arith) (omega arith) (omega arith)
+
+-- what `four_above` tells
+pub above : (p w v f : ℕ) → f ≡ cond (leb 4 p && ltb w v) 1 0 → f ≡ 1 → (4 ≤ p) × (w < v)
+above p w v f e o = go (leb 4 p) (ltb w v) refl refl e
+  where
+    go : (a b : Bool) → leb 4 p ≡ a → ltb w v ≡ b → f ≡ cond (a && b) 1 0 → (4 ≤ p) × (w < v)
+    go true true ea eb k = (leb-true 4 p ea, ltb-true w v eb)
+    go true false ea eb k = absurd (omega arith)
+    go false b ea eb k = absurd (omega arith)
 
 -- The words that stay and the words that are added rise, and woven they are the map after the changes.
 pub kept-rises : (m d : List ℕ) (n : ℕ) → From n m → From n (kept m d)

@@ -6,12 +6,12 @@ use entry::Entry;
 use words::clear;
 use words::copy;
 use words::shift;
-ghost use mathlib.Core.Bool.{cond};
+ghost use mathlib.Core.Bool.{cond, _&&_};
 ghost use mathlib.Core.Path.{_≡_};
 ghost use mathlib.Core.List.{_++_};
 ghost use Prim.Native.Nat.{_+_, _-_, _<_, _≤_, max};
-ghost use lib.Dec.{ltb};
-ghost use lib.ListN.{length, take, drop, replicate};
+ghost use lib.Dec.{leb, ltb};
+ghost use lib.ListN.{length, take, drop, getD, replicate};
 ghost use Rattle.entry.specs.Word.{offerOf, isPut};
 ghost use Rattle.changes.specs.Calculus.{sideOf, bySide, apply as applied};
 ghost use Rattle.table.specs.InPlace.{kept as keptOf, added as addedOf, weave as woven, Planned};
@@ -183,7 +183,22 @@ fn keep(table: &mut [u64], changes: &[u64]) -> usize
     k + (table.len() - i)
 }
 
-// The backward pass: weaves the added words into the first `kept` words of the table, by rising offers.
+// Whether there are four words before a place, and the first of them lies above a word, as 1 or 0.
+fn four_above(words: &[u64], place: usize, word: u64) -> usize
+    requires { ⌜ place ≤ length (now words) ⌝ }
+    ensures { λ r. ⌜ r ≡ cond (leb 4 place && ltb (offerOf word) (offerOf (getD (now (words .entry)) (place - 4) 0))) 1 0 ⌝ }
+{
+    if place < 4 {
+        return 0;
+    }
+    if offer_field(word) < offer_field(words[place - 4]) {
+        return 1;
+    }
+    0
+}
+
+// The backward pass: weaves the added words into the first `kept` words of the table, by rising offers. Where four
+// words in a row lie above the next added word, they are moved at once.
 fn weave(table: &mut [u64], kept: usize, added: &[u64])
     requires { ⌜ (kept + length (now added) ≤ length (now table)) × From 0 (take kept (now table)) × From 0 (now added) ⌝ }
     ensures { λ r. ⌜ now (table .exit) ≡ woven (take kept (now (table .entry))) (now (added .entry)) ++ drop (kept + length (now (added .entry))) (now (table .entry)) ⌝ }
@@ -195,14 +210,22 @@ fn weave(table: &mut [u64], kept: usize, added: &[u64])
             copy(&added[..j], table);
             return;
         }
-        let v = table[i - 1];
         let w = added[j - 1];
-        if Entry::offer_of(w) < Entry::offer_of(v) {
-            table[i + j - 1] = v;
-            i -= 1;
+        if four_above(table, i, w) == 1 {
+            table[i + j - 1] = table[i - 1];
+            table[i + j - 2] = table[i - 2];
+            table[i + j - 3] = table[i - 3];
+            table[i + j - 4] = table[i - 4];
+            i -= 4;
         } else {
-            table[i + j - 1] = w;
-            j -= 1;
+            let v = table[i - 1];
+            if offer_field(w) < offer_field(v) {
+                table[i + j - 1] = v;
+                i -= 1;
+            } else {
+                table[i + j - 1] = w;
+                j -= 1;
+            }
         }
     }
 }
