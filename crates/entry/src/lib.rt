@@ -3,7 +3,7 @@
 // a read set; kind 0 removes it, or shows that there is none, and its price field is 0.
 ghost use mathlib.Core.Path.{_≡_};
 ghost use Prim.Native.Nat.{_%_, _^_};
-ghost use Rattle.entry.specs.Word.{kindOf, offerOf, priceOf, putOf, noneOf};
+ghost use Rattle.entry.specs.Word.{kindOf, offerOf, priceOf, putOf, noneOf, isPut, validB, riseOf, markOf};
 
 pub struct Entry;
 
@@ -25,6 +25,9 @@ impl Entry {
     const OFFER_MASK: u64 = (1 << Entry::OFFER_BITS) - 1;
 
     const PRICE_MASK: u64 = (1 << Entry::PRICE_BITS) - 1;
+
+    // The offer's bits in their place.
+    const OFFER_FIELD: u64 = (1 << Entry::KIND_AT) - (1 << Entry::OFFER_AT);
 
     pub fn kind_of(word: u64) -> u32
         ensures { λ r. ⌜ r ≡ kindOf word ⌝ }
@@ -57,5 +60,26 @@ impl Entry {
         ensures { λ r. ⌜ r ≡ putOf (offer % 2 ^ 31) price ⌝ }
     {
         Entry::none(offer) | (price as u64) | ((Entry::PUT as u64) << Entry::KIND_AT)
+    }
+    // A number whose kind bit says whether the offer of a word lies above that of the word before it. A scan joins
+    // such numbers by `&` and tests the bit at its end, so that no turn of it branches.
+    pub fn rise(before: u64, word: u64) -> u64
+        ensures { λ r. ⌜ r ≡ riseOf before word ⌝ }
+    {
+        (word & Entry::OFFER_FIELD) + (Entry::OFFER_FIELD - (before & Entry::OFFER_FIELD))
+    }
+
+    // A number whose kind bit says whether a word is of kind 1: the word itself.
+    pub fn put_mark(word: u64) -> u64
+        ensures { λ r. ⌜ kindOf r ≡ markOf (isPut word) ⌝ }
+    {
+        word
+    }
+
+    // A number whose kind bit says whether a word is valid: of kind 1, or of price 0.
+    pub fn valid_mark(word: u64) -> u64
+        ensures { λ r. ⌜ kindOf r ≡ markOf (validB word) ⌝ }
+    {
+        word | ((1 << Entry::KIND_AT) - (word & Entry::PRICE_MASK))
     }
 }
