@@ -1,20 +1,15 @@
--- What a flush knows of its memory: before the map is worked out, when it is planned, and when it is accepted; and what it leaves.
+-- What a flush knows of its memory when it is planned and when it is accepted, and what it leaves.
 -- Assumes nothing.
-use mathlib.Core.Path.{_≡_, refl, sym, ap, ap₂, _∙_}
+use mathlib.Core.Path.{_≡_, refl, sym, ap, _∙_}
 use mathlib.Core.Bool.{true, false}
 use mathlib.Core.List.{List, [], _∷_, _++_, append-assoc}
 use Prim.Native.Nat.{ℕ, _+_, _-_, _≤_, _<_, max}
 use native.Mathlib.Omega.{arith}
 use borrow.Author.Tests.{ltb-false, lt-ltb, le-ltb, not-false}
-use lib.ListN.{length, take, drop, replicate, length-append, length-take, length-drop, replicate-append-replicate}
-use lib.Seq.{length-take-le, take-at, drop-drop}
+use lib.ListN.{length, take, drop, replicate, length-drop, replicate-append-replicate}
+use lib.Seq.{length-take-le, drop-drop}
 use Rattle.changes.specs.Calculus.{apply}
-use Rattle.table.specs.InPlace.{kept, added, Planned}
-use Rattle.changes.specs.Runs.{runWords}
-use Rattle.runs.specs.Composed.{RunRoom, Composed}
-use Rattle.changes.proofs.Laws.{apply-length}
-use Rattle.table.proofs.Laws.{apply-size}
-use Rattle.changes.proofs.Running.{marked-fewer}
+use Rattle.table.specs.InPlace.{Planned}
 use Rattle.words.proofs.Parts.{zeros-from}
 use Rattle.grounds.specs.declared.Outcome.{Outcome}
 use Rattle.grounds.specs.declared.Outcome.the-variants.{Done, Refused}
@@ -24,17 +19,19 @@ use Rattle.grounds.specs.First.{Ground, met, first}
 use Rattle.grounds.specs.Numbers.{Gives}
 use Rattle.grounds.proofs.Firsts.{done-not, first-met, first-not, none-met, gives, if-refused, if-done}
 use Rattle.layout.specs.declared.head.Head.{Head}
-use Rattle.layout.specs.States.{stepIndex, mapHere}
+use Rattle.layout.specs.States.{mapHere}
 use Rattle.layout.specs.Tests.{zerosB}
 use Rattle.layout.specs.Trim.{Trimmable, trimmedHead, trimmedJournal}
 use Rattle.layout.specs.View.{padded, Shaped}
 use Rattle.layout.proofs.HeadTests.{InRange, lengths-facts}
 use Rattle.layout.proofs.SlotLists.{least-up-to, least-later}
-use Rattle.layout.proofs.SoundFacts.{shaped, used-long as used-words}
+use Rattle.layout.proofs.SoundFacts.{shaped}
 use Rattle.layout.proofs.Sounds.{Sound, sound-facts, sound-marked}
 use Rattle.layout.proofs.States.{since-rises}
 use Rattle.layout.proofs.WordTests.{zeros-fact}
-use Rattle.flushes.specs.Flush.{flushCheck, earlyCheck, flushHead, flushTable, flushJournal, flushChanges, flushedHead, FlushPlan}
+use Rattle.flush_plans.specs.Plan.{earlyCheck, FlushPlan}
+use Rattle.flush_plans.proofs.Planning.{EarlyOk, early-ok}
+use Rattle.flushes.specs.Flush.{flushCheck, flushHead, flushTable, flushJournal, flushedHead}
 
 -- the first ground among some, with others behind them
 refused-before : (gs hs : List Ground) (r : Refusal) → first gs ≡ Refused r → first (gs ++ hs) ≡ Refused r
@@ -58,26 +55,6 @@ module _ (table journal : List ℕ) (head : Head) (state : ℕ) where
 
   pub room-done : earlyCheck table journal head state ≡ Done → length (mapHere table journal head state) ≤ length table → flushCheck table journal head state ≡ Done
   room-done e h = done-before _ _ e ∙ first-not _ _ _ (le-ltb (length table) (length (mapHere table journal head state)) h) ∙ none-met
-
--- what the early grounds leave
-pub record EarlyOk (table journal : List ℕ) (head : Head) (state : ℕ) : Type 0 where
-  pub range : InRange (length table) (length journal)
-  pub sound : Sound table journal head
-  pub low : head .checkpoint ≤ state
-  pub high : state ≤ head .tip
-
-pub early-ok : (table journal : List ℕ) (head : Head) (state : ℕ) → earlyCheck table journal head state ≡ Done → EarlyOk table journal head state
-early-ok table journal head state e =
-    let a = done-not _ _ _ e in
-    let b = done-not _ _ _ (a .1) in
-    let c = done-not _ _ _ (b .1) in
-    let d = done-not _ _ _ (c .1) in
-    record {
-      range = lengths-facts (length table) (length journal) (not-false _ (a .0));
-      sound = sound-facts table journal head (not-false _ (b .0));
-      low = ltb-false state (head .checkpoint) (c .0);
-      high = ltb-false (head .tip) state (d .0);
-    }
 
 -- what is known where the early grounds are passed
 pub record FlushStart (table journal : List ℕ) (head : Head) (state : ℕ) : Type 0 where
@@ -173,52 +150,6 @@ module _ {table journal : List ℕ} {head : Head} {state : ℕ} {changes aside :
   head-is used next eu en = en ∙ ap (λ (u : ℕ). flushedHead head u state) (eu ∙ ap (λ (d : List ℕ). length (apply (take (head .used) table) d)) (f .changes-are))
 
 module _ {table journal : List ℕ} {head : Head} {state : ℕ} (p : Shaped head) (ok : EarlyOk table journal head state) where
-  -- the used words of the table
-  pub used-long : head .used ≡ length (take (head .used) table)
-  used-long = sym (used-words (ok .sound))
-
-  -- the buffers have room for the steps
-  pub run-room : (out spare : ℕ) → out ≡ 4096 → spare ≡ 4096 → RunRoom journal (head .ends) (stepIndex head (head .checkpoint)) (stepIndex head state) out spare
-  run-room out spare a b =
-      let m = marked-fewer (sound-marked table journal head p (ok .sound)) (stepIndex head state) (omega (arith, ok .high)) in
-      let few : runWords (head .ends) (stepIndex head (head .checkpoint)) (stepIndex head state) ≤ 4096 = omega (arith, m .inside, ok .range .journal-most) in
-      record { marked = m; order = omega (arith, ok .low); out-room = omega arith; spare-room = omega arith }
-
-  -- the steps composed into a buffer, and the words at new offers written to another
-  module _ {changes₀ spare₀ changes spare : List ℕ} {n : ℕ} (c : Composed journal (head .ends) (stepIndex head (head .checkpoint)) (stepIndex head state) changes₀ spare₀ changes spare n) where
-    pub count-in : n ≤ length changes
-    count-in = omega (arith, ap length (c .front), c .size, length-take n changes)
-
-    pub changes-long : n ≡ length (take n changes)
-    changes-long = sym (length-take-le n changes count-in)
-
-    pub count-room : length changes ≡ 4096 → length spare ≡ 4096 → length (take n changes) ≤ length spare
-    count-room l m = omega (arith, changes-long, count-in)
-
-    module _ (k a : ℕ) (aside : List ℕ) (ek : k ≡ length (kept (take (head .used) table) (take n changes))) (ea : a ≡ length (added (take (head .used) table) (take n changes)))
-        (es : aside ≡ added (take (head .used) table) (take n changes) ++ drop a spare) where
-      sum-is : k + a ≡ length (mapHere table journal head state)
-      sum-is =
-          let of-changes = ap (λ (d : List ℕ). length (kept (take (head .used) table) d) + length (added (take (head .used) table) d)) (c .front) in
-          ap₂ _+_ ek ea ∙ of-changes ∙ sym (apply-size (take (head .used) table) (flushChanges journal head state) (ok .sound .map) (since-rises table journal head (ok .sound) state (ok .low) (ok .high) p))
-
-      pub sum-small : length changes ≡ 4096 → k + a ≤ 12096
-      sum-small l =
-          omega (arith, sum-is, apply-length (take (head .used) table) (flushChanges journal head state), c .size, count-in, used-long, ok .sound .used-in, ok .range .table-most)
-
-      pub planned : FlushPlan table journal head state changes aside n a (k + a)
-      planned =
-          record {
-            count-in = count-in;
-            changes-are = c .front;
-            new-in = omega (arith, ap length es, length-append (added (take (head .used) table) (take n changes)) (drop a spare));
-            new-are =
-                ap (take a) es
-                ∙ take-at (added (take (head .used) table) (take n changes)) (drop a spare) a (sym ea)
-                ∙ ap (added (take (head .used) table)) (c .front);
-            size-is = sum-is;
-          }
-
   -- the plan carried out
   module _ {changes aside : List ℕ} {n a size : ℕ} (f : FlushPlan table journal head state changes aside n a size) (h : size ≤ length table) where
     pub can-apply : Planned table (head .used) (take n changes) (take a aside)

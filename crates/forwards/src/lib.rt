@@ -1,9 +1,7 @@
 // Forward: a read set is brought to a named state, its slot closes, and the steps that only it needed go.
-use changes::search::Found;
-use entry::Entry;
 use grounds::Outcome;
 use grounds::Refusal;
-use last_changes::last_change;
+use last_changes::bring_forward;
 use layout::head::Head;
 use layout::head::SLOTS;
 use layout::head::Stored;
@@ -13,14 +11,8 @@ use layout::trim::trim;
 use lists::rules::is_list;
 use slots::close_slot;
 ghost use mathlib.Core.Path.{_≡_};
-ghost use Prim.Native.Nat.{_-_};
-ghost use Rattle.entry.specs.Word.{offerOf};
-ghost use Rattle.changes.specs.Calculus.{find as found, composeAll};
-ghost use Rattle.changes.specs.ReadSets.{foundOr, over};
-ghost use Rattle.changes.specs.Runs.{runOf};
 ghost use Rattle.grounds.specs.Numbers.{Gives};
 ghost use Rattle.forwards.specs.Forward.{forwardCheck, forwardHead, forwardJournal, forwardReads};
-ghost use Rattle.last_changes.specs.Steps.{Rising};
 
 // The first ground on which a forward is turned away.
 fn forward_check(
@@ -56,29 +48,6 @@ fn forward_check(
         return Outcome::Refused(Refusal::StateRange);
     }
     Outcome::Done
-}
-
-// The last change of the word's offer among the steps, or the word itself.
-fn word_after(word: u64, journal: &[u64], ends: &[usize], from: usize, to: usize) -> u64
-    requires { ⌜ Rising (now journal) (now ends) from to ⌝ }
-    ensures { λ r. ⌜ r ≡ foundOr (found (offerOf word) (composeAll (runOf (now (journal .entry)) (now (ends .entry)) from (to - from)))) word ⌝ }
-{
-    match last_change(journal, ends, from, to, Entry::offer_of(word)) {
-        Found::Word(later) => later,
-        Found::Nothing => word,
-    }
-}
-
-// Applies the steps from `from` up to `to`, exclusive, to the read set at its own offers.
-fn bring_forward(words: &mut [u64], journal: &[u64], ends: &[usize], from: usize, to: usize)
-    requires { ⌜ Rising (now journal) (now ends) from to ⌝ }
-    ensures { λ r. ⌜ now (words .exit) ≡ over (now (words .entry)) (composeAll (runOf (now (journal .entry)) (now (ends .entry)) from (to - from))) ⌝ }
-{
-    let mut i = 0;
-    while i < words.len() {
-        words[i] = word_after(words[i], journal, ends, from, to);
-        i += 1;
-    }
 }
 
 pub fn forward(

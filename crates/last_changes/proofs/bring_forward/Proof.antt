@@ -1,4 +1,4 @@
--- `forwards::bring_forward` meets its contract: the words changed so far and the change of those left make the change of all.
+-- `last_changes::bring_forward` meets its contract: the words changed so far and the change of those left make the change of all.
 -- Assumes nothing.
 use mathlib.Core.Path.{_≡_, _∙_, sym, ap}
 use mathlib.Core.List.{_∷_}
@@ -12,8 +12,8 @@ use Rattle.changes.proofs.Reading.{over-at, over-end, over-length}
 use Rattle.words.proofs.Writing.{Writing, start, stored, filled, word-behind}
 use borrow.Author.Needs.{needs}
 use native.Mathlib.Omega.{arith}
-use Rattle.forwards.proofs.bring_forward.Statement.{statement}
-use Rattle.forwards.proofs.bring_forward.Tie as tie
+use Rattle.last_changes.proofs.bring_forward.Statement.{statement}
+use Rattle.last_changes.proofs.bring_forward.Tie as tie
 
 abbrev Inv-loop : tie.InvT-loop
 Inv-loop words₀ journal ends from to i₀ words i = (i ≤ length words₀) × Writing words words₀ i (over (drop i words₀) (composeAll (runOf journal ends from (to - from)))) (over words₀ (composeAll (runOf journal ends from (to - from))))

@@ -1,4 +1,4 @@
--- `flushes::plan_flush` meets its contract.
+-- `flush_plans::plan_flush` meets its contract.
 -- Assumes nothing.
 use mathlib.Core.Path.{_∙_}
 use mathlib.Core.Bool.{Bool}
@@ -6,9 +6,9 @@ use Prim.Native.Nat.{ℕ}
 use native.Mathlib.Omega.{arith}
 use borrow.Author.Needs.{needs, length-unmapped}
 use Rattle.layout.proofs.SoundFacts.{shaped}
-use Rattle.flushes.proofs.Flushing.{early-ok, used-long, run-room, count-in, changes-long, count-room, sum-small, planned}
-use Rattle.flushes.proofs.plan_flush.Statement.{statement}
-use Rattle.flushes.proofs.plan_flush.Tie as tie
+use Rattle.flush_plans.proofs.Planning.{early-ok, used-long, run-room, count-in, changes-long, count-room, sum-small, planned}
+use Rattle.flush_plans.proofs.plan_flush.Statement.{statement}
+use Rattle.flush_plans.proofs.plan_flush.Tie as tie
 
 sub-from : tie.Need-sub-from
 sub-from c =

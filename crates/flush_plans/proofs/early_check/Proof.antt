@@ -1,12 +1,12 @@
--- `flushes::early_check` meets its contract.
+-- `flush_plans::early_check` meets its contract.
 -- Assumes nothing.
 use mathlib.Core.Path.{_∙_, sym, ap}
 use mathlib.Core.Bool.{not}
 use borrow.Author.Tests.{lt-ltb, le-ltb}
 use Rattle.grounds.proofs.Firsts.{first-met, first-not, none-met}
 use borrow.Author.Needs.{needs}
-use Rattle.flushes.proofs.early_check.Statement.{statement}
-use Rattle.flushes.proofs.early_check.Tie as tie
+use Rattle.flush_plans.proofs.early_check.Statement.{statement}
+use Rattle.flush_plans.proofs.early_check.Tie as tie
 
 lengths-fit-requires : tie.Need-lengths-fit-requires
 lengths-fit-requires c κs = search needs

@@ -1,4 +1,4 @@
--- `forwards::word_after` meets its contract.
+-- `last_changes::word_after` meets its contract.
 -- Assumes nothing.
 use mathlib.Core.Path.{_∙_, sym, ap}
 use Prim.Native.Nat.{_-_}
@@ -6,8 +6,8 @@ use Rattle.changes.specs.Calculus.{find, composeAll}
 use Rattle.changes.specs.ReadSets.{foundOr}
 use Rattle.changes.specs.Runs.{runOf}
 use borrow.Author.Needs.{needs}
-use Rattle.forwards.proofs.word_after.Statement.{statement}
-use Rattle.forwards.proofs.word_after.Tie as tie
+use Rattle.last_changes.proofs.word_after.Statement.{statement}
+use Rattle.last_changes.proofs.word_after.Tie as tie
 
 offer-of-requires : tie.Need-offer-of-requires
 offer-of-requires c κs = search needs
