@@ -5,6 +5,7 @@ pub mod Laws
 pub mod ListTest
 pub mod MapTest
 pub mod Merging
+pub mod NoPuts
 pub mod ReadWords
 pub mod Reading
 pub mod Rising

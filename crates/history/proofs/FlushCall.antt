@@ -16,9 +16,9 @@ use Rattle.layout.specs.View.{Store, View, padded, encode, decode, Good, mapAt 
 use Rattle.layout.proofs.Sounds.{Sound}
 use Rattle.layout.proofs.States.{map-is}
 use Rattle.layout.proofs.Views.{encoded-sound}
-use Rattle.steps.specs.Flush.{flushCheck, flushedHead, flushTable, flushJournal, flushHead}
+use Rattle.flushes.specs.Flush.{flushCheck, flushedHead, flushTable, flushJournal, flushHead}
 use Rattle.steps.specs.StepViews.{flushedView}
-use Rattle.steps.proofs.Flushing.{FlushOk, flush-ok}
+use Rattle.flushes.proofs.Flushing.{FlushOk, flush-ok}
 use Rattle.steps.proofs.OnViews.{flush-leaves, flush-leaves-good}
 use Rattle.history.specs.Calls.{flush, Turn, done}
 use Rattle.history.specs.Plain.{Ground, met, accept, firstOf, Plain, tipOf, mapAt, floorOf, checked, changed}

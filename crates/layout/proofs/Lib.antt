@@ -2,6 +2,7 @@ pub mod HeadTests
 pub mod Holds
 mod Moving
 pub mod SlotLists
+pub mod SoundFacts
 pub mod Sounds
 pub mod States
 pub mod StepLists

@@ -11,7 +11,7 @@ use Rattle.changes.specs.Runs.{startOf}
 use Rattle.layout.specs.Sound.{heldOf}
 use Rattle.layout.specs.View.{Store, View, heldSteps, tipOf, padded, flat, marksFrom, encode, Good}
 use Rattle.layout.proofs.StepLists.{marks-length}
-use Rattle.steps.specs.Commit.{usedOf, withList, withStep}
+use Rattle.commits.specs.Commit.{usedOf, withList, withStep}
 use Rattle.steps.specs.StepViews.{commitView}
 use Rattle.steps.proofs.StepRuns.{flat-more, marks-more, end-of-run, padded-more, padded-set, all-one, all-append}
 

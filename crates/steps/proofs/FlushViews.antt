@@ -13,7 +13,7 @@ use Rattle.layout.proofs.SlotLists.{least-slots, least-later, below-later}
 use Rattle.layout.proofs.States.{at-checkpoint, at-map}
 use Rattle.layout.proofs.Trims.{Nearly, trimStore, trim-leaves, trim-good}
 use Rattle.layout.proofs.Views.{padded-length}
-use Rattle.steps.specs.Flush.{flushedHead}
+use Rattle.flushes.specs.Flush.{flushedHead}
 use Rattle.steps.specs.StepViews.{flushedView}
 use Rattle.steps.proofs.RollViews.{split, steps-long}
 
