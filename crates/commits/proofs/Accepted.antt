@@ -20,8 +20,8 @@ use Rattle.grounds.proofs.Firsts.{done-not, gives, if-refused, if-done}
 use Rattle.layout.specs.declared.head.Head.{Head}
 use Rattle.layout.specs.Sound.{heldOf}
 use Rattle.layout.proofs.HeadTests.{InRange, lengths-facts}
-use Rattle.layout.proofs.SoundFacts.{inside}
-use Rattle.layout.proofs.Sounds.{Sound, sound-facts}
+use Rattle.views.proofs.SoundFacts.{inside}
+use Rattle.views.proofs.Sounds.{Sound, sound-facts}
 use Rattle.commits.specs.Commit.{usedOf, commitCheck, commitHead, commitJournal, withList, withStep}
 
 -- a commit

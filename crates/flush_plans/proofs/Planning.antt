@@ -16,12 +16,12 @@ use Rattle.table.proofs.Laws.{apply-size}
 use Rattle.grounds.specs.declared.Outcome.the-variants.{Done}
 use Rattle.grounds.proofs.Firsts.{done-not}
 use Rattle.layout.specs.declared.head.Head.{Head}
-use Rattle.layout.specs.States.{stepIndex, mapHere}
-use Rattle.layout.specs.View.{Shaped}
+use Rattle.views.specs.States.{stepIndex, mapHere}
+use Rattle.views.specs.View.{Shaped}
 use Rattle.layout.proofs.HeadTests.{InRange, lengths-facts}
-use Rattle.layout.proofs.SoundFacts.{used-long as used-words}
-use Rattle.layout.proofs.Sounds.{Sound, sound-facts, sound-marked}
-use Rattle.layout.proofs.States.{since-rises}
+use Rattle.views.proofs.SoundFacts.{used-long as used-words}
+use Rattle.views.proofs.Sounds.{Sound, sound-facts, sound-marked}
+use Rattle.views.proofs.States.{since-rises}
 use Rattle.flush_plans.specs.Plan.{earlyCheck, flushChanges, FlushPlan}
 
 -- what the early grounds leave

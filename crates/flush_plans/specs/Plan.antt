@@ -13,7 +13,7 @@ use Rattle.grounds.specs.declared.Refusal.the-variants.{Lengths, Unsound, State
 use Rattle.grounds.specs.First.{met, first}
 use Rattle.layout.specs.declared.head.Head.{Head}
 use Rattle.layout.specs.Sound.{lengthsB, soundB}
-use Rattle.layout.specs.States.{stepsBetween, mapHere}
+use Rattle.views.specs.States.{stepsBetween, mapHere}
 
 -- those of the grounds of a flush that are checked before the map is worked out
 abbrev pub earlyCheck : List ℕ → List ℕ → Head → ℕ → Outcome

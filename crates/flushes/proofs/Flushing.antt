@@ -19,15 +19,15 @@ use Rattle.grounds.specs.First.{Ground, met, first}
 use Rattle.grounds.specs.Numbers.{Gives}
 use Rattle.grounds.proofs.Firsts.{done-not, first-met, first-not, none-met, gives, if-refused, if-done}
 use Rattle.layout.specs.declared.head.Head.{Head}
-use Rattle.layout.specs.States.{mapHere}
+use Rattle.views.specs.States.{mapHere}
 use Rattle.layout.specs.Tests.{zerosB}
-use Rattle.layout.specs.Trim.{Trimmable, trimmedHead, trimmedJournal}
-use Rattle.layout.specs.View.{padded, Shaped}
+use Rattle.views.specs.Trim.{Trimmable, trimmedHead, trimmedJournal}
+use Rattle.views.specs.View.{padded, Shaped}
 use Rattle.layout.proofs.HeadTests.{InRange, lengths-facts}
-use Rattle.layout.proofs.SlotLists.{least-up-to, least-later}
-use Rattle.layout.proofs.SoundFacts.{shaped}
-use Rattle.layout.proofs.Sounds.{Sound, sound-facts, sound-marked}
-use Rattle.layout.proofs.States.{since-rises}
+use Rattle.views.proofs.SlotLists.{least-up-to, least-later}
+use Rattle.views.proofs.SoundFacts.{shaped}
+use Rattle.views.proofs.Sounds.{Sound, sound-facts, sound-marked}
+use Rattle.views.proofs.States.{since-rises}
 use Rattle.layout.proofs.WordTests.{zeros-fact}
 use Rattle.flush_plans.specs.Plan.{earlyCheck, FlushPlan}
 use Rattle.flush_plans.proofs.Planning.{EarlyOk, early-ok}

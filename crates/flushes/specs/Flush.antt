@@ -11,9 +11,9 @@ use Rattle.grounds.specs.declared.Refusal.the-variants.{Lengths, Unsound, State
 use Rattle.grounds.specs.First.{met, first, ifDone}
 use Rattle.layout.specs.declared.head.Head.{Head}
 use Rattle.layout.specs.Sound.{lengthsB, soundB}
-use Rattle.layout.specs.States.{mapHere}
-use Rattle.layout.specs.Trim.{trimmedHead, trimmedJournal}
-use Rattle.layout.specs.View.{padded}
+use Rattle.views.specs.States.{mapHere}
+use Rattle.views.specs.Trim.{trimmedHead, trimmedJournal}
+use Rattle.views.specs.View.{padded}
 
 -- grounds 1, 2, 11 ("below the anchor or above the tip"), 16 ("The map to be flushed or loaded has more offers than the book has
 -- words"): only the map at the state named counts, not those on the way to it

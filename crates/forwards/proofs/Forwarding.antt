@@ -13,10 +13,10 @@ use Rattle.grounds.specs.declared.Refusal.{Refusal}
 use Rattle.grounds.specs.Numbers.{Gives}
 use Rattle.grounds.proofs.Firsts.{gives, if-refused, if-done}
 use Rattle.layout.specs.declared.head.Head.{Head}
-use Rattle.layout.specs.States.{stepIndex}
-use Rattle.layout.specs.Trim.{Trimmable, trimmedHead, trimmedJournal}
-use Rattle.layout.specs.View.{Shaped}
-use Rattle.layout.proofs.SoundFacts.{shaped}
+use Rattle.views.specs.States.{stepIndex}
+use Rattle.views.specs.Trim.{Trimmable, trimmedHead, trimmedJournal}
+use Rattle.views.specs.View.{Shaped}
+use Rattle.views.proofs.SoundFacts.{shaped}
 use Rattle.slots.specs.Slots.{shut}
 use Rattle.slots.proofs.Closing.{shut-trimmable, number-low, number-high}
 use Rattle.last_changes.specs.Steps.{Rising}

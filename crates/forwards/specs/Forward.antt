@@ -14,8 +14,8 @@ use Rattle.grounds.specs.declared.Refusal.the-variants.{Lengths, Unsound, SlotR
 use Rattle.grounds.specs.First.{Ground, met, first, ifDone}
 use Rattle.layout.specs.declared.head.Head.{Head}
 use Rattle.layout.specs.Sound.{lengthsB, soundB}
-use Rattle.layout.specs.States.{stepsBetween}
-use Rattle.layout.specs.Trim.{trimmedHead, trimmedJournal}
+use Rattle.views.specs.States.{stepsBetween}
+use Rattle.views.specs.Trim.{trimmedHead, trimmedJournal}
 use Rattle.slots.specs.Slots.{shut}
 
 -- grounds 1, 2, 3, 5, 6 ("A list breaks its rules"), 11 ("below the anchor or above the tip")

@@ -12,7 +12,7 @@ use Rattle.grounds.specs.declared.Quote.{Quote}
 use Rattle.grounds.specs.declared.Quote.the-variants.{Price, NoPrice, Refused as Unquoted}
 use Rattle.grounds.specs.declared.Written.{Written}
 use Rattle.grounds.specs.declared.Written.the-variants.{Count, Refused as Unwritten}
-use Rattle.layout.specs.View.{Store}
+use Rattle.views.specs.View.{Store}
 use Rattle.forwards.specs.Forward.{forwardCheck, forwardReads}
 use Rattle.issues.specs.Issue.{issueCheck, issueList}
 use Rattle.lookups.specs.LookUp as LookUp

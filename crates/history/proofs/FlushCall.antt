@@ -10,12 +10,12 @@ use lib.Dec.{ltb}
 use lib.ListN.{length}
 use Rattle.grounds.specs.declared.Outcome.the-variants.{Done}
 use Rattle.grounds.specs.First.{ifDone}
-use Rattle.layout.specs.States.{mapHere}
-use Rattle.layout.specs.Trim.{trimmed, trimmedHead, trimmedJournal}
-use Rattle.layout.specs.View.{Store, View, padded, encode, decode, Good, mapAt as viewMapAt}
-use Rattle.layout.proofs.Sounds.{Sound}
-use Rattle.layout.proofs.States.{map-is}
-use Rattle.layout.proofs.Views.{encoded-sound}
+use Rattle.views.specs.States.{mapHere}
+use Rattle.views.specs.Trim.{trimmed, trimmedHead, trimmedJournal}
+use Rattle.views.specs.View.{Store, View, padded, encode, decode, Good, mapAt as viewMapAt}
+use Rattle.views.proofs.Sounds.{Sound}
+use Rattle.views.proofs.States.{map-is}
+use Rattle.views.proofs.Views.{encoded-sound}
 use Rattle.flushes.specs.Flush.{flushCheck, flushedHead, flushTable, flushJournal, flushHead}
 use Rattle.steps.specs.StepViews.{flushedView}
 use Rattle.flushes.proofs.Flushing.{FlushOk, flush-ok}

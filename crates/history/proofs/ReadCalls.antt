@@ -23,9 +23,9 @@ use Rattle.grounds.specs.First.{ifDone}
 use Rattle.grounds.proofs.Firsts.{new-is}
 use Rattle.image.specs.Image.{imageOf}
 use Rattle.image.proofs.RoundTrip.{image-length}
-use Rattle.layout.specs.States.{mapHere}
-use Rattle.layout.specs.Trim.{trimmed, trimmedHead, trimmedJournal}
-use Rattle.layout.specs.View.{Store, View, Slot, closed as shutSlot, holding, issuedOf, heldSteps, encode, decode, Good, mapAt as viewMapAt}
+use Rattle.views.specs.States.{mapHere}
+use Rattle.views.specs.Trim.{trimmed, trimmedHead, trimmedJournal}
+use Rattle.views.specs.View.{Store, View, Slot, closed as shutSlot, holding, issuedOf, heldSteps, encode, decode, Good, mapAt as viewMapAt}
 use Rattle.forwards.specs.Forward.{forwardCheck, forwardReads, forwardHead, forwardJournal, stepsFor}
 use Rattle.issues.specs.Issue.{issueCheck, issueHead, issueList}
 use Rattle.lookups.specs.LookUp.{lookUpCheck, quoteOf, quoteOr}

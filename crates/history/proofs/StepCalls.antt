@@ -14,7 +14,7 @@ use Rattle.grounds.specs.declared.Outcome.the-variants.{Done}
 use Rattle.grounds.specs.declared.Refusal.the-variants.{StateRange}
 use Rattle.grounds.specs.First.{ifDone}
 use Rattle.layout.specs.Sound.{heldOf}
-use Rattle.layout.specs.View.{Store, View, flat, encode, Good}
+use Rattle.views.specs.View.{Store, View, flat, encode, Good}
 use Rattle.commits.specs.Commit.{usedOf, commitCheck, withList, withStep, commitJournal, commitHead}
 use Rattle.rollbacks.specs.RollBack.{rollCheck, keptOf, cutAt, cutTo, rollJournal, rollHead}
 use Rattle.steps.specs.StepViews.{commitView, rollView}

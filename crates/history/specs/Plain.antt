@@ -14,7 +14,7 @@ use Rattle.changes.specs.Calculus.{find, apply}
 use Rattle.changes.specs.Lists.{listB, noPutB}
 use Rattle.changes.specs.ReadSets.{foundOr}
 use Rattle.image.specs.Image.{imageB, numberIn, wordsIn, imageOf}
-use Rattle.layout.specs.View.{Limits, flat}
+use Rattle.views.specs.View.{Limits, flat}
 use Rattle.history.specs.Calls.{Call, lookUp, commit, rollBack, flush, issue, forward, release, writeImage, Reply, done, price, noPrice, filled, forwarded, written, refused, Turn}
 
 -- a ground's test, which says whether it is met, with its number

@@ -10,7 +10,7 @@ use Rattle.grounds.specs.declared.Quote.the-variants.{Price, NoPrice, Refused a
 use Rattle.grounds.specs.declared.Written.{Written}
 use Rattle.grounds.specs.declared.Written.the-variants.{Count, Refused as Unwritten}
 use Rattle.grounds.specs.Numbers.{numberOf}
-use Rattle.layout.specs.View.{Store}
+use Rattle.views.specs.View.{Store}
 use Rattle.forwards.specs.Forward.{forwardCheck, forwardReads, forwardHead, forwardJournal}
 use Rattle.issues.specs.Issue.{issueCheck, issueHead, issueList}
 use Rattle.lookups.specs.LookUp as LookUp

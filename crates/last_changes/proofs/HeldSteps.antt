@@ -6,9 +6,9 @@ use native.Mathlib.Omega.{arith}
 use Rattle.changes.proofs.ListTest.{list-facts}
 use Rattle.changes.proofs.Running.{marked-fewer}
 use Rattle.layout.specs.declared.head.Head.{Head}
-use Rattle.layout.specs.States.{stepIndex}
-use Rattle.layout.specs.View.{Shaped}
-use Rattle.layout.proofs.Sounds.{Sound, sound-marked}
+use Rattle.views.specs.States.{stepIndex}
+use Rattle.views.specs.View.{Shaped}
+use Rattle.views.proofs.Sounds.{Sound, sound-marked}
 use Rattle.layout.proofs.StepTests.{step-list}
 use Rattle.last_changes.specs.Steps.{Rising}
 

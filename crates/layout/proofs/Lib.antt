@@ -1,12 +1,4 @@
 pub mod HeadTests
 pub mod Holds
-mod Moving
-pub mod SlotLists
-pub mod SoundFacts
-pub mod Sounds
-pub mod States
-pub mod StepLists
 pub mod StepTests
-pub mod Trims
-pub mod Views
 pub mod WordTests

@@ -9,7 +9,7 @@ use Rattle.grounds.specs.declared.Outcome.the-variants.{Done}
 use Rattle.grounds.proofs.Firsts.{done-not}
 use Rattle.layout.specs.declared.head.Head.{Head}
 use Rattle.layout.proofs.HeadTests.{InRange, lengths-facts}
-use Rattle.layout.proofs.Sounds.{Sound, sound-facts}
+use Rattle.views.proofs.Sounds.{Sound, sound-facts}
 use Rattle.lookups.specs.LookUp.{lookUpCheck}
 
 pub record LookUpOk (table journal : List ℕ) (head : Head) (offer state : ℕ) : Type 0 where

@@ -17,7 +17,7 @@ use Rattle.grounds.specs.declared.Refusal.the-variants.{Lengths, Unsound, BadLi
 use Rattle.grounds.specs.First.{Ground, met, first}
 use Rattle.layout.specs.declared.head.Head.{Head}
 use Rattle.layout.specs.Sound.{lengthsB, soundB}
-use Rattle.layout.specs.States.{mapHere}
+use Rattle.views.specs.States.{mapHere}
 
 -- the price of the word that a map has at an offer, or none; "zero is a true price"
 abbrev pub quoteOf : Found → Quote

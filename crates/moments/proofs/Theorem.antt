@@ -17,7 +17,7 @@ use Rattle.image.specs.Bytes.{bytesOf, valueOf}
 use Rattle.image.specs.Image.{wordBytes, imageOf, wordsOf, numberIn, countIn, wordsIn, imageB}
 use Rattle.layout.specs.Sound.{soundB}
 use Rattle.layout.specs.Tests.{allB, allOf, zerosB, least}
-use Rattle.layout.specs.Trim.{trimmedHead, trimmedJournal}
+use Rattle.views.specs.Trim.{trimmedHead, trimmedJournal}
 use Rattle.snapshot.specs.Fresh.{freshHead}
 use Rattle.commits.specs.Commit.{withStep}
 use Rattle.flushes.specs.Flush.{flushedHead}

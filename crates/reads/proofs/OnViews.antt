@@ -11,9 +11,9 @@ use Rattle.changes.specs.ReadSets.{readOf}
 use Rattle.grounds.specs.declared.Outcome.the-variants.{Done}
 use Rattle.grounds.proofs.Firsts.{new-is}
 use Rattle.layout.specs.declared.head.Head.{Head}
-use Rattle.layout.specs.View.{Store, View, holding, encode, decode, mapAt, openOf, NotAbove, Good, Shaped}
-use Rattle.layout.proofs.States.{map-is}
-use Rattle.layout.proofs.Views.{restored, decoded-good}
+use Rattle.views.specs.View.{Store, View, holding, encode, decode, mapAt, openOf, NotAbove, Good, Shaped}
+use Rattle.views.proofs.States.{map-is}
+use Rattle.views.proofs.Views.{restored, decoded-good}
 use Rattle.issues.specs.Issue.{issueCheck, issueHead, issueList}
 use Rattle.lookups.specs.LookUp.{lookUpCheck, lookUp, quoteOf}
 use Rattle.reads.specs.OnView.{withSlot}

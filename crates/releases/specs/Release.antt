@@ -10,7 +10,7 @@ use Rattle.grounds.specs.declared.Refusal.the-variants.{Lengths, Unsound, SlotR
 use Rattle.grounds.specs.First.{Ground, met, first, ifDone}
 use Rattle.layout.specs.declared.head.Head.{Head}
 use Rattle.layout.specs.Sound.{lengthsB, soundB}
-use Rattle.layout.specs.Trim.{trimmedHead, trimmedJournal}
+use Rattle.views.specs.Trim.{trimmedHead, trimmedJournal}
 use Rattle.slots.specs.Slots.{shut}
 
 -- grounds 1, 2, 3, 5

@@ -19,8 +19,8 @@ use Rattle.grounds.specs.Numbers.{Gives}
 use Rattle.grounds.proofs.Firsts.{done-not, gives, if-refused, if-done}
 use Rattle.layout.specs.declared.head.Head.{Head}
 use Rattle.layout.proofs.HeadTests.{InRange, lengths-facts}
-use Rattle.layout.proofs.SoundFacts.{inside}
-use Rattle.layout.proofs.Sounds.{Sound, sound-facts}
+use Rattle.views.proofs.SoundFacts.{inside}
+use Rattle.views.proofs.Sounds.{Sound, sound-facts}
 use Rattle.rollbacks.specs.RollBack.{rollCheck, rollHead, rollJournal, keptOf, cutAt, cutTo}
 
 -- a rollback

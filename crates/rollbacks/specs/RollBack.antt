@@ -12,7 +12,7 @@ use Rattle.grounds.specs.declared.Refusal.the-variants.{Lengths, Unsound, State
 use Rattle.grounds.specs.First.{met, first, ifDone}
 use Rattle.layout.specs.declared.head.Head.{Head}
 use Rattle.layout.specs.Sound.{lengthsB, soundB}
-use Rattle.layout.specs.States.{stepIndex}
+use Rattle.views.specs.States.{stepIndex}
 
 -- grounds 1, 2, 11
 abbrev pub rollCheck : List ℕ → List ℕ → Head → ℕ → Outcome

@@ -9,10 +9,10 @@ use borrow.Author.Tests.{leb-true}
 use lib.ListN.{length, getD, set}
 use Rattle.layout.specs.declared.head.Head.{Head}
 use Rattle.layout.specs.Tests.{least}
-use Rattle.layout.specs.Trim.{Trimmable}
-use Rattle.layout.specs.View.{Shaped}
-use Rattle.layout.proofs.SlotLists.{least-up-to}
-use Rattle.layout.proofs.Sounds.{Sound, sound-marked}
+use Rattle.views.specs.Trim.{Trimmable}
+use Rattle.views.specs.View.{Shaped}
+use Rattle.views.proofs.SlotLists.{least-up-to}
+use Rattle.views.proofs.Sounds.{Sound, sound-marked}
 use Rattle.slots.specs.Slots.{shut}
 
 -- with a slot closed the least number is no lower

@@ -9,8 +9,8 @@ use lib.Seq.{take-at, set-at, append-snoc, take-append-seam, drop-append-add}
 use Rattle.changes.specs.Lists.{All}
 use Rattle.changes.specs.Runs.{startOf}
 use Rattle.words.proofs.Parts.{zeros-next, zeros-from}
-use Rattle.layout.specs.View.{padded, flat, marksFrom}
-use Rattle.layout.proofs.StepLists.{marks-end}
+use Rattle.views.specs.View.{padded, flat, marksFrom}
+use Rattle.views.proofs.StepLists.{marks-end}
 
 pub flat-append : (ps qs : List (List ℕ)) → flat (ps ++ qs) ≡ flat ps ++ flat qs
 unfolding flat

@@ -13,8 +13,8 @@ use Rattle.grounds.specs.First.{ifDone}
 use Rattle.image.specs.Image.{countIn, numberIn}
 use Rattle.layout.specs.declared.head.Head.{Head}
 use Rattle.layout.specs.Sound.{heldOf}
-use Rattle.layout.specs.States.{mapHere}
-use Rattle.layout.specs.Trim.{trimmedHead}
+use Rattle.views.specs.States.{mapHere}
+use Rattle.views.specs.Trim.{trimmedHead}
 use Rattle.forwards.specs.Forward.{forwardCheck}
 use Rattle.issues.specs.Issue.{issueCheck}
 use Rattle.lookups.specs.LookUp.{lookUp}

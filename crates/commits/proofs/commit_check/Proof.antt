@@ -8,9 +8,9 @@ use borrow.Author.Tests.{not-false, lt-ltb, le-ltb, eq-eqb, ne-eqb}
 use lib.ListN.{length}
 use Rattle.grounds.proofs.Firsts.{first-met, first-not, none-met}
 use Rattle.layout.specs.Sound.{heldOf}
-use Rattle.layout.proofs.Sounds.{sound-facts}
+use Rattle.views.proofs.Sounds.{sound-facts}
 use Rattle.commits.specs.Commit.{usedOf}
-use Rattle.layout.proofs.SoundFacts.{inside}
+use Rattle.views.proofs.SoundFacts.{inside}
 use borrow.Author.Needs.{needs}
 use native.Mathlib.Omega.{arith}
 use Rattle.commits.proofs.commit_check.Statement.{statement}

@@ -5,7 +5,7 @@ use mathlib.Core.Bool.{Bool}
 use Prim.Native.Nat.{ℕ}
 use native.Mathlib.Omega.{arith}
 use borrow.Author.Needs.{needs, length-unmapped}
-use Rattle.layout.proofs.SoundFacts.{shaped}
+use Rattle.views.proofs.SoundFacts.{shaped}
 use Rattle.flush_plans.proofs.Planning.{early-ok, used-long, run-room, count-in, changes-long, count-room, sum-small, planned}
 use Rattle.flush_plans.proofs.plan_flush.Statement.{statement}
 use Rattle.flush_plans.proofs.plan_flush.Tie as tie

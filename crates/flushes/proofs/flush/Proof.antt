@@ -4,7 +4,7 @@ use mathlib.Core.Path.{refl, sym, subst}
 use mathlib.Core.Bool.{Bool}
 use Prim.Native.Nat.{ℕ}
 use borrow.Author.Needs.{needs, length-unmapped}
-use Rattle.layout.specs.Trim.{Trimmable}
+use Rattle.views.specs.Trim.{Trimmable}
 use Rattle.flushes.proofs.Flushing.{FlushStart, flush-start, flush-refused, flush-full, flush-done, plan-full, plan-fits, changes-in, new-in, can-apply, head-is, table-is, flushed-trimmable}
 use Rattle.flushes.proofs.flush.Statement.{statement}
 use Rattle.flushes.proofs.flush.Tie as tie

@@ -4,7 +4,7 @@ use mathlib.Core.Path.{_∙_, sym, ap, subst}
 use mathlib.Core.Bool.{Bool}
 use Prim.Native.Nat.{ℕ}
 use borrow.Author.Needs.{length-unmapped}
-use Rattle.layout.specs.Trim.{trimmedHead, trimmedJournal, Trimmable}
+use Rattle.views.specs.Trim.{trimmedHead, trimmedJournal, Trimmable}
 use Rattle.forwards.proofs.Forwarding.{Forwarding, forwarding, forward-refused, forward-done}
 use borrow.Author.Needs.{needs}
 use native.Mathlib.Omega.{arith}

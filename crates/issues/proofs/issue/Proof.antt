@@ -2,7 +2,7 @@
 -- Assumes nothing.
 use mathlib.Core.Path.{_∙_, sym}
 use Rattle.grounds.proofs.Firsts.{gives, if-refused, if-done}
-use Rattle.layout.proofs.SoundFacts.{used-long}
+use Rattle.views.proofs.SoundFacts.{used-long}
 use Rattle.issues.proofs.Accepted.{issue-ok, list-filled}
 use borrow.Author.Needs.{needs}
 use Rattle.issues.proofs.issue.Statement.{statement}

@@ -2,7 +2,7 @@
 -- Assumes nothing.
 use mathlib.Core.Path.{_∙_, sym, ap}
 use Rattle.grounds.proofs.Firsts.{gives-quote}
-use Rattle.layout.proofs.SoundFacts.{used-long}
+use Rattle.views.proofs.SoundFacts.{used-long}
 use Rattle.last_changes.proofs.HeldSteps.{steps-rising}
 use Rattle.lookups.proofs.Accepted.{look-up-ok}
 use borrow.Author.Needs.{needs}

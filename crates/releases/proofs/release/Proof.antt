@@ -2,7 +2,7 @@
 -- Assumes nothing.
 use mathlib.Core.Path.{_∙_, sym, ap, subst}
 use Rattle.grounds.proofs.Firsts.{gives, if-refused, if-done}
-use Rattle.layout.specs.Trim.{trimmedHead, trimmedJournal, Trimmable}
+use Rattle.views.specs.Trim.{trimmedHead, trimmedJournal, Trimmable}
 use Rattle.releases.proofs.Accepted.{release-ok}
 use Rattle.slots.proofs.Closing.{shut-trimmable}
 use borrow.Author.Needs.{needs}

@@ -5,10 +5,10 @@ use mathlib.Core.List.{List, map, _++_}
 use Prim.Native.Nat.{ℕ, _-_, _≤_}
 use lib.ListN.{length, take, drop, replicate}
 use Rattle.changes.specs.Runs.{startOf, Marked}
 use Rattle.layout.specs.declared.head.Head.{Head}
 use Rattle.layout.specs.Sound.{heldOf}
 use Rattle.layout.specs.Tests.{least}
-use Rattle.layout.specs.View.{View, padded, leastSlot}
+use Rattle.views.specs.View.{View, padded, leastSlot}
 
 -- the floor worked out anew, how many steps lie below it, and how many words they have
 abbrev pub floorOf : Head → ℕ

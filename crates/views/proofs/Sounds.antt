@@ -10,13 +10,13 @@ use lib.ListN.{length, take, drop}
 use Rattle.changes.specs.Lists.{Map}
 use Rattle.changes.specs.Runs.{startOf, Marked}
 use Rattle.changes.proofs.MapTest.{map-of, of-map}
 use Rattle.layout.specs.declared.head.Head.{Head}
 use Rattle.layout.specs.Sound.{heldOf, stepB, slotB, soundB}
 use Rattle.layout.specs.Tests.{zerosB, least}
-use Rattle.layout.specs.View.{Shaped}
+use Rattle.views.specs.View.{Shaped}
 use Rattle.layout.proofs.HeadTests.{numbers-facts, facts-numbers}
 use Rattle.layout.proofs.Holds.{first-holds, all-first, all-rest, all-none, all-at, all-of}
 use Rattle.layout.proofs.StepTests.{step-rises, steps-inside}
 
 pub record Sound (table journal : List ℕ) (head : Head) : Type 0 where
   pub used-in : head .used ≤ length table

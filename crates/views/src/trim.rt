@@ -1,13 +1,13 @@
 // The steps below the floor go (document 01, "Laws of changes"), after a flush, a forward or a release.
-use crate::head::Head;
-use crate::sound::end_of;
-use crate::sound::least_of;
+use layout::head::Head;
+use layout::sound::end_of;
+use layout::sound::least_of;
 use words::clear;
 use words::shift;
 ghost use mathlib.Core.Path.{_≡_};
 ghost use Prim.Native.Nat.{ℕ, _≤_, _<_};
 ghost use lib.ListN.{getD};
-ghost use Rattle.layout.specs.Trim.{movedEnds, trimmedHead, trimmedJournal, Trimmable};
+ghost use Rattle.views.specs.Trim.{movedEnds, trimmedHead, trimmedJournal, Trimmable};
 
 // The marks from a step up to another, exclusive, moved to the start and down by a count of words.
 fn move_ends(ends: [usize; 64], from: usize, to: usize, words: usize) -> [usize; 64]

@@ -8,9 +8,9 @@ use native.Mathlib.Omega.{arith}
 use borrow.Author.Tests.{le-leb, leb-true, eqb-true}
 use lib.ListN.{length}
 use Rattle.changes.specs.Lists.{All}
 use Rattle.layout.specs.Sound.{slotB}
 use Rattle.layout.specs.Tests.{least}
-use Rattle.layout.specs.View.{Slot, closed, holding, leastSlot, openOf, issuedOf, slotsOf, NotAbove}
+use Rattle.views.specs.View.{Slot, closed, holding, leastSlot, openOf, issuedOf, slotsOf, NotAbove}
 
 -- a list of slots in a head, and back
 pub slots-again : (ss : List Slot) → slotsOf (map openOf ss) (map issuedOf ss) ≡ ss

@@ -3,11 +3,11 @@
 use mathlib.Core.Path.{_≡_, sym, subst}
 use Prim.Native.Nat.{ℕ, _-_, _≤_}
 use lib.ListN.{length, getD}
-use Rattle.layout.proofs.Moving.{words-inside, marks-above, head-trimmed, journal-trimmed}
+use Rattle.views.proofs.Moving.{words-inside, marks-above, head-trimmed, journal-trimmed}
 use borrow.Author.Needs.{needs}
 use native.Mathlib.Omega.{arith}
-use Rattle.layout.proofs.trim.trim.Statement.{statement}
-use Rattle.layout.proofs.trim.trim.Tie as tie
+use Rattle.views.proofs.trim.trim.Statement.{statement}
+use Rattle.views.proofs.trim.trim.Tie as tie
 
 least-of-requires : tie.Need-least-of-requires
 least-of-requires c κs = search needs

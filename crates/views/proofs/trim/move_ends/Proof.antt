@@ -3,11 +3,11 @@
 use mathlib.Core.Path.{_≡_}
 use Prim.Native.Nat.{_+_, _-_}
 use lib.ListN.{length}
-use Rattle.layout.proofs.Moving.{Moving, moving, moved-one, moved-all}
+use Rattle.views.proofs.Moving.{Moving, moving, moved-one, moved-all}
 use borrow.Author.Needs.{needs}
 use native.Mathlib.Omega.{arith}
-use Rattle.layout.proofs.trim.move_ends.Statement.{statement}
-use Rattle.layout.proofs.trim.move_ends.Tie as tie
+use Rattle.views.proofs.trim.move_ends.Statement.{statement}
+use Rattle.views.proofs.trim.move_ends.Tie as tie
 
 abbrev Inv-loop : tie.InvT-loop
 Inv-loop from to words ends next₀ k₀ next k = Moving next ends from to words k

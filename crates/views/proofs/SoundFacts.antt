@@ -7,12 +7,12 @@ use native.Mathlib.Omega.{arith}
 use lib.ListN.{length, take}
 use lib.Seq.{length-take-le}
 use Rattle.changes.specs.Runs.{startOf}
 use Rattle.layout.specs.declared.head.Head.{Head}
 use Rattle.layout.specs.Sound.{heldOf, stepB}
-use Rattle.layout.specs.View.{Shaped}
+use Rattle.views.specs.View.{Shaped}
 use Rattle.layout.proofs.Holds.{all-of}
-use Rattle.layout.proofs.Sounds.{Sound}
+use Rattle.views.proofs.Sounds.{Sound}
 use Rattle.layout.proofs.StepTests.{steps-inside}
 
 -- a head whose arrays have their lengths
 pub shaped : (head : Head) → length (head .held) ≡ 8 → length (head .issued) ≡ 8 → length (head .ends) ≡ 64 → Shaped head

@@ -10,13 +10,13 @@ use lib.ListN.{length, take, drop, getD, replicate, length-append, length-drop, 
 use lib.Seq.{length-take-le, take-at, drop-at}
 use Rattle.changes.specs.Lists.{listB, All, Map}
 use Rattle.changes.specs.Runs.{startOf}
 use Rattle.layout.specs.declared.head.Head.{Head}
 use Rattle.layout.specs.Sound.{heldOf}
 use Rattle.layout.specs.Tests.{least}
-use Rattle.layout.specs.Trim.{floorOf, goneSteps, goneWords, movedEnds, trimmedHead, trimmedJournal, trimmed}
-use Rattle.layout.specs.View.{Store, View, heldSteps, tipOf, leastSlot, padded, flat, marksFrom, openOf, issuedOf, encode, Good, NotAbove}
-use Rattle.layout.proofs.SlotLists.{least-slots, least-most}
-use Rattle.layout.proofs.StepLists.{marks-length, marks-end}
+use Rattle.views.specs.Trim.{floorOf, goneSteps, goneWords, movedEnds, trimmedHead, trimmedJournal, trimmed}
+use Rattle.views.specs.View.{Store, View, heldSteps, tipOf, leastSlot, padded, flat, marksFrom, openOf, issuedOf, encode, Good, NotAbove}
+use Rattle.views.proofs.SlotLists.{least-slots, least-most}
+use Rattle.views.proofs.StepLists.{marks-length, marks-end}
 
 flat-append : (a b : List (List ℕ)) → flat (a ++ b) ≡ flat a ++ flat b
 unfolding flat

@@ -12,10 +12,10 @@ use Rattle.changes.specs.Lists.{listB, All}
 use Rattle.changes.specs.Runs.{startOf, stepOf, runOf, runWords, Marked}
 use Rattle.words.proofs.Parts.{next}
 use Rattle.changes.proofs.Running.{step-length}
 use Rattle.layout.specs.Sound.{stepB}
-use Rattle.layout.specs.View.{flat, marksFrom}
+use Rattle.views.specs.View.{flat, marksFrom}
 use Rattle.layout.proofs.Holds.{first-holds, last-test}
 use Rattle.layout.proofs.StepTests.{start-next}
 
 -- the steps of marked words: their marks and their words
 module _ (words ends : List ℕ) (n : ℕ) (m : Marked words ends n) where

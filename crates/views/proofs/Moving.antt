@@ -11,10 +11,10 @@ use lib.Seq.{length-take-le, take-at}
 use Rattle.changes.specs.Runs.{startOf, Marked}
 use Rattle.words.proofs.Parts.{next, part, put-part}
 use Rattle.words.proofs.Writing.{Writing, start, unwritten, stored, whole}
 use Rattle.layout.specs.declared.head.Head.{Head}
 use Rattle.layout.specs.Sound.{heldOf}
-use Rattle.layout.specs.Trim.{floorOf, goneSteps, goneWords, movedEnds, trimmedHead, trimmedJournal, Trimmable}
+use Rattle.views.specs.Trim.{floorOf, goneSteps, goneWords, movedEnds, trimmedHead, trimmedJournal, Trimmable}
 use Rattle.layout.proofs.StepTests.{start-next}
 
 drop-zeros : (k n : ℕ) → drop k (replicate {A = ℕ} n 0) ≡ replicate (n - k) 0
 drop-zeros zero n = ap (λ (m : ℕ). replicate m 0) (sym (sub-zero n))

@@ -9,15 +9,15 @@ use lib.ListN.{length, take, drop, replicate, length-append, length-drop, length
 use lib.Seq.{length-take-le, take-append-seam, drop-append-seam}
 use Rattle.changes.specs.Lists.{listB, All, Map}
 use Rattle.changes.specs.Runs.{startOf, runOf, runWords, Marked}
 use Rattle.layout.specs.declared.head.Head.{Head}
 use Rattle.layout.specs.Sound.{heldOf, stepB, slotB}
 use Rattle.layout.specs.Tests.{zerosB}
-use Rattle.layout.specs.View.{View, heldSteps, padded, flat, marksFrom, openOf, issuedOf, encode, decode, Good, Shaped}
-use Rattle.layout.proofs.SlotLists.{slots-again, least-slots, slots-pass, marks-again, numbers-again, least-again, slots-below, slots-length}
-use Rattle.layout.proofs.Sounds.{Sound, sound-marked}
-use Rattle.layout.proofs.StepLists.{run-marks, run-words, marks-length, marks-end, Laid, cut-again, steps-pass}
+use Rattle.views.specs.View.{View, heldSteps, padded, flat, marksFrom, openOf, issuedOf, encode, decode, Good, Shaped}
+use Rattle.views.proofs.SlotLists.{slots-again, least-slots, slots-pass, marks-again, numbers-again, least-again, slots-below, slots-length}
+use Rattle.views.proofs.Sounds.{Sound, sound-marked}
+use Rattle.views.proofs.StepLists.{run-marks, run-words, marks-length, marks-end, Laid, cut-again, steps-pass}
 use Rattle.layout.proofs.StepTests.{step-list}
 use Rattle.layout.proofs.WordTests.{zeros-fact, fact-zeros}
 
 -- words with zeros behind are their first words, padded
 pub padded-is : (l : List ℕ) (n : ℕ) → n ≤ length l → zerosB (drop n l) ≡ true → padded (length l) (take n l) ≡ l

@@ -13,12 +13,12 @@ use Rattle.changes.specs.Runs.{runOf}
 use Rattle.changes.proofs.Applying.{compose-all-nil, compose-all-one}
 use Rattle.changes.proofs.Laws.{apply-zero, apply-twice, apply-map, run-changes, run-split, steps-split}
 use Rattle.changes.proofs.ListTest.{list-facts}
 use Rattle.layout.specs.declared.head.Head.{Head}
 use Rattle.layout.specs.Sound.{heldOf}
-use Rattle.layout.specs.States.{stepIndex, stepsBetween, mapHere}
-use Rattle.layout.specs.View.{Store, View, decode, mapAt, tipOf, Good, Shaped}
-use Rattle.layout.proofs.Sounds.{Sound}
-use Rattle.layout.proofs.Views.{decoded-good, run-count}
+use Rattle.views.specs.States.{stepIndex, stepsBetween, mapHere}
+use Rattle.views.specs.View.{Store, View, decode, mapAt, tipOf, Good, Shaped}
+use Rattle.views.proofs.Sounds.{Sound}
+use Rattle.views.proofs.Views.{decoded-good, run-count}
 
 -- the steps of a good view are changes
 all-changes : (ds : List (List ℕ)) → All (λ d. listB d ≡ true) ds → All Changes ds
