@@ -15,6 +15,10 @@ offerOf w = w / 2 ^ 32 % 2 ^ 31
 abbrev pub priceOf : ℕ → ℕ
 priceOf w = w % 2 ^ 32
 
+-- kind and offer as one number
+abbrev pub keyOf : ℕ → ℕ
+keyOf w = w / 2 ^ 32
+
 -- the word of a kind, an offer and a price
 abbrev pub wordOf : ℕ → ℕ → ℕ → ℕ
 wordOf kind offer price = kind * 2 ^ 63 + offer * 2 ^ 32 + price

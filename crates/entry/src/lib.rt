@@ -3,7 +3,7 @@
 // a read set; kind 0 removes it, or shows that there is none, and its price field is 0.
 ghost use mathlib.Core.Path.{_≡_};
 ghost use Prim.Native.Nat.{_%_, _^_};
-ghost use Rattle.entry.specs.Word.{kindOf, offerOf, priceOf, putOf, noneOf, isPut, validB, riseOf, markOf};
+ghost use Rattle.entry.specs.Word.{kindOf, offerOf, priceOf, keyOf, putOf, noneOf, isPut, validB, riseOf, markOf};
 
 pub struct Entry;
 
@@ -26,6 +26,9 @@ impl Entry {
 
     const PRICE_MASK: u64 = (1 << Entry::PRICE_BITS) - 1;
 
+    // The largest key of a word of kind 0.
+    pub const LAST_REMOVAL: u64 = Entry::OFFER_MASK;
+
     // The offer's bits in their place.
     const OFFER_FIELD: u64 = (1 << Entry::KIND_AT) - (1 << Entry::OFFER_AT);
 
@@ -45,6 +48,13 @@ impl Entry {
         ensures { λ r. ⌜ r ≡ priceOf word ⌝ }
     {
         (word & Entry::PRICE_MASK) as u32
+    }
+
+    // Kind and offer as one number: among the keys, those of words of kind 1 lie above all others, in the order of their offers.
+    pub fn key_of(word: u64) -> u64
+        ensures { λ r. ⌜ r ≡ keyOf word ⌝ }
+    {
+        word >> Entry::OFFER_AT
     }
 
     // The word that removes an offer's price, or shows that it has none. An offer of 2^31 or more is cut to
