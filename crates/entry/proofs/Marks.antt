@@ -2,26 +2,28 @@
 -- Assumes nothing.
 use mathlib.Core.Path.{_≡_, _∙_, sym, ap, ap₂}
 use mathlib.Core.Bool.{true}
-use Prim.Native.Nat.{ℕ, _+_, _-_, _*_, _/_, _^_, _≤_, _<_}
-use native.Mathlib.Decide.{ℕ-discrete}
+use Prim.Native.Nat.{ℕ, _+_, _-_, _*_, _/_, _%_, _^_, _≤_, _<_}
+use native.Mathlib.Decide.{ℕ-discrete, decLt}
 use native.Mathlib.Omega.{arith}
-use borrow.Author.Tests.{eq-eqb, ne-eqb}
+use borrow.Author.Tests.{eq-eqb, ne-eqb, lt-ltb, le-ltb}
+use lib.Dec.{ltb}
 use lib.Bits.{bitAnd, bitOr, and-mask, and-high, and-shr, or-shr, or-zero-l, or-zero-r, and-le-l, and-le-r}
-use Rattle.entry.specs.Word.{kindOf, offerOf, priceOf, isPut, validB, markOf, riseOf}
-use Rattle.entry.proofs.Laws.{kind-small}
+use Rattle.entry.specs.Word.{kindOf, offerOf, priceOf, validB, markOf, riseOf}
 
 pub offer-field : (w : ℕ) → bitAnd w (2 ^ 63 - 2 ^ 32) ≡ offerOf w * 2 ^ 32
 offer-field w = and-high w 31 32
 
--- the kind bit of a word
-pub put-marks : (w : ℕ) → w < 2 ^ 64 → kindOf w ≡ markOf (isPut w)
-put-marks w h = go (ℕ-discrete (kindOf w) 1)
+-- the kind bit of a difference
+pub climb-marks : (r last key : ℕ) → r < 2 ^ 64 → last < 2 ^ 32 → key < 2 ^ 32 → (r + key) % 2 ^ 64 ≡ last → kindOf r ≡ markOf (ltb last key)
+climb-marks r last key small l k e = go (decLt last key)
   where
-    go : Dec (kindOf w ≡ 1) → kindOf w ≡ markOf (isPut w)
-    go (yes k) = k ∙ rw (eq-eqb (kindOf w) 1 k)
-    go (no k) =
-        let removes : kindOf w ≡ 0 = omega (arith, kind-small w h) in
-        removes ∙ rw (ne-eqb (kindOf w) 1 k)
+    go : Dec (last < key) → kindOf r ≡ markOf (ltb last key)
+    go (yes h) =
+        let bit : kindOf r ≡ 1 = omega arith in
+        bit ∙ rw (lt-ltb last key h)
+    go (no h) =
+        let bit : kindOf r ≡ 0 = omega arith in
+        bit ∙ rw (le-ltb last key (omega arith))
 
 -- the kind bit of a word joined with that of its price
 pub valid-joined : (w : ℕ) → w < 2 ^ 64 → kindOf (bitOr w (2 ^ 63 - bitAnd w (2 ^ 32 - 1))) ≡ markOf (validB w)

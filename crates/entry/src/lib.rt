@@ -1,9 +1,11 @@
 // The entry word (document 01, "What the unit holds"): 64 bits, most significant first a kind of
 // 1 bit, an offer of 31 bits and a price of 32 bits. Kind 1 puts the price, or shows it in a table or
 // a read set; kind 0 removes it, or shows that there is none, and its price field is 0.
+use std::num::wrapping_sub_u64;
 ghost use mathlib.Core.Path.{_≡_};
-ghost use Prim.Native.Nat.{_%_, _^_};
-ghost use Rattle.entry.specs.Word.{kindOf, offerOf, priceOf, keyOf, putOf, noneOf, isPut, validB, riseOf, markOf};
+ghost use Prim.Native.Nat.{_%_, _^_, _<_};
+ghost use lib.Dec.{ltb};
+ghost use Rattle.entry.specs.Word.{kindOf, offerOf, priceOf, keyOf, putOf, noneOf, validB, riseOf, markOf};
 
 pub struct Entry;
 
@@ -25,6 +27,9 @@ impl Entry {
     const OFFER_MASK: u64 = (1 << Entry::OFFER_BITS) - 1;
 
     const PRICE_MASK: u64 = (1 << Entry::PRICE_BITS) - 1;
+
+    // The kind bit alone.
+    pub const PUT_BIT: u64 = 1 << Entry::KIND_AT;
 
     // The largest key of a word of kind 0.
     pub const LAST_REMOVAL: u64 = Entry::OFFER_MASK;
@@ -52,7 +57,7 @@ impl Entry {
 
     // Kind and offer as one number: among the keys, those of words of kind 1 lie above all others, in the order of their offers.
     pub fn key_of(word: u64) -> u64
-        ensures { λ r. ⌜ r ≡ keyOf word ⌝ }
+        ensures { λ r. ⌜ (r ≡ keyOf word) × (r < 2 ^ 32) ⌝ }
     {
         word >> Entry::OFFER_AT
     }
@@ -79,17 +84,18 @@ impl Entry {
         (word & Entry::OFFER_FIELD) + (Entry::OFFER_FIELD - (before & Entry::OFFER_FIELD))
     }
 
-    // A number whose kind bit says whether a word is of kind 1: the word itself.
-    pub fn put_mark(word: u64) -> u64
-        ensures { λ r. ⌜ kindOf r ≡ markOf (isPut word) ⌝ }
+    // A number whose kind bit says whether a key lies above the last one.
+    pub fn climb(last: u64, key: u64) -> u64
+        requires { ⌜ (last < 2 ^ 32) × (key < 2 ^ 32) ⌝ }
+        ensures { λ r. ⌜ kindOf r ≡ markOf (ltb last key) ⌝ }
     {
-        word
+        wrapping_sub_u64(last, key)
     }
 
     // A number whose kind bit says whether a word is valid: of kind 1, or of price 0.
     pub fn valid_mark(word: u64) -> u64
         ensures { λ r. ⌜ kindOf r ≡ markOf (validB word) ⌝ }
     {
-        word | ((1 << Entry::KIND_AT) - (word & Entry::PRICE_MASK))
+        word | (Entry::PUT_BIT - (word & Entry::PRICE_MASK))
     }
 }

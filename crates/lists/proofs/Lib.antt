@@ -1,2 +1,3 @@
+mod Climbing
 pub mod Halving
 mod Scans

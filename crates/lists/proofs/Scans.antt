@@ -7,17 +7,16 @@ use mathlib.Core.List.{List, [], _∷_}
 use Prim.Native.Nat.{ℕ, _+_, _-_, _^_, _≤_, _<_}
 use native.Mathlib.Decide.{ℕ-discrete, decLt}
 use native.Mathlib.Omega.{arith}
-use borrow.Author.Tests.{eq-eqb, ne-eqb, eqb-true}
+use borrow.Author.Tests.{eq-eqb, ne-eqb}
 use lib.Bits.{bitAnd}
 use lib.Dec.{eqb}
 use lib.ListN.{length, getD, drop, drop-of-length-le}
-use Rattle.entry.specs.Word.{kindOf, offerOf, isPut, validB, markOf, riseOf}
+use Rattle.entry.specs.Word.{kindOf, offerOf, validB, markOf, riseOf}
 use Rattle.entry.proofs.Laws.{kind-small}
 use Rattle.entry.proofs.Marks.{rise-small, rise-marks, rise-falls, and-small, and-marks, and-left, and-right}
 use Rattle.words.proofs.Parts.{next}
-use Rattle.changes.specs.Lists.{risingB, mapB}
+use Rattle.changes.specs.Lists.{risingB}
 use Rattle.changes.proofs.ListTest.{rising-empty, rising-below, rising-invalid, rising-next}
-use Rattle.changes.proofs.MapTest.{map-none, map-not-put, map-below, map-next}
 
 -- a test of words in turn: each passes a test of its own, and its offer is at least a bound
 pub record Turns (rest : ℕ → List ℕ → Bool) (passes : ℕ → Bool) : Type 0 where
@@ -128,17 +127,3 @@ lists =
       fails = rising-invalid;
       goes-on = rising-next;
     }
-
--- the words of a map, each of kind 1
-pub maps : Turns mapB isPut
-maps =
-    record {
-      done = map-none;
-      below = λ b w l h. falls b w l h (ℕ-discrete (kindOf w) 1);
-      fails = λ b w l h e. map-not-put b w l (λ p. absurd (let z : _≡_ {A = ℕ} 0 1 = cc (e, eq-eqb (kindOf w) 1 p) in omega arith));
-      goes-on = λ b w l h e. map-next b w l (eqb-true (kindOf w) 1 e) h;
-    }
-  where
-    falls : (b w : ℕ) (l : List ℕ) → offerOf w < b → Dec (kindOf w ≡ 1) → mapB b (w ∷ l) ≡ false
-    falls b w l h (yes k) = map-below b w l k h
-    falls b w l h (no k) = map-not-put b w l k

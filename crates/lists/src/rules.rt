@@ -26,17 +26,18 @@ pub fn is_list(words: &[u64]) -> bool
     Entry::kind_of(good) == Entry::PUT
 }
 
-// Whether the words are a map: of kind 1, with strictly rising offers.
+// Whether the words are a map: of kind 1, with strictly rising offers. Then their keys rise from above the largest key of
+// kind 0 on.
 pub fn is_map(words: &[u64]) -> bool
     ensures { λ r. ⌜ r ≡ mapB 0 (now (words .entry)) ⌝ }
 {
-    if words.len() == 0 {
-        return true;
-    }
-    let mut good = Entry::put_mark(words[0]);
-    let mut i = 1;
+    let mut good = Entry::PUT_BIT;
+    let mut last = Entry::LAST_REMOVAL;
+    let mut i = 0;
     while i < words.len() {
-        good = good & Entry::put_mark(words[i]) & Entry::rise(words[i - 1], words[i]);
+        let key = Entry::key_of(words[i]);
+        good = good & Entry::climb(last, key);
+        last = key;
         i += 1;
     }
     Entry::kind_of(good) == Entry::PUT

@@ -56,7 +56,7 @@ loop-less : tie.Need-loop-less Inv-loop μ-loop
 loop-less c = search needs
 
 loop-again : tie.Need-loop-again Inv-loop μ-loop
-loop-again c = rw (c .before .key-of .ensures) (key-rises (c .before .before .before .before .loop .inv) (omega arith) (c .before .before .u64-at .result) (omega arith) (c .before .before .u64-at .ensures) (omega arith))
+loop-again c = rw (c .before .key-of .ensures .0) (key-rises (c .before .before .before .before .loop .inv) (omega arith) (c .before .before .u64-at .result) (omega arith) (c .before .before .u64-at .ensures) (omega arith))
 
 returns-4 : tie.Need-returns-4 Inv-loop μ-loop
 returns-4 c = sym (tested (c .before .loop .inv .tested) (omega arith))
