@@ -1,0 +1,3 @@
+//! The unit's static library measured against the same work in safe Rust and other things; see docs/BENCHMARKS.md.
+
+pub mod baseline;
