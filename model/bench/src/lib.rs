@@ -1,3 +1,7 @@
 //! The unit's static library measured against the same work in safe Rust and other things; see docs/BENCHMARKS.md.
 
 pub mod baseline;
+pub mod calls;
+pub mod scene;
+pub mod subject;
+pub mod timing;

@@ -1,0 +1,179 @@
+//! Each call as a side of a measurement on a scene, for whatever is measured. Each is made once before, and its answer tested.
+
+use crate::baseline::word;
+use crate::scene::Scene;
+use crate::subject::Subject;
+use crate::timing::{repeated, restored, Side};
+use ffi::NO_PRICE;
+use std::hint::black_box;
+
+/// A call that leaves the store as it was, or as the call before left it.
+fn steady<'a, S: Subject + 'a>(
+    scene: &Scene,
+    answer: u64,
+    mut call: impl FnMut(&mut S, usize) -> u64 + 'a,
+) -> Side<'a> {
+    let mut store = S::of(scene);
+    assert_eq!(call(&mut store, 0), answer);
+    repeated(move |turn| call(black_box(&mut store), turn))
+}
+
+/// A call that changes the store or the words lent with it, which are restored before each.
+fn moving<'a, S: Subject + 'a>(
+    scene: &Scene,
+    restore: impl Fn(&mut S, &mut Vec<u64>, usize) + 'a,
+    call: impl Fn(&mut S, &mut [u64]) -> u64 + 'a,
+) -> Side<'a> {
+    let mut memory = (S::of(scene), Vec::new());
+    restore(&mut memory.0, &mut memory.1, 0);
+    assert_eq!(call(&mut memory.0, &mut memory.1), 0);
+    restored(
+        memory,
+        move |(store, words), turn| restore(store, words, turn),
+        move |(store, words)| call(black_box(store), black_box(words)),
+    )
+}
+
+/// Restores journal and head; the scene's stores take turns.
+fn steps_of<S: Subject>(scene: &Scene) -> impl Fn(&mut S, &mut Vec<u64>, usize) + '_ {
+    move |store, _, turn| {
+        let variant = scene.variant(turn);
+        store.journal().copy_from_slice(&variant.journal);
+        store.set_head(variant);
+    }
+}
+
+pub fn clear<'a, S: Subject + 'a>(scene: &'a Scene) -> Side<'a> {
+    steady(scene, 0, |store: &mut S, _| store.clear())
+}
+
+pub fn load<'a, S: Subject + 'a>(scene: &'a Scene) -> Side<'a> {
+    let mut image = scene.image();
+    steady(scene, 0, move |store: &mut S, _| store.load(&mut image))
+}
+
+pub fn write_image<'a, S: Subject + 'a>(scene: &'a Scene) -> Side<'a> {
+    let mut image = scene.image();
+    steady(scene, 0, move |store: &mut S, _| store.write_image(&mut image))
+}
+
+pub fn restart<'a, S: Subject + 'a>(scene: &'a Scene) -> Side<'a> {
+    let image = std::cell::RefCell::new(scene.image());
+    moving(scene, steps_of(scene), move |store: &mut S, _| store.restart(&mut image.borrow_mut()))
+}
+
+/// A commit of so many entries.
+pub fn commit<'a, S: Subject + 'a>(scene: &'a Scene, entries: usize) -> Side<'a> {
+    let first = scene.variant(0);
+    let start = first.head.end_of(scene.shape.held);
+    let lists = scene.lists(entries);
+    let restore = move |store: &mut S, words: &mut Vec<u64>, turn: usize| {
+        store.journal()[start..start + entries].fill(0);
+        store.set_head(first);
+        words.clone_from(&lists[turn % lists.len()]);
+    };
+    moving(scene, restore, |store, words| store.commit(words))
+}
+
+pub fn commit_64<'a, S: Subject + 'a>(scene: &'a Scene) -> Side<'a> {
+    commit::<S>(scene, word::LIST_WORDS)
+}
+
+pub fn commit_1<'a, S: Subject + 'a>(scene: &'a Scene) -> Side<'a> {
+    commit::<S>(scene, 1)
+}
+
+/// A commit of 64 entries to a store that holds 64 steps.
+pub fn refused_commit<'a, S: Subject + 'a>(scene: &'a Scene) -> Side<'a> {
+    let mut lists = scene.lists(word::LIST_WORDS);
+    let count = lists.len();
+    steady(scene, 13, move |store: &mut S, turn| store.commit(&mut lists[turn % count]))
+}
+
+/// All steps above the checkpoint rolled back.
+pub fn roll_back<'a, S: Subject + 'a>(scene: &'a Scene) -> Side<'a> {
+    let state = scene.variant(0).head.checkpoint;
+    moving(scene, steps_of(scene), move |store: &mut S, _| store.roll_back(state))
+}
+
+/// All steps flushed.
+pub fn flush<'a, S: Subject + 'a>(scene: &'a Scene) -> Side<'a> {
+    let state = scene.variant(0).head.tip;
+    let steps = steps_of(scene);
+    let restore = move |store: &mut S, words: &mut Vec<u64>, turn: usize| {
+        store.table().copy_from_slice(&scene.table);
+        steps(store, words, turn);
+    };
+    moving(scene, restore, move |store, _| store.flush(state))
+}
+
+/// An offer that has a price at the tip.
+pub fn look_up_present<'a, S: Subject + 'a>(scene: &'a Scene) -> Side<'a> {
+    let (offers, state) = (scene.sought(true), scene.variant(0).head.tip);
+    steady(scene, 0, move |store: &mut S, turn| store.look_up(offers[turn % offers.len()], state))
+}
+
+/// An offer that has none.
+pub fn look_up_absent<'a, S: Subject + 'a>(scene: &'a Scene) -> Side<'a> {
+    let (offers, state) = (scene.sought(false), scene.variant(0).head.tip);
+    steady(scene, NO_PRICE, move |store: &mut S, turn| store.look_up(offers[turn % offers.len()], state))
+}
+
+/// A read of 64 offers.
+pub fn issue<'a, S: Subject + 'a>(scene: &'a Scene) -> Side<'a> {
+    let first = scene.variant(0);
+    let lists = scene.asked();
+    let restore = move |store: &mut S, words: &mut Vec<u64>, turn: usize| {
+        store.set_head(first);
+        words.clone_from(&lists[turn % lists.len()]);
+    };
+    moving(scene, restore, |store, words| store.issue(0, words))
+}
+
+/// The read set of slot 0 brought to the tip.
+pub fn forward<'a, S: Subject + 'a>(scene: &'a Scene) -> Side<'a> {
+    let state = scene.variant(0).head.tip;
+    let steps = steps_of(scene);
+    let restore = move |store: &mut S, words: &mut Vec<u64>, turn: usize| {
+        steps(store, words, turn);
+        words.clone_from(&scene.reads);
+    };
+    moving(scene, restore, move |store, words| store.forward(0, state, words))
+}
+
+/// Slot 0 closed.
+pub fn release<'a, S: Subject + 'a>(scene: &'a Scene) -> Side<'a> {
+    moving(scene, steps_of(scene), |store: &mut S, _| store.release(0))
+}
+
+/// A release of a slot that there is not: the store is tested, and then nothing else is done.
+pub fn soundness<'a, S: Subject + 'a>(scene: &'a Scene) -> Side<'a> {
+    steady(scene, 3, |store: &mut S, _| store.release(8))
+}
+
+/// One plain pass over the words lent: their sum.
+pub fn plain_pass(scene: &Scene) -> Side<'_> {
+    let sum = |words: &[u64]| words.iter().fold(0, |sum: u64, &word| sum.wrapping_add(word));
+    let (table, journal) = (scene.table.clone(), scene.variant(0).journal.clone());
+    repeated(move |_| sum(black_box(&table)).wrapping_add(sum(black_box(&journal))))
+}
+
+/// A batch of so many orders on a read set of 64 offers.
+pub fn price_batch<'a, S: Subject + 'a>(orders: usize) -> Side<'a> {
+    let reads: Vec<u64> = (0..64).map(|offer| word::put(offer * 1000, 100_000)).collect();
+    let kinds = [0, 2, 3, 20, 31, 1];
+    let batches: Vec<Vec<u64>> = (0..16)
+        .map(|batch| {
+            let order = |turn: usize| {
+                let place = (turn * 29 + batch * 17) % 64;
+                let kind = kinds[(turn + batch) % if turn < 48 { 5 } else { 6 }];
+                let amount = if kind == 1 { 0 } else { 100 + turn as u64 };
+                kind << 56 | amount << 31 | place as u64 * 1000
+            };
+            (0..orders).map(order).collect()
+        })
+        .collect();
+    let mut out = vec![0; 64];
+    assert_eq!(S::price_batch(&reads, &batches[0], &mut out), 0);
+    repeated(move |turn| S::price_batch(black_box(&reads), black_box(&batches[turn % 16]), &mut out))
+}
