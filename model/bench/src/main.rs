@@ -9,7 +9,12 @@ macro_rules! row {
         let rounds = measure(vec![$call::<Lent>(&$scene), $call::<Memory>(&$scene)]);
         println!(
             "{:<18} {:>5} offers {:>2} held  unit {:>9.0} ns  rust {:>9.0} ns  ratio {:>6.2}",
-            $name, $scene.shape.offers, $scene.shape.held, rounds.time(0), rounds.time(1), rounds.ratio(0, 1)
+            $name,
+            $scene.shape.offers,
+            $scene.shape.held,
+            rounds.time(0),
+            rounds.time(1),
+            rounds.ratio(0, 1)
         );
     }};
 }
@@ -20,7 +25,8 @@ fn main() {
             let shape = Shape { table: 8000, journal: 4096, offers, held, step: 64 };
             let scene = Scene::new(shape);
             let early = Scene::with_early_read(shape);
-            let rounds = measure(vec![soundness::<Lent>(&scene), soundness::<Memory>(&scene), plain_pass(&scene)]);
+            let rounds =
+                measure(vec![soundness::<Lent>(&scene), soundness::<Memory>(&scene), plain_pass(&scene)]);
             println!(
                 "{:<18} {:>5} offers {:>2} held  unit {:>9.0} ns  rust {:>9.0} ns  ratio {:>6.2}  pass {:>6.0} ns  unit/pass {:.2} rust/pass {:.2}",
                 "soundness", offers, held, rounds.time(0), rounds.time(1), rounds.ratio(0, 1), rounds.time(2), rounds.ratio(0, 2), rounds.ratio(1, 2)
@@ -46,6 +52,11 @@ fn main() {
     }
     for orders in [1, 64] {
         let rounds = measure(vec![price_batch::<Lent>(orders), price_batch::<Memory>(orders)]);
-        println!("price_batch {orders}: {:.0} {:.0} {:.2}", rounds.time(0), rounds.time(1), rounds.ratio(0, 1));
+        println!(
+            "price_batch {orders}: {:.0} {:.0} {:.2}",
+            rounds.time(0),
+            rounds.time(1),
+            rounds.ratio(0, 1)
+        );
     }
 }

@@ -2,21 +2,35 @@
 
 use super::word::{is_put, offer};
 
-/// The composition of lists that lie one after another, the oldest first: at each offer the last word wins.
-pub fn composed(lists: &[u64]) -> Vec<u64> {
-    let mut net = lists.to_vec();
-    net.sort_by_key(|&word| offer(word));
-    net.dedup_by(|later, earlier| {
-        let same = offer(*later) == offer(*earlier);
-        if same {
-            *earlier = *later;
+/// The composition of the steps that start at a journal word and end at the marks: the run is halved until single steps remain.
+pub fn composed(journal: &[u64], start: usize, ends: &[usize]) -> Vec<u64> {
+    match *ends {
+        [] => Vec::new(),
+        [end] => journal[start..end].to_vec(),
+        _ => {
+            let (older, newer) = ends.split_at(ends.len() / 2);
+            let middle = older[older.len() - 1];
+            compose(&composed(journal, start, older), &composed(journal, middle, newer))
         }
-        same
-    });
-    net
+    }
 }
 
-/// The words of a map with changes applied: the words between two changed offers stay as they are.
+/// The composition of an earlier and a later list: the later word wins. What is compared moves no branch.
+fn compose(earlier: &[u64], later: &[u64]) -> Vec<u64> {
+    let mut words = Vec::with_capacity(earlier.len() + later.len());
+    let (mut i, mut j) = (0, 0);
+    while i < earlier.len() && j < later.len() {
+        let (here, there) = (offer(earlier[i]), offer(later[j]));
+        words.push(if here < there { earlier[i] } else { later[j] });
+        i += usize::from(here <= there);
+        j += usize::from(there <= here);
+    }
+    words.extend_from_slice(&earlier[i..]);
+    words.extend_from_slice(&later[j..]);
+    words
+}
+
+/// The words of a map with changes applied. What lies between two changed offers is copied as it is.
 pub fn applied(map: &[u64], changes: &[u64]) -> Vec<u64> {
     let mut words = Vec::with_capacity(map.len() + changes.len());
     let mut rest = map;

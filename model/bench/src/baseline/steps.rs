@@ -40,10 +40,11 @@ impl Store<'_> {
     pub fn flush(&mut self, state: u32) -> Result<(), Refusal> {
         self.test_store()?;
         self.test_state(state)?;
-        let from = self.head.end_of(self.head.steps_to(self.head.checkpoint));
-        let to = self.head.end_of(self.head.steps_to(state));
-        if from < to {
-            self.apply(&composed(&self.journal[from..to]))?;
+        let from = self.head.steps_to(self.head.checkpoint);
+        let ends = &self.head.ends[from..self.head.steps_to(state)];
+        let changes = composed(self.journal, self.head.end_of(from), ends);
+        if !changes.is_empty() {
+            self.apply(&changes)?;
         }
         count(&mut self.tally.flushed, state - self.head.checkpoint);
         self.head.checkpoint = state;

@@ -53,9 +53,14 @@ pub fn is_map(words: &[u64]) -> bool {
         && words.windows(2).all(|pair| pair[0] >> 32 < pair[1] >> 32)
 }
 
-/// Whether words are a list: at most 64, with strictly rising offers, those of kind 0 with price 0.
+/// Whether a word is of kind 1, or of kind 0 with price 0.
+fn is_entry(word: u64) -> bool {
+    is_put(word) || price(word) == 0
+}
+
+/// Whether words are a list: at most 64, each an entry, with strictly rising offers.
 pub fn is_list(words: &[u64]) -> bool {
     words.len() <= LIST_WORDS
-        && words.iter().all(|&word| is_put(word) || price(word) == 0)
-        && words.windows(2).all(|pair| offer(pair[0]) < offer(pair[1]))
+        && words.first().is_none_or(|&word| is_entry(word))
+        && words.windows(2).all(|pair| is_entry(pair[1]) && offer(pair[0]) < offer(pair[1]))
 }
