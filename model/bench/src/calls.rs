@@ -1,6 +1,6 @@
 //! Each call as a side of a measurement on a scene, for whatever is measured. Each is made once before, and its answer tested.
 
-use crate::baseline::word;
+use crate::baseline::{word, Memory};
 use crate::scene::Scene;
 use crate::subject::Subject;
 use crate::timing::{repeated, restored, Side};
@@ -8,7 +8,7 @@ use ffi::NO_PRICE;
 use std::hint::black_box;
 
 /// A call that leaves the store as it was, or as the call before left it.
-fn steady<'a, S: Subject + 'a>(
+fn steady<'a, S: Subject>(
     scene: &Scene,
     answer: u64,
     mut call: impl FnMut(&mut S, usize) -> u64 + 'a,
@@ -19,7 +19,7 @@ fn steady<'a, S: Subject + 'a>(
 }
 
 /// A call that changes the store or the words lent with it, which are restored before each.
-fn moving<'a, S: Subject + 'a>(
+fn moving<'a, S: Subject>(
     scene: &Scene,
     restore: impl Fn(&mut S, &mut Vec<u64>, usize) + 'a,
     call: impl Fn(&mut S, &mut [u64]) -> u64 + 'a,
@@ -43,27 +43,27 @@ fn steps_of<S: Subject>(scene: &Scene) -> impl Fn(&mut S, &mut Vec<u64>, usize) 
     }
 }
 
-pub fn clear<'a, S: Subject + 'a>(scene: &'a Scene) -> Side<'a> {
+pub fn clear<S: Subject>(scene: &Scene) -> Side<'_> {
     steady(scene, 0, |store: &mut S, _| store.clear())
 }
 
-pub fn load<'a, S: Subject + 'a>(scene: &'a Scene) -> Side<'a> {
+pub fn load<S: Subject>(scene: &Scene) -> Side<'_> {
     let mut image = scene.image();
     steady(scene, 0, move |store: &mut S, _| store.load(&mut image))
 }
 
-pub fn write_image<'a, S: Subject + 'a>(scene: &'a Scene) -> Side<'a> {
+pub fn write_image<S: Subject>(scene: &Scene) -> Side<'_> {
     let mut image = scene.image();
     steady(scene, 0, move |store: &mut S, _| store.write_image(&mut image))
 }
 
-pub fn restart<'a, S: Subject + 'a>(scene: &'a Scene) -> Side<'a> {
+pub fn restart<S: Subject>(scene: &Scene) -> Side<'_> {
     let image = std::cell::RefCell::new(scene.image());
     moving(scene, steps_of(scene), move |store: &mut S, _| store.restart(&mut image.borrow_mut()))
 }
 
 /// A commit of so many entries.
-pub fn commit<'a, S: Subject + 'a>(scene: &'a Scene, entries: usize) -> Side<'a> {
+pub fn commit<S: Subject>(scene: &Scene, entries: usize) -> Side<'_> {
     let first = scene.variant(0);
     let start = first.head.end_of(scene.shape.held);
     let lists = scene.lists(entries);
@@ -75,29 +75,29 @@ pub fn commit<'a, S: Subject + 'a>(scene: &'a Scene, entries: usize) -> Side<'a>
     moving(scene, restore, |store, words| store.commit(words))
 }
 
-pub fn commit_64<'a, S: Subject + 'a>(scene: &'a Scene) -> Side<'a> {
+pub fn commit_64<S: Subject>(scene: &Scene) -> Side<'_> {
     commit::<S>(scene, word::LIST_WORDS)
 }
 
-pub fn commit_1<'a, S: Subject + 'a>(scene: &'a Scene) -> Side<'a> {
+pub fn commit_1<S: Subject>(scene: &Scene) -> Side<'_> {
     commit::<S>(scene, 1)
 }
 
 /// A commit of 64 entries to a store that holds 64 steps.
-pub fn refused_commit<'a, S: Subject + 'a>(scene: &'a Scene) -> Side<'a> {
+pub fn refused_commit<S: Subject>(scene: &Scene) -> Side<'_> {
     let mut lists = scene.lists(word::LIST_WORDS);
     let count = lists.len();
     steady(scene, 13, move |store: &mut S, turn| store.commit(&mut lists[turn % count]))
 }
 
 /// All steps above the checkpoint rolled back.
-pub fn roll_back<'a, S: Subject + 'a>(scene: &'a Scene) -> Side<'a> {
+pub fn roll_back<S: Subject>(scene: &Scene) -> Side<'_> {
     let state = scene.variant(0).head.checkpoint;
     moving(scene, steps_of(scene), move |store: &mut S, _| store.roll_back(state))
 }
 
 /// All steps flushed.
-pub fn flush<'a, S: Subject + 'a>(scene: &'a Scene) -> Side<'a> {
+pub fn flush<S: Subject>(scene: &Scene) -> Side<'_> {
     let state = scene.variant(0).head.tip;
     let steps = steps_of(scene);
     let restore = move |store: &mut S, words: &mut Vec<u64>, turn: usize| {
@@ -108,19 +108,19 @@ pub fn flush<'a, S: Subject + 'a>(scene: &'a Scene) -> Side<'a> {
 }
 
 /// An offer that has a price at the tip.
-pub fn look_up_present<'a, S: Subject + 'a>(scene: &'a Scene) -> Side<'a> {
+pub fn look_up_present<S: Subject>(scene: &Scene) -> Side<'_> {
     let (offers, state) = (scene.sought(true), scene.variant(0).head.tip);
     steady(scene, 0, move |store: &mut S, turn| store.look_up(offers[turn % offers.len()], state))
 }
 
 /// An offer that has none.
-pub fn look_up_absent<'a, S: Subject + 'a>(scene: &'a Scene) -> Side<'a> {
+pub fn look_up_absent<S: Subject>(scene: &Scene) -> Side<'_> {
     let (offers, state) = (scene.sought(false), scene.variant(0).head.tip);
     steady(scene, NO_PRICE, move |store: &mut S, turn| store.look_up(offers[turn % offers.len()], state))
 }
 
 /// A read of 64 offers.
-pub fn issue<'a, S: Subject + 'a>(scene: &'a Scene) -> Side<'a> {
+pub fn issue<S: Subject>(scene: &Scene) -> Side<'_> {
     let first = scene.variant(0);
     let lists = scene.asked();
     let restore = move |store: &mut S, words: &mut Vec<u64>, turn: usize| {
@@ -131,7 +131,7 @@ pub fn issue<'a, S: Subject + 'a>(scene: &'a Scene) -> Side<'a> {
 }
 
 /// The read set of slot 0 brought to the tip.
-pub fn forward<'a, S: Subject + 'a>(scene: &'a Scene) -> Side<'a> {
+pub fn forward<S: Subject>(scene: &Scene) -> Side<'_> {
     let state = scene.variant(0).head.tip;
     let steps = steps_of(scene);
     let restore = move |store: &mut S, words: &mut Vec<u64>, turn: usize| {
@@ -142,13 +142,20 @@ pub fn forward<'a, S: Subject + 'a>(scene: &'a Scene) -> Side<'a> {
 }
 
 /// Slot 0 closed.
-pub fn release<'a, S: Subject + 'a>(scene: &'a Scene) -> Side<'a> {
+pub fn release<S: Subject>(scene: &Scene) -> Side<'_> {
     moving(scene, steps_of(scene), |store: &mut S, _| store.release(0))
 }
 
 /// A release of a slot that there is not: the store is tested, and then nothing else is done.
-pub fn soundness<'a, S: Subject + 'a>(scene: &'a Scene) -> Side<'a> {
+pub fn soundness<S: Subject>(scene: &Scene) -> Side<'_> {
     steady(scene, 3, |store: &mut S, _| store.release(8))
+}
+
+/// The baseline's test of the store in the form that can be vectorised.
+pub fn soundness_without_exits(scene: &Scene) -> Side<'_> {
+    let memory = Memory::of(scene);
+    assert!(memory.is_sound_without_exits());
+    repeated(move |_| black_box(&memory).is_sound_without_exits().into())
 }
 
 /// One plain pass over the words lent: their sum.
@@ -159,7 +166,7 @@ pub fn plain_pass(scene: &Scene) -> Side<'_> {
 }
 
 /// A batch of so many orders on a read set of 64 offers.
-pub fn price_batch<'a, S: Subject + 'a>(orders: usize) -> Side<'a> {
+pub fn price_batch<S: Subject>(orders: usize) -> Side<'static> {
     let reads: Vec<u64> = (0..64).map(|offer| word::put(offer * 1000, 100_000)).collect();
     let kinds = [0, 2, 3, 20, 31, 1];
     let batches: Vec<Vec<u64>> = (0..16)

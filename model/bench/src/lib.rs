@@ -2,6 +2,11 @@
 
 pub mod baseline;
 pub mod calls;
+pub mod library;
+pub mod lmdb;
+pub mod peer;
+pub mod results;
 pub mod scene;
+pub mod sqlite;
 pub mod subject;
 pub mod timing;

@@ -82,6 +82,12 @@ impl Scene {
         &self.variants[turn % VARIANTS]
     }
 
+    /// The list of a held step of the first store.
+    pub fn step(&self, step: usize) -> &[u64] {
+        let Variant { journal, head, .. } = self.variant(0);
+        &journal[head.end_of(step)..head.end_of(step + 1)]
+    }
+
     /// The image of the table.
     pub fn image(&self) -> Vec<u8> {
         image_of(&self.table[..self.shape.offers])

@@ -5,7 +5,7 @@ use crate::scene::{Scene, Variant};
 use ffi::Lent;
 
 /// A store whose calls answer the codes of the C interface.
-pub trait Subject {
+pub trait Subject: 'static {
     /// The first store of a scene.
     fn of(scene: &Scene) -> Self;
     fn table(&mut self) -> &mut [u64];

@@ -76,6 +76,8 @@ fn random_calls() {
             calls += 1;
             damaged += u32::from(!pair.model.store.is_sound());
             let mut memory = memory_of(&pair.lent);
+            assert_eq!(memory.is_sound(), pair.model.store.is_sound(), "seed {seed}: {call:?}");
+            assert_eq!(memory.is_sound(), memory.is_sound_without_exits(), "seed {seed}: {call:?}");
             let mut bytes = pair.bytes.clone();
             let said = say(&mut memory, &mut bytes, call, &filled);
             let mut lent = pair.lent.clone();

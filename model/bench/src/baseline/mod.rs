@@ -11,6 +11,7 @@ mod rest;
 mod sound;
 mod steps;
 mod store;
+mod without_exits;
 pub mod word;
 
 pub use batch::price_batch;

@@ -16,7 +16,7 @@ fn is_table(table: &[u64], used: usize) -> bool {
     table.split_at_checked(used).is_some_and(|(used, rest)| word::is_map(used) && word::are_zero(rest))
 }
 
-fn numbers_fit(head: &Head) -> bool {
+pub(super) fn numbers_fit(head: &Head) -> bool {
     head.oldest <= head.checkpoint && head.checkpoint <= head.tip && head.steps_to(head.tip) <= STEPS
 }
 
@@ -33,7 +33,7 @@ fn is_journal(journal: &[u64], ends: &[usize; STEPS], steps: usize) -> bool {
 }
 
 /// No open slot is above the checkpoint, the others record 0, and the oldest number is the least.
-fn slots_fit(head: &Head) -> bool {
+pub(super) fn slots_fit(head: &Head) -> bool {
     let mut slots = head.held.iter().zip(&head.issued);
     slots.all(|(&held, &issued)| if held { issued <= head.checkpoint } else { issued == 0 })
         && head.oldest == head.least()

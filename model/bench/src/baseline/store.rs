@@ -3,6 +3,7 @@
 use super::head::{Head, Tally, SLOTS};
 use super::refusal::Refusal;
 use super::sound::is_sound;
+use super::without_exits;
 
 /// The most words of a table and of a journal; the least is 1 for both.
 const TABLE_WORDS: usize = 8000;
@@ -35,6 +36,16 @@ impl Memory {
             head: Head::at_rest(0, 0),
             tally: Tally::default(),
         }
+    }
+
+    /// Whether the store in the memory is sound.
+    pub fn is_sound(&self) -> bool {
+        is_sound(&self.table, &self.journal, &self.head)
+    }
+
+    /// The same, in the form that can be vectorised.
+    pub fn is_sound_without_exits(&self) -> bool {
+        without_exits::is_sound(&self.table, &self.journal, &self.head)
     }
 
     /// The store in the memory.
