@@ -22,15 +22,15 @@ fn steady<'a, S: Subject>(
 fn moving<'a, S: Subject>(
     scene: &Scene,
     restore: impl Fn(&mut S, &mut Vec<u64>, usize) + 'a,
-    call: impl Fn(&mut S, &mut [u64]) -> u64 + 'a,
+    mut call: impl FnMut(&mut S, &mut [u64], usize) -> u64 + 'a,
 ) -> Side<'a> {
     let mut memory = (S::of(scene), Vec::new());
     restore(&mut memory.0, &mut memory.1, 0);
-    assert_eq!(call(&mut memory.0, &mut memory.1), 0);
+    assert_eq!(call(&mut memory.0, &mut memory.1, 0), 0);
     restored(
         memory,
         move |(store, words), turn| restore(store, words, turn),
-        move |(store, words)| call(black_box(store), black_box(words)),
+        move |(store, words), turn| call(black_box(store), black_box(words), turn),
     )
 }
 
@@ -47,19 +47,44 @@ pub fn clear<S: Subject>(scene: &Scene) -> Side<'_> {
     steady(scene, 0, |store: &mut S, _| store.clear())
 }
 
+/// Images of a scene's table, which lie differently to the pages of memory: how table and image lie to each other is chance else.
+struct Images {
+    bytes: Vec<u8>,
+    length: usize,
+    stride: usize,
+}
+
+impl Images {
+    const COUNT: usize = 4;
+
+    fn of(scene: &Scene) -> Images {
+        const PAGE: usize = 4096;
+        let image = scene.image();
+        let stride = image.len().next_multiple_of(PAGE) + PAGE / Images::COUNT;
+        let mut bytes = vec![0; Images::COUNT * stride];
+        bytes.chunks_mut(stride).for_each(|chunk| chunk[..image.len()].copy_from_slice(&image));
+        Images { bytes, length: image.len(), stride }
+    }
+
+    fn turn(&mut self, turn: usize) -> &mut [u8] {
+        let start = turn % Images::COUNT * self.stride;
+        &mut self.bytes[start..start + self.length]
+    }
+}
+
 pub fn load<S: Subject>(scene: &Scene) -> Side<'_> {
-    let mut image = scene.image();
-    steady(scene, 0, move |store: &mut S, _| store.load(&mut image))
+    let mut images = Images::of(scene);
+    steady(scene, 0, move |store: &mut S, turn| store.load(images.turn(turn)))
 }
 
 pub fn write_image<S: Subject>(scene: &Scene) -> Side<'_> {
-    let mut image = scene.image();
-    steady(scene, 0, move |store: &mut S, _| store.write_image(&mut image))
+    let mut images = Images::of(scene);
+    steady(scene, 0, move |store: &mut S, turn| store.write_image(images.turn(turn)))
 }
 
 pub fn restart<S: Subject>(scene: &Scene) -> Side<'_> {
-    let image = std::cell::RefCell::new(scene.image());
-    moving(scene, steps_of(scene), move |store: &mut S, _| store.restart(&mut image.borrow_mut()))
+    let mut images = Images::of(scene);
+    moving(scene, steps_of(scene), move |store: &mut S, _, turn| store.restart(images.turn(turn)))
 }
 
 /// A commit of so many entries.
@@ -72,7 +97,7 @@ pub fn commit<S: Subject>(scene: &Scene, entries: usize) -> Side<'_> {
         store.set_head(first);
         words.clone_from(&lists[turn % lists.len()]);
     };
-    moving(scene, restore, |store, words| store.commit(words))
+    moving(scene, restore, |store, words, _| store.commit(words))
 }
 
 pub fn commit_64<S: Subject>(scene: &Scene) -> Side<'_> {
@@ -93,7 +118,7 @@ pub fn refused_commit<S: Subject>(scene: &Scene) -> Side<'_> {
 /// All steps above the checkpoint rolled back.
 pub fn roll_back<S: Subject>(scene: &Scene) -> Side<'_> {
     let state = scene.variant(0).head.checkpoint;
-    moving(scene, steps_of(scene), move |store: &mut S, _| store.roll_back(state))
+    moving(scene, steps_of(scene), move |store: &mut S, _, _| store.roll_back(state))
 }
 
 /// All steps flushed.
@@ -104,7 +129,7 @@ pub fn flush<S: Subject>(scene: &Scene) -> Side<'_> {
         store.table().copy_from_slice(&scene.table);
         steps(store, words, turn);
     };
-    moving(scene, restore, move |store, _| store.flush(state))
+    moving(scene, restore, move |store, _, _| store.flush(state))
 }
 
 /// An offer that has a price at the tip.
@@ -127,7 +152,7 @@ pub fn issue<S: Subject>(scene: &Scene) -> Side<'_> {
         store.set_head(first);
         words.clone_from(&lists[turn % lists.len()]);
     };
-    moving(scene, restore, |store, words| store.issue(0, words))
+    moving(scene, restore, |store, words, _| store.issue(0, words))
 }
 
 /// The read set of slot 0 brought to the tip.
@@ -138,12 +163,12 @@ pub fn forward<S: Subject>(scene: &Scene) -> Side<'_> {
         steps(store, words, turn);
         words.clone_from(&scene.reads);
     };
-    moving(scene, restore, move |store, words| store.forward(0, state, words))
+    moving(scene, restore, move |store, words, _| store.forward(0, state, words))
 }
 
 /// Slot 0 closed.
 pub fn release<S: Subject>(scene: &Scene) -> Side<'_> {
-    moving(scene, steps_of(scene), |store: &mut S, _| store.release(0))
+    moving(scene, steps_of(scene), |store: &mut S, _, _| store.release(0))
 }
 
 /// A release of a slot that there is not: the store is tested, and then nothing else is done.
@@ -175,7 +200,7 @@ pub fn price_batch<S: Subject>(orders: usize) -> Side<'static> {
                 let place = (turn * 29 + batch * 17) % 64;
                 let kind = kinds[(turn + batch) % if turn < 48 { 5 } else { 6 }];
                 let amount = if kind == 1 { 0 } else { 100 + turn as u64 };
-                kind << 56 | amount << 31 | place as u64 * 1000
+                (kind << 56) | (amount << 31) | (place as u64 * 1000)
             };
             (0..orders).map(order).collect()
         })

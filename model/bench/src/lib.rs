@@ -5,6 +5,8 @@ pub mod calls;
 pub mod library;
 pub mod lmdb;
 pub mod peer;
+pub mod plot;
+pub mod report;
 pub mod results;
 pub mod scene;
 pub mod sqlite;

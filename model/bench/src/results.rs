@@ -65,12 +65,14 @@ pub struct Line {
     pub points: Vec<Point>,
 }
 
-/// Words lent, and the nanoseconds of the unit and of the baseline; of a plain pass there is but one.
+/// Words lent, and the nanoseconds of the unit and of the baseline; a plain pass has only one time, twice.
 #[derive(Clone, Copy, Debug)]
 pub struct Point {
     pub words: usize,
     pub unit: f64,
     pub rust: f64,
+    /// How many times as long the unit takes with the most words.
+    pub to_last: f64,
 }
 
 /// All results.
@@ -225,26 +227,37 @@ fn beside(offers: usize) -> [Beside; 2] {
     ]
 }
 
-/// The calls of the plot on stores whose words lent are all used by the table, and half by the journal.
+/// The calls of the plot, on stores whose tables are full and whose journals are half full.
 fn lines() -> Vec<Line> {
-    let mut lines =
-        ["look_up", "commit", "flush", "plain pass"].map(|call| Line { call, points: Vec::new() });
-    for words in LENT {
-        let table = words * TABLE / (TABLE + JOURNAL);
-        let journal = words - table;
-        let step = (journal / 64).max(1);
-        let held = (journal / step / 2).min(32);
-        let scene = Scene::new(Shape { table, journal, offers: table, held, step });
-        let sides = [
-            vec![calls::look_up_present::<Lent>(&scene), calls::look_up_present::<Memory>(&scene)],
-            vec![calls::commit::<Lent>(&scene, step), calls::commit::<Memory>(&scene, step)],
-            vec![calls::flush::<Lent>(&scene), calls::flush::<Memory>(&scene)],
-            vec![calls::plain_pass(&scene), calls::plain_pass(&scene)],
-        ];
-        for (line, sides) in lines.iter_mut().zip(sides) {
-            let Figure { unit, rust, .. } = Figure::of(&measure(sides));
-            line.points.push(Point { words, unit, rust });
-        }
-    }
-    lines.into()
+    let scenes: Vec<Scene> = LENT.into_iter().map(half_full).collect();
+    let line = |call, sides: fn(&Scene) -> [Side; 2]| {
+        let rounds = measure(scenes.iter().flat_map(sides).collect());
+        let last = 2 * (scenes.len() - 1);
+        let points = LENT.iter().zip((0..).step_by(2)).map(|(&words, unit)| Point {
+            words,
+            unit: rounds.time(unit),
+            rust: rounds.time(unit + 1),
+            to_last: rounds.ratio(last, unit),
+        });
+        Line { call, points: points.collect() }
+    };
+    vec![
+        line("look_up", |scene| {
+            [calls::look_up_present::<Lent>(scene), calls::look_up_present::<Memory>(scene)]
+        }),
+        line("commit", |scene| {
+            let step = scene.shape.step;
+            [calls::commit::<Lent>(scene, step), calls::commit::<Memory>(scene, step)]
+        }),
+        line("flush", |scene| [calls::flush::<Lent>(scene), calls::flush::<Memory>(scene)]),
+        line("plain pass", |scene| [calls::plain_pass(scene), calls::plain_pass(scene)]),
+    ]
+}
+
+fn half_full(words: usize) -> Scene {
+    let table = words * TABLE / (TABLE + JOURNAL);
+    let journal = words - table;
+    let step = (journal / 64).max(1);
+    let held = (journal / step / 2).min(32);
+    Scene::new(Shape { table, journal, offers: table, held, step })
 }

@@ -5,8 +5,10 @@ use ffi::Lent;
 use model::rng::Rng;
 use std::collections::BTreeSet;
 
-/// How many stores a scene has, which differ in their newest steps, so that no predictor learns one by heart.
-const VARIANTS: usize = 4;
+/// The most stores that a scene has, and the most words that they have in all. They differ in their newest steps, so that no
+/// predictor of branches learns one by heart.
+const VARIANTS: usize = 64;
+const WORDS: usize = 1 << 16;
 
 /// The size of a store.
 #[derive(Clone, Copy, Debug)]
@@ -66,7 +68,8 @@ impl Scene {
             assert_eq!(lent.flush(flushed as u32), 0);
         }
         let table = lent.table.clone();
-        let variants = (0..VARIANTS).map(|_| {
+        let count = (WORDS / (shape.table + shape.journal)).clamp(1, VARIANTS);
+        let variants = (0..count).map(|_| {
             let (mut lent, mut present) = (lent.clone(), present.clone());
             commit_steps(&mut lent, &mut present, shape.step, shape.held - flushed, &mut rng);
             assert_eq!(lent.table, table);
@@ -79,7 +82,7 @@ impl Scene {
 
     /// The store whose turn it is.
     pub fn variant(&self, turn: usize) -> &Variant {
-        &self.variants[turn % VARIANTS]
+        &self.variants[turn % self.variants.len()]
     }
 
     /// The list of a held step of the first store.

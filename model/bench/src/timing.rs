@@ -5,9 +5,9 @@ use std::hint::black_box;
 use std::time::{Duration, Instant};
 
 /// Rounds of a measurement.
-const ROUNDS: usize = 31;
+const ROUNDS: usize = 51;
 /// How long a batch is to last.
-const BATCH: Duration = Duration::from_micros(400);
+const BATCH: Duration = Duration::from_micros(800);
 /// The most calls of a batch.
 const CALLS: usize = 1 << 16;
 
@@ -30,7 +30,7 @@ pub fn repeated<'a>(mut call: impl FnMut(usize) -> u64 + 'a) -> Side<'a> {
 pub fn restored<'a, M: 'a>(
     mut memory: M,
     mut restore: impl FnMut(&mut M, usize) + 'a,
-    mut call: impl FnMut(&mut M) -> u64 + 'a,
+    mut call: impl FnMut(&mut M, usize) -> u64 + 'a,
 ) -> Side<'a> {
     let clock = clock();
     Box::new(move |calls| {
@@ -38,7 +38,7 @@ pub fn restored<'a, M: 'a>(
         for turn in 0..calls {
             restore(&mut memory, turn);
             let start = Instant::now();
-            black_box(call(&mut memory));
+            black_box(call(&mut memory, turn));
             total += start.elapsed();
         }
         nanoseconds(total) - clock * calls as f64

@@ -1,0 +1,264 @@
+//! docs/BENCHMARKS.md, from what was measured.
+
+use crate::peer::KINDS;
+use crate::results::{Beside, Figure, Line, Point, Results, Row, Soundness, JOURNAL, OFFERS, TABLE};
+use std::fmt::Write;
+
+/// The targets: a call against the baseline, and the test of a store against a plain pass.
+const TO_RUST: f64 = 1.1;
+const TO_PASS: f64 = 2.5;
+/// How far a time's growth from some words lent to the most may pass that of the words: what measuring leaves open.
+const LEEWAY: f64 = 1.1;
+
+/// What the run was made on.
+pub struct Setting {
+    /// The machine, the compiler and the versions of the peers, a line each.
+    pub lines: Vec<String>,
+}
+
+/// The text of the report.
+pub fn report(results: &Results, setting: &Setting) -> String {
+    let mut text = String::from(INTRODUCTION);
+    setting.lines.iter().for_each(|line| text += &format!("- {line}\n"));
+    text += MEASURED;
+    text += &targets(results);
+    text += "\n## Calls\n\n";
+    text += &format!(
+        "{} table words and {} journal words are lent, whatever they hold; times in microseconds. A step has 64 entries.\n\n",
+        grouped(TABLE),
+        grouped(JOURNAL)
+    );
+    text += &calls(&results.rows);
+    text += "\nA batch on a read set of 64 offers, in nanoseconds:\n\n";
+    text += &batches(&results.batches);
+    text += SOUNDNESS;
+    text += &soundness(&results.soundness);
+    text += PEERS;
+    text += &beside(&results.beside);
+    text += GROWTH;
+    text += &growth(&results.lines);
+    text
+}
+
+const INTRODUCTION: &str = "# Benchmarks
+
+Made by `make bench` from one run of `model/bench` on
+
+";
+
+const MEASURED: &str = "
+Each call of the C interface is measured beside
+
+- (a) the same work in safe Rust (`model/bench/src/baseline/`), as one writes it for speed and clarity: on the same lent memory, with the
+  same grounds in the same order, and with the whole test of the store in every call. A test holds it to the library on random calls;
+- (b) one plain pass over the words lent, their sum, which the compiler vectorises: the limit of a call that tests all of them;
+- (c) LMDB and SQLite in memory, for lookups and commits of 64 entries, where they are installed.
+
+All buffers are warm: each side has made the same calls on the same memory just before. A round times a batch of calls of each side, one
+side after another; a figure is the median of the rounds, and a ratio the median of the ratios of each round. Calls that change the store
+are timed one by one, what they change is restored before each, and the clock's own time is subtracted. Offers, lists and stores take
+turns.
+";
+
+const SOUNDNESS: &str = "
+## The test of a store
+
+A release of slot 8 is refused by ground 3, right after the store has been tested. The baseline is measured in a second form too, whose
+scans do not stop at the first word that is wrong, so that the compiler vectorises them. Times in microseconds; a ratio is to the plain
+pass.
+
+";
+
+const PEERS: &str = "
+## Beside LMDB and SQLite
+
+8 steps of 64 entries are held, and the peers have the same prices. A commit is one transaction of 64 entries, in LMDB without sync on a
+folder in memory; a lookup is one read transaction. The unit tests all of its lent words in every call, and the peers do not. Times in
+microseconds.
+
+";
+
+const GROWTH: &str = "
+## Time against words lent
+
+![time of a call against the words lent](benchmarks.svg)
+
+Table and journal share the words lent as 8,000 to 4,096. The table is full; half of the journal holds up to 32 steps; a commit has as many
+entries as a step; a flush is of all steps. Nanoseconds, the unit's and (a)'s.
+
+";
+
+/// Which targets are reached.
+fn targets(results: &Results) -> String {
+    let mut text = String::from("\n## Targets\n\n| target | reached | |\n|---|---|---|\n");
+    for (target, (reached, remark)) in [
+        ("every call at most 1.1 times (a)", to_rust(results)),
+        ("the test of a store at most 2.5 times (b)", to_pass(&results.soundness)),
+        ("a commit of 64 entries at 8,000 offers below LMDB's without sync", below_lmdb(&results.beside)),
+        ("time grows no faster than the words lent (10 % left to measuring)", grows(&results.lines)),
+    ] {
+        let reached = match reached {
+            Some(true) => "yes",
+            Some(false) => "no",
+            None => "not measured",
+        };
+        let _ = writeln!(text, "| {target} | {reached} | {remark} |");
+    }
+    text
+}
+
+/// A ratio as it is printed, so that what is compared is what is read.
+fn rounded(ratio: f64) -> f64 {
+    (ratio * 100.0).round() / 100.0
+}
+
+fn to_rust(results: &Results) -> (Option<bool>, String) {
+    let calls = results.rows.iter().flat_map(|row| row.figures.iter().map(|figure| (row.call, figure.ratio)));
+    let batches = results.batches.iter().map(|(_, figure)| ("price_batch", figure.ratio));
+    let all: Vec<(&str, f64)> = calls.chain(batches).map(|(call, ratio)| (call, rounded(ratio))).collect();
+    let above: Vec<_> = all.iter().filter(|(_, ratio)| *ratio > TO_RUST).collect();
+    let mut worst: Vec<(&str, f64)> = Vec::new();
+    for &&(call, ratio) in &above {
+        match worst.iter_mut().find(|(other, _)| *other == call) {
+            Some((_, highest)) => *highest = highest.max(ratio),
+            None => worst.push((call, ratio)),
+        }
+    }
+    let named: Vec<String> = worst.iter().map(|(call, ratio)| format!("{call} up to {ratio:.2}")).collect();
+    let mut remark = format!("{} of {} figures", all.len() - above.len(), all.len());
+    if !named.is_empty() {
+        let _ = write!(remark, "; above: {}", named.join(", "));
+    }
+    (Some(above.is_empty()), remark)
+}
+
+fn to_pass(soundness: &[Soundness]) -> (Option<bool>, String) {
+    let ratios: Vec<f64> = soundness.iter().map(|row| rounded(row.to_pass[0])).collect();
+    let lowest = ratios.iter().copied().fold(f64::INFINITY, f64::min);
+    let highest = ratios.iter().copied().fold(0.0, f64::max);
+    (Some(highest <= TO_PASS), format!("{lowest:.2} to {highest:.2}"))
+}
+
+fn below_lmdb(beside: &[Beside]) -> (Option<bool>, String) {
+    let commit = beside.iter().find(|row| row.call.starts_with("commit") && row.offers == 8000);
+    let lmdb = |row: &Beside| {
+        row.peers.iter().zip(&KINDS).find(|(_, kind)| kind.name.starts_with("LMDB"))?.0.as_ref().copied()
+    };
+    match commit.and_then(|row| Some((row.figure.unit, lmdb(row)?))) {
+        Some((unit, lmdb)) => (Some(unit < lmdb), format!("{} against {} µs", micro(unit), micro(lmdb))),
+        None => (None, String::from("LMDB is not installed")),
+    }
+}
+
+fn grows(lines: &[Line]) -> (Option<bool>, String) {
+    let points = &lines[0].points;
+    let (first, last) = (points[0].words, points[points.len() - 1].words);
+    let growth = |point: &Point| point.to_last / (last as f64 / point.words as f64);
+    let calls: Vec<&Line> = lines.iter().filter(|line| line.call != "plain pass").collect();
+    let reached = calls.iter().flat_map(|line| &line.points).all(|point| growth(point) <= LEEWAY);
+    let named = calls.iter().map(|line| format!("{} {:.0} times", line.call, line.points[0].to_last));
+    let named: Vec<String> = named.collect();
+    let more = last as f64 / first as f64;
+    let remark = format!("{first} to {} words, {more:.0} times as many: {}", grouped(last), named.join(", "));
+    (Some(reached), remark)
+}
+
+fn calls(rows: &[Row]) -> String {
+    let mut text = String::from("| call | steps held |");
+    for offers in OFFERS {
+        let offers =
+            if offers == 1 { String::from("1 offer") } else { format!("{} offers", grouped(offers)) };
+        let _ = write!(text, " {offers}: unit | (a) | ratio |");
+    }
+    text += "\n|---|--:|--:|--:|--:|--:|--:|--:|--:|--:|--:|\n";
+    for row in rows {
+        let _ = write!(text, "| {} | {} |", row.call, row.held);
+        for Figure { unit, rust, ratio } in &row.figures {
+            let _ = write!(text, " {} | {} | **{ratio:.2}** |", micro(*unit), micro(*rust));
+        }
+        text.push('\n');
+    }
+    text
+}
+
+fn batches(batches: &[(usize, Figure)]) -> String {
+    let mut text = String::from("| orders | unit | (a) | ratio |\n|--:|--:|--:|--:|\n");
+    for (orders, Figure { unit, rust, ratio }) in batches {
+        let _ = writeln!(text, "| {orders} | {unit:.0} | {rust:.0} | **{ratio:.2}** |");
+    }
+    text
+}
+
+fn soundness(rows: &[Soundness]) -> String {
+    let mut text = String::from(
+        "| offers | steps held | plain pass | unit | ratio | (a) | ratio | (a) without exits | ratio |\n",
+    );
+    text += "|--:|--:|--:|--:|--:|--:|--:|--:|--:|\n";
+    for Soundness { offers, held, figure, without_exits, pass, to_pass } in rows {
+        let _ = write!(text, "| {} | {held} | {} |", grouped(*offers), micro(*pass));
+        let times = [figure.unit, figure.rust, *without_exits];
+        for (time, ratio) in times.iter().zip(to_pass) {
+            let _ = write!(text, " {} | **{ratio:.2}** |", micro(*time));
+        }
+        text.push('\n');
+    }
+    text
+}
+
+fn beside(rows: &[Beside]) -> String {
+    let mut text = String::from("| call | offers | unit | (a) |");
+    KINDS.iter().for_each(|kind| text += &format!(" {} |", kind.name));
+    text += "\n|---|--:|--:|--:|";
+    KINDS.iter().for_each(|_| text += "--:|");
+    text.push('\n');
+    for Beside { call, offers, figure, peers } in rows {
+        let _ = write!(
+            text,
+            "| {call} | {} | {} | {} |",
+            grouped(*offers),
+            micro(figure.unit),
+            micro(figure.rust)
+        );
+        for peer in peers {
+            let time = peer.map_or_else(|| String::from("not installed"), micro);
+            let _ = write!(text, " {time} |");
+        }
+        text.push('\n');
+    }
+    text
+}
+
+fn growth(lines: &[Line]) -> String {
+    let mut text = String::from("| words lent |");
+    lines.iter().for_each(|line| text += &format!(" {} |", line.call));
+    text += "\n|--:|";
+    lines.iter().for_each(|_| text += "--:|");
+    text.push('\n');
+    for place in 0..lines[0].points.len() {
+        let _ = write!(text, "| {} |", grouped(lines[0].points[place].words));
+        for line in lines {
+            let point = line.points[place];
+            match line.call {
+                "plain pass" => text += &format!(" {:.0} |", point.unit),
+                _ => text += &format!(" {:.0}, {:.0} |", point.unit, point.rust),
+            }
+        }
+        text.push('\n');
+    }
+    text
+}
+
+/// Nanoseconds as microseconds, with three digits.
+fn micro(nanoseconds: f64) -> String {
+    let micro = nanoseconds / 1000.0;
+    let decimals = if micro < 10.0 { 2 } else { usize::from(micro < 100.0) };
+    format!("{micro:.decimals$}")
+}
+
+/// A number with a comma before its last three digits, if it has more.
+fn grouped(number: usize) -> String {
+    if number < 1000 {
+        return number.to_string();
+    }
+    format!("{},{:03}", number / 1000, number % 1000)
+}
