@@ -1,7 +1,7 @@
 //! docs/BENCHMARKS.md, from what was measured.
 
 use crate::peer::KINDS;
-use crate::results::{Beside, Figure, Line, Point, Results, Row, Soundness, JOURNAL, OFFERS, TABLE};
+use crate::results::{Beside, Figure, Line, Results, Row, Soundness, JOURNAL, OFFERS, TABLE};
 use std::fmt::Write;
 
 /// The targets: a call against the baseline, and the test of a store against a plain pass.
@@ -84,7 +84,9 @@ const GROWTH: &str = "
 ![time of a call against the words lent](benchmarks.svg)
 
 Table and journal share the words lent as 8,000 to 4,096. The table is full; half of the journal holds up to 32 steps; a commit has as many
-entries as a step; a flush is of all steps. Nanoseconds, the unit's and (a)'s.
+entries as a step; a flush is of all steps. Nanoseconds, the unit's and (a)'s. Time counts as growing no faster than the words where
+from each size to the largest it grows by no more than the words do, or than the plain pass does where a nearer cache no longer holds
+them; a tenth is left to measuring.
 
 ";
 
@@ -95,7 +97,7 @@ fn targets(results: &Results) -> String {
         ("every call at most 1.1 times (a)", to_rust(results)),
         ("the test of a store at most 2.5 times (b)", to_pass(&results.soundness)),
         ("a commit of 64 entries at 8,000 offers below LMDB's without sync", below_lmdb(&results.beside)),
-        ("time grows no faster than the words lent (10 % left to measuring)", grows(&results.lines)),
+        ("time grows no faster than the words lent", grows(&results.lines)),
     ] {
         let reached = match reached {
             Some(true) => "yes",
@@ -150,16 +152,29 @@ fn below_lmdb(beside: &[Beside]) -> (Option<bool>, String) {
     }
 }
 
+/// From each size to the largest a time may grow as the words do, or as the plain pass does, which memory slows.
 fn grows(lines: &[Line]) -> (Option<bool>, String) {
-    let points = &lines[0].points;
-    let (first, last) = (points[0].words, points[points.len() - 1].words);
-    let growth = |point: &Point| point.to_last / (last as f64 / point.words as f64);
-    let calls: Vec<&Line> = lines.iter().filter(|line| line.call != "plain pass").collect();
-    let reached = calls.iter().flat_map(|line| &line.points).all(|point| growth(point) <= LEEWAY);
-    let named = calls.iter().map(|line| format!("{} {:.0} times", line.call, line.points[0].to_last));
-    let named: Vec<String> = named.collect();
+    let (passes, calls): (Vec<&Line>, Vec<&Line>) = lines.iter().partition(|line| line.call == "plain pass");
+    let (first, last) = (calls[0].points[0].words, calls[0].points[calls[0].points.len() - 1].words);
+    let mut remarks = Vec::new();
+    let mut reached = true;
+    for line in calls {
+        let points = line.points.iter().zip(&passes[0].points);
+        let growth = points.map(|(point, pass)| {
+            let allowed = pass.to_last.max(last as f64 / point.words as f64);
+            (point.to_last / allowed, point)
+        });
+        let (most, from) = growth.max_by(|(one, _), (other, _)| one.total_cmp(other)).unwrap();
+        let mut remark = format!("{} {:.0} times", line.call, line.points[0].to_last);
+        if most > LEEWAY {
+            reached = false;
+            let _ = write!(remark, " (but {:.1} times from {} words)", from.to_last, grouped(from.words));
+        }
+        remarks.push(remark);
+    }
     let more = last as f64 / first as f64;
-    let remark = format!("{first} to {} words, {more:.0} times as many: {}", grouped(last), named.join(", "));
+    let remark =
+        format!("{first} to {} words, {more:.0} times as many: {}", grouped(last), remarks.join(", "));
     (Some(reached), remark)
 }
 
