@@ -5,6 +5,7 @@ use crate::scene::Scene;
 use crate::subject::Subject;
 use crate::timing::{repeated, restored, Side};
 use ffi::NO_PRICE;
+use model::rng::Rng;
 use std::hint::black_box;
 
 /// A call that leaves the store as it was, or as the call before left it.
@@ -190,22 +191,28 @@ pub fn plain_pass(scene: &Scene) -> Side<'_> {
     repeated(move |_| sum(black_box(&table)).wrapping_add(sum(black_box(&journal))))
 }
 
-/// A batch of so many orders on a read set of 64 offers.
+/// A batch of so many orders of all kinds, at any place of a read set of 64 offers.
 pub fn price_batch<S: Subject>(orders: usize) -> Side<'static> {
-    let reads: Vec<u64> = (0..64).map(|offer| word::put(offer * 1000, 100_000)).collect();
-    let kinds = [0, 2, 3, 20, 31, 1];
-    let batches: Vec<Vec<u64>> = (0..16)
-        .map(|batch| {
-            let order = |turn: usize| {
-                let place = (turn * 29 + batch * 17) % 64;
-                let kind = kinds[(turn + batch) % if turn < 48 { 5 } else { 6 }];
-                let amount = if kind == 1 { 0 } else { 100 + turn as u64 };
-                (kind << 56) | (amount << 31) | (place as u64 * 1000)
-            };
-            (0..orders).map(order).collect()
-        })
-        .collect();
+    const KINDS: [u64; 6] = [0, 1, 2, 3, 20, 31];
+    let mut rng = Rng::new(orders as u64);
+    let reads: Vec<u64> = (0..64).map(|offer| word::put(offer * 1000, 1_000_000)).collect();
+    let mut order = |_| {
+        let (place, kind) = (rng.below(64) as u64, rng.pick(&KINDS));
+        let amount = match kind {
+            0 => 1_000_000,
+            1 => 0,
+            _ => rng.below(1000) as u64,
+        };
+        (kind << 56) | (amount << 31) | (place * 1000)
+    };
     let mut out = vec![0; 64];
-    assert_eq!(S::price_batch(&reads, &batches[0], &mut out), 0);
-    repeated(move |turn| S::price_batch(black_box(&reads), black_box(&batches[turn % 16]), &mut out))
+    // A batch is drawn again where an order meets an offer that an earlier one withdrew.
+    let mut batch = || loop {
+        let batch: Vec<u64> = (0..orders).map(&mut order).collect();
+        if S::price_batch(&reads, &batch, &mut out) == 0 {
+            return batch;
+        }
+    };
+    let batches: Vec<Vec<u64>> = (0..64).map(|_| batch()).collect();
+    repeated(move |turn| S::price_batch(black_box(&reads), black_box(&batches[turn % 64]), &mut out))
 }

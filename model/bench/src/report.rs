@@ -277,3 +277,72 @@ fn grouped(number: usize) -> String {
     }
     format!("{},{:03}", number / 1000, number % 1000)
 }
+
+#[cfg(test)]
+mod tests {
+    use super::{grouped, micro, report, Setting};
+    use crate::results::{Beside, Figure, Line, Point, Results, Row, Soundness};
+
+    /// Results in which every ratio of the unit to the baseline is the same, and every one to the plain pass.
+    fn results(ratio: f64, to_pass: f64, lmdb: Option<f64>, flush_to_last: f64) -> Results {
+        let figure = Figure { unit: 1000.0 * ratio, rust: 1000.0, ratio };
+        let point = |words, to_last| Point { words, unit: 10.0, rust: 10.0, to_last };
+        let line = |call, to_last| Line { call, points: vec![point(64, to_last), point(6400, 1.0)] };
+        Results {
+            rows: vec![Row { call: "load", held: 0, figures: vec![figure; 3] }],
+            batches: vec![(64, figure)],
+            soundness: vec![Soundness {
+                offers: 1,
+                held: 8,
+                figure,
+                without_exits: 800.0,
+                pass: 500.0,
+                to_pass: [to_pass, 2.0, 1.6],
+            }],
+            beside: vec![Beside {
+                call: "commit of 64",
+                offers: 8000,
+                figure,
+                peers: vec![lmdb, lmdb, None],
+            }],
+            lines: vec![line("flush", flush_to_last), line("plain pass", 120.0)],
+        }
+    }
+
+    fn lines_of(results: Results) -> Vec<String> {
+        let setting = Setting { lines: vec![String::from("a machine")] };
+        report(&results, &setting).lines().map(String::from).collect()
+    }
+
+    fn target(lines: &[String], begin: &str) -> String {
+        lines.iter().find(|line| line.starts_with(&format!("| {begin}"))).unwrap().clone()
+    }
+
+    #[test]
+    fn targets_that_are_reached() {
+        let lines = lines_of(results(1.104, 2.504, Some(1500.0), 130.0));
+        assert!(lines.contains(&String::from("- a machine")));
+        assert!(target(&lines, "every call").ends_with("| yes | 4 of 4 figures |"));
+        assert!(target(&lines, "the test").ends_with("| yes | 2.50 to 2.50 |"));
+        assert!(target(&lines, "a commit").ends_with("| yes | 1.10 against 1.50 µs |"));
+        assert!(target(&lines, "time grows")
+            .contains("| yes | 64 to 6,400 words, 100 times as many: flush 130 times |"));
+    }
+
+    #[test]
+    fn targets_that_are_not_reached() {
+        let lines = lines_of(results(1.2, 2.6, None, 140.0));
+        assert!(target(&lines, "every call")
+            .ends_with("| no | 0 of 4 figures; above: load up to 1.20, price_batch up to 1.20 |"));
+        assert!(target(&lines, "the test").contains("| no |"));
+        assert!(target(&lines, "a commit").contains("| not measured | LMDB is not installed |"));
+        assert!(target(&lines, "time grows").contains("| no |"));
+        assert!(target(&lines, "time grows").contains("flush 140 times (but 140.0 times from 64 words)"));
+    }
+
+    #[test]
+    fn numbers_as_they_are_printed() {
+        assert_eq!([640.0, 12_340.0, 123_400.0].map(micro), ["0.64", "12.3", "123"]);
+        assert_eq!([1, 999, 1000, 12096].map(grouped), ["1", "999", "1,000", "12,096"]);
+    }
+}

@@ -15,7 +15,7 @@ pub fn composed(journal: &[u64], start: usize, ends: &[usize]) -> Vec<u64> {
     }
 }
 
-/// The composition of an earlier and a later list: the later word wins. What is compared moves no branch.
+/// The composition of an earlier and a later list: the later word wins. No branch depends on what is compared.
 fn compose(earlier: &[u64], later: &[u64]) -> Vec<u64> {
     let mut words = Vec::with_capacity(earlier.len() + later.len());
     let (mut i, mut j) = (0, 0);
