@@ -1,5 +1,6 @@
 pub mod Applying
 pub mod Compose
+pub mod Each
 pub mod Find
 pub mod Laws
 pub mod ListTest

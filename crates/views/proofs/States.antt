@@ -11,8 +11,8 @@ use Rattle.changes.specs.Calculus.{apply, compose, composeAll}
 use Rattle.changes.specs.Lists.{listB, From, All, Changes, Map}
 use Rattle.changes.specs.Runs.{runOf}
 use Rattle.changes.proofs.Applying.{compose-all-nil, compose-all-one}
+use Rattle.changes.proofs.Each.{IsList, all-changes, all-at, all-take, all-second}
 use Rattle.changes.proofs.Laws.{apply-zero, apply-twice, apply-map, run-changes, run-split, steps-split}
-use Rattle.changes.proofs.ListTest.{list-facts}
 use Rattle.layout.specs.declared.head.Head.{Head}
 use Rattle.layout.specs.Sound.{heldOf}
 use Rattle.views.specs.States.{stepIndex, stepsBetween, mapHere}
@@ -21,37 +21,13 @@ use Rattle.views.proofs.Sounds.{Sound}
 use Rattle.views.proofs.Views.{decoded-good, run-count}
 
 -- the steps of a good view are changes
-all-changes : (ds : List (List ℕ)) → All (λ d. listB d ≡ true) ds → All Changes ds
-unfolding All
-all-changes [] h = tt
-all-changes (d ∷ ds) h =
-    let f = list-facts d (h .0) in
-    (record { rises = f .1; valid = f .2 }, all-changes ds (h .1))
-
-all-second : (xs ys : List (List ℕ)) → All (λ d. listB d ≡ true) (xs ++ ys) → All (λ d. listB d ≡ true) ys
-unfolding All
-all-second [] ys h = h
-all-second (x ∷ xs) ys h = all-second xs ys (h .1)
-
-all-take : (n : ℕ) (ds : List (List ℕ)) → All Changes ds → All Changes (take n ds)
-unfolding All
-all-take zero ds h = tt
-all-take (suc n) [] h = tt
-all-take (suc n) (d ∷ ds) h = (h .0, all-take n ds (h .1))
-
-all-get : (n : ℕ) (ds : List (List ℕ)) → All Changes ds → n < length ds → Changes (getD ds n [])
-unfolding All
-all-get n [] h l = absurd (omega arith)
-all-get zero (d ∷ ds) h l = h .0
-all-get (suc n) (d ∷ ds) h l = all-get n ds (h .1) (omega arith)
-
 module _ (v : View) (g : Good v) where
   steps-changes : All Changes (v .steps)
-  steps-changes = all-changes (v .steps) (all-second (v .old) (v .steps) (g .lists))
+  steps-changes = all-changes (v .steps) (all-second IsList (v .old) (v .steps) (g .lists))
 
   -- the first of them, composed, are changes
   pub first-changes : (n : ℕ) → Changes (composeAll (take n (v .steps)))
-  first-changes n = run-changes (take n (v .steps)) (all-take n (v .steps) steps-changes)
+  first-changes n = run-changes (take n (v .steps)) (all-take Changes n (v .steps) steps-changes)
 
   -- the state of the checkpoint is the table's map
   pub at-checkpoint : mapAt v (v .checkpoint) ≡ v .base
@@ -78,7 +54,7 @@ module _ (v : View) (g : Good v) where
       ap (λ (n : ℕ). apply (v .base) (composeAll (take n (v .steps)))) one
       ∙ ap (λ (l : List (List ℕ)). apply (v .base) (composeAll l)) (take-suc (v .steps) (s - v .checkpoint) [] inside)
       ∙ ap (apply (v .base)) (run-split (take (s - v .checkpoint) (v .steps)) (step ∷ []) ∙ ap (compose (composeAll (take (s - v .checkpoint) (v .steps)))) (compose-all-one step))
-      ∙ sym (apply-twice (v .base) (composeAll (take (s - v .checkpoint) (v .steps))) step (g .map .rises) (first-changes (s - v .checkpoint) .rises) (all-get (s - v .checkpoint) (v .steps) steps-changes inside .rises))
+      ∙ sym (apply-twice (v .base) (composeAll (take (s - v .checkpoint) (v .steps))) step (g .map .rises) (first-changes (s - v .checkpoint) .rises) (all-at Changes (v .steps) [] (s - v .checkpoint) steps-changes inside .rises))
 
 -- some steps in the middle of a run
 pub run-middle : (words ends : List ℕ) (n a k : ℕ) → a + k ≤ n → take k (drop a (runOf words ends 0 n)) ≡ runOf words ends a k
