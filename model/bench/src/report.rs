@@ -85,8 +85,8 @@ const GROWTH: &str = "
 
 Table and journal share the words lent as 8,000 to 4,096. The table is full; half of the journal holds up to 32 steps; a commit has as many
 entries as a step; a flush is of all steps. Nanoseconds, the unit's and (a)'s. Time counts as growing no faster than the words where
-from each size to the largest it grows by no more than the words do, or than the plain pass does where a nearer cache no longer holds
-them; a tenth is left to measuring.
+from each size to the largest, if that is four times as many words or more, it grows by no more than the words do, or than the plain pass
+does where a nearer cache no longer holds them; a tenth is left to measuring.
 
 ";
 
@@ -152,14 +152,15 @@ fn below_lmdb(beside: &[Beside]) -> (Option<bool>, String) {
     }
 }
 
-/// From each size to the largest a time may grow as the words do, or as the plain pass does, which memory slows.
+/// From each size to the largest, four times it or more, a time may grow as the words do, or as the plain pass does, which memory
+/// slows.
 fn grows(lines: &[Line]) -> (Option<bool>, String) {
     let (passes, calls): (Vec<&Line>, Vec<&Line>) = lines.iter().partition(|line| line.call == "plain pass");
     let (first, last) = (calls[0].points[0].words, calls[0].points[calls[0].points.len() - 1].words);
     let mut remarks = Vec::new();
     let mut reached = true;
     for line in calls {
-        let points = line.points.iter().zip(&passes[0].points);
+        let points = line.points.iter().zip(&passes[0].points).filter(|(point, _)| 4 * point.words <= last);
         let growth = points.map(|(point, pass)| {
             let allowed = pass.to_last.max(last as f64 / point.words as f64);
             (point.to_last / allowed, point)
