@@ -55,24 +55,13 @@ pub passed : (w v : ℕ) (a : List ℕ) → sideOf (v ∷ a) w ≡ Above → off
 unfolding sideOf
 passed w v a e = subst (Sided (offerOf v) (offerOf w)) e (sided (offerOf v) (offerOf w))
 
-pub compose-next : (w : ℕ) (b a : List ℕ) → sideOf a w ≡ Above → compose a (w ∷ b) ≡ w ∷ compose a b
-compose-next w b [] e = cc (nil-compose (w ∷ b), nil-compose b)
-compose-next w b (v ∷ a) e = compose-above v w a b (passed w v a e)
-
 -- at places of two slices
-module _ (a b : List ℕ) (i j : ℕ) (h : j < length b) where
-  module _ (e : sideOf (drop i a) (getD b j 0) ≡ Below) where
-    pub compose-at-below : compose (drop i a) (drop j b) ≡ getD a i 0 ∷ compose (drop (i + 1) a) (drop j b)
-    compose-at-below =
-        let t = below-there a i (getD b j 0) e in
-        rw (next a i (t .0), next b j h) (compose-below (getD a i 0) (getD b j 0) (drop (i + 1) a) (drop (j + 1) b) (t .1))
+module _ (a b : List ℕ) (i j : ℕ) (g : i < length a) (h : j < length b) where
+  pub compose-at-below : offerOf (getD a i 0) < offerOf (getD b j 0) → compose (drop i a) (drop j b) ≡ getD a i 0 ∷ compose (drop (i + 1) a) (drop j b)
+  compose-at-below e = rw (next a i g, next b j h) (compose-below (getD a i 0) (getD b j 0) (drop (i + 1) a) (drop (j + 1) b) e)
 
-  module _ (e : sideOf (drop i a) (getD b j 0) ≡ Same) where
-    pub compose-at-same : compose (drop i a) (drop j b) ≡ getD b j 0 ∷ compose (drop (i + 1) a) (drop (j + 1) b)
-    compose-at-same =
-        let t = same-there a i (getD b j 0) e in
-        rw (next a i (t .0), next b j h) (compose-same (getD a i 0) (getD b j 0) (drop (i + 1) a) (drop (j + 1) b) (t .1))
+  pub compose-at-same : offerOf (getD a i 0) ≡ offerOf (getD b j 0) → compose (drop i a) (drop j b) ≡ getD b j 0 ∷ compose (drop (i + 1) a) (drop (j + 1) b)
+  compose-at-same e = rw (next a i g, next b j h) (compose-same (getD a i 0) (getD b j 0) (drop (i + 1) a) (drop (j + 1) b) e)
 
-  module _ (e : sideOf (drop i a) (getD b j 0) ≡ Above) where
-    pub compose-at-above : compose (drop i a) (drop j b) ≡ getD b j 0 ∷ compose (drop i a) (drop (j + 1) b)
-    compose-at-above = ap (compose (drop i a)) (next b j h) ∙ compose-next (getD b j 0) (drop (j + 1) b) (drop i a) e
+  pub compose-at-above : offerOf (getD b j 0) < offerOf (getD a i 0) → compose (drop i a) (drop j b) ≡ getD b j 0 ∷ compose (drop i a) (drop (j + 1) b)
+  compose-at-above e = rw (next a i g, next b j h) (compose-above (getD a i 0) (getD b j 0) (drop (i + 1) a) (drop (j + 1) b) e)

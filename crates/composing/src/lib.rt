@@ -2,10 +2,13 @@
 use changes::merge::Side;
 use entry::Entry;
 use words::copy;
+ghost use mathlib.Core.Bool.{cond};
 ghost use mathlib.Core.Path.{_≡_};
 ghost use mathlib.Core.List.{_++_};
-ghost use Prim.Native.Nat.{_+_, _≤_};
+ghost use Prim.Native.Nat.{_+_, _*_, _^_, _<_, _≤_};
+ghost use lib.Dec.{ltb};
 ghost use lib.ListN.{length, drop};
+ghost use Rattle.entry.specs.Word.{offerOf};
 ghost use Rattle.changes.specs.Calculus.{sideOf, compose as composed};
 
 // Where the offer at a place of the words lies, seen from a word's offer; past the end it lies above all.
@@ -26,8 +29,38 @@ pub fn side_at(words: &[u64], at: usize, word: u64) -> Side
     Side::Same
 }
 
+// The offer of a word at its place in the word, all other bits zero: a single mask, and words compare by it as
+// by their offers.
+pub fn offer_field(word: u64) -> u64
+    ensures { λ r. ⌜ r ≡ offerOf word * 2 ^ 32 ⌝ }
+{
+    (Entry::offer_of(word) as u64) * 4294967296
+}
+
+// The word of an earlier and a later list that a merge takes next: that at the lower offer, and the later one
+// where the offers are equal. The choice is a conditional move, not a branch.
+fn next_word(earlier: u64, later: u64) -> u64
+    ensures { λ r. ⌜ r ≡ cond (ltb (offerOf earlier) (offerOf later)) earlier later ⌝ }
+{
+    if offer_field(earlier) < offer_field(later) {
+        return earlier;
+    }
+    later
+}
+
+// The place of a word after a merge has taken the next word: past it, unless the other's offer is lower.
+fn past(at: usize, word: u64, other: u64) -> usize
+    requires { ⌜ at + 1 < 2 ^ 64 ⌝ }
+    ensures { λ r. ⌜ r ≡ cond (ltb (offerOf other) (offerOf word)) at (at + 1) ⌝ }
+{
+    if offer_field(other) < offer_field(word) {
+        return at;
+    }
+    at + 1
+}
+
 // Writes the composition of an earlier and a later list to the start of `out`, and gives its length; the
-// words behind it stay.
+// words behind it stay. A turn has no branch on the offers, whose order cannot be foretold.
 pub fn compose(earlier: &[u64], later: &[u64], out: &mut [u64]) -> usize
     requires { ⌜ length (now earlier) + length (now later) ≤ length (now out) ⌝ }
     ensures { λ r. ⌜ (r ≡ length (composed (now (earlier .entry)) (now (later .entry)))) × (now (out .exit) ≡ composed (now (earlier .entry)) (now (later .entry)) ++ drop r (now (out .entry))) ⌝ }
@@ -36,26 +69,16 @@ pub fn compose(earlier: &[u64], later: &[u64], out: &mut [u64]) -> usize
     let mut j = 0;
     let mut k = 0;
     while j < later.len() {
-        let w = later[j];
-        match side_at(earlier, i, w) {
-            Side::Below => {
-                out[k] = earlier[i];
-                k += 1;
-                i += 1;
-            }
-            Side::Same => {
-                // The later word wins.
-                out[k] = w;
-                k += 1;
-                i += 1;
-                j += 1;
-            }
-            Side::Above => {
-                out[k] = w;
-                k += 1;
-                j += 1;
-            }
+        if earlier.len() <= i {
+            copy(&later[j..], &mut out[k..]);
+            return k + (later.len() - j);
         }
+        let v = earlier[i];
+        let w = later[j];
+        out[k] = next_word(v, w);
+        k += 1;
+        i = past(i, v, w);
+        j = past(j, w, v);
     }
     copy(&earlier[i..], &mut out[k..]);
     k + (earlier.len() - i)

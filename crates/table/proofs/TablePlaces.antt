@@ -5,13 +5,13 @@ use mathlib.Core.List.{List, [], _∷_}
 use Prim.Native.Nat.{ℕ, _+_, _<_}
 use lib.ListN.{length, drop, getD}
 use Rattle.entry.specs.Word.{Put}
-use Rattle.changes.specs.declared.merge.Side.the-variants.{Below, Same, Above}
+use Rattle.changes.specs.declared.merge.Side.the-variants.{Same, Above}
 use Rattle.changes.specs.Calculus.{sideOf}
 use Rattle.changes.proofs.Merging.{puts-put, puts-other}
-use Rattle.composing.proofs.Places.{below-there, same-there, passed}
+use Rattle.composing.proofs.Places.{same-there, passed}
 use Rattle.words.proofs.Parts.{next}
 use Rattle.table.specs.InPlace.{kept, added}
-use Rattle.table.proofs.Clauses.{nil-kept, kept-below, kept-same-put, kept-same-other, kept-above, nil-added, added-below, added-same, added-above-put, added-above-other}
+use Rattle.table.proofs.Clauses.{nil-kept, kept-same-put, kept-same-other, kept-above, nil-added, added-same, added-above-put, added-above-other}
 
 -- where no word of the first list lies below or at the head of the second
 module _ (w : ℕ) (b : List ℕ) where
@@ -29,17 +29,6 @@ module _ (w : ℕ) (b : List ℕ) where
 
 -- at places of two slices
 module _ (a b : List ℕ) (i j : ℕ) (h : j < length b) where
-  module _ (e : sideOf (drop i a) (getD b j 0) ≡ Below) where
-    pub kept-at-below : kept (drop i a) (drop j b) ≡ getD a i 0 ∷ kept (drop (i + 1) a) (drop j b)
-    kept-at-below =
-        let t = below-there a i (getD b j 0) e in
-        rw (next a i (t .0), next b j h) (kept-below (getD a i 0) (getD b j 0) (drop (i + 1) a) (drop (j + 1) b) (t .1))
-
-    pub added-at-below : added (drop i a) (drop j b) ≡ added (drop (i + 1) a) (drop j b)
-    added-at-below =
-        let t = below-there a i (getD b j 0) e in
-        rw (next a i (t .0), next b j h) (added-below (getD a i 0) (getD b j 0) (drop (i + 1) a) (drop (j + 1) b) (t .1))
-
   module _ (e : sideOf (drop i a) (getD b j 0) ≡ Same) where
     pub kept-at-put : Put (getD b j 0) → kept (drop i a) (drop j b) ≡ getD b j 0 ∷ kept (drop (i + 1) a) (drop (j + 1) b)
     kept-at-put p =

@@ -1,24 +1,96 @@
 // Changes applied to a table in place. What will stay and what will be added is known before any store: the
 // words at new offers are put aside first. Then a forward pass overwrites words and closes the gaps, and a
 // backward pass weaves the new words in, so that each word is stored at most twice.
-use changes::merge::Side;
-use composing::side_at;
+use composing::offer_field;
 use entry::Entry;
 use words::clear;
 use words::copy;
 use words::shift;
+ghost use mathlib.Core.Bool.{cond};
 ghost use mathlib.Core.Path.{_≡_};
 ghost use mathlib.Core.List.{_++_};
-ghost use Prim.Native.Nat.{_+_, _-_, _≤_, max};
+ghost use Prim.Native.Nat.{_+_, _-_, _<_, _≤_, max};
+ghost use lib.Dec.{ltb};
 ghost use lib.ListN.{length, take, drop, replicate};
-ghost use Rattle.changes.specs.Calculus.{apply as applied};
+ghost use Rattle.entry.specs.Word.{offerOf, isPut};
+ghost use Rattle.changes.specs.Calculus.{sideOf, bySide, apply as applied};
 ghost use Rattle.table.specs.InPlace.{kept as keptOf, added as addedOf, weave as woven, Planned};
+ghost use Rattle.table.specs.Leading.{leading};
 ghost use Rattle.changes.specs.Lists.{From};
 
 // How many words of a table stay, and how many are added at new offers.
 pub struct Plan {
     pub kept: usize,
     pub added: usize,
+}
+
+// How many words lie below a limit's offer from this word on, where so many do behind it.
+fn run_from(word: u64, limit: u64, behind: usize) -> usize
+    requires { ⌜ behind < 4 ⌝ }
+    ensures { λ r. ⌜ r ≡ cond (ltb (offerOf word) (offerOf limit)) (behind + 1) 0 ⌝ }
+{
+    if offer_field(word) < offer_field(limit) {
+        return behind + 1;
+    }
+    0
+}
+
+// How many of the four words at a place come before the first whose offer is not below the limit's.
+fn run_of_four(words: &[u64], at: usize, limit: u64) -> usize
+    requires { ⌜ at + 4 ≤ length (now words) ⌝ }
+    ensures { λ r. ⌜ r ≡ leading (offerOf limit) (take 4 (drop at (now (words .entry)))) ⌝ }
+{
+    let fourth = run_from(words[at + 3], limit, 0);
+    let third = run_from(words[at + 2], limit, fourth);
+    let second = run_from(words[at + 1], limit, third);
+    run_from(words[at], limit, second)
+}
+
+// The first place from `from` on whose offer is not below the limit's, or the end. Four words are taken at once,
+// and where among them the run ends is counted without a branch.
+fn first_not_below(words: &[u64], from: usize, limit: u64) -> usize
+    requires { ⌜ from ≤ length (now words) ⌝ }
+    ensures { λ r. ⌜ r ≡ from + leading (offerOf limit) (drop from (now (words .entry))) ⌝ }
+{
+    let mut at = from;
+    while at < words.len() {
+        if words.len() - at < 4 {
+            if offer_field(limit) <= offer_field(words[at]) {
+                return at;
+            }
+            at += 1;
+        } else {
+            let run = run_of_four(words, at, limit);
+            if run < 4 {
+                return at + run;
+            }
+            at += 4;
+        }
+    }
+    at
+}
+
+// Whether the word at a place has a word's offer, as 1 or 0; past the end there is none.
+fn found_at(words: &[u64], at: usize, word: u64) -> usize
+    ensures { λ r. ⌜ r ≡ bySide (sideOf (drop at (now (words .entry))) word) 0 1 0 ⌝ }
+{
+    if words.len() <= at {
+        return 0;
+    }
+    if offer_field(words[at]) == offer_field(word) {
+        return 1;
+    }
+    0
+}
+
+// Whether a word is of kind 1, as 1 or 0.
+fn put_count(word: u64) -> usize
+    ensures { λ r. ⌜ r ≡ cond (isPut word) 1 0 ⌝ }
+{
+    if Entry::kind_of(word) == Entry::PUT {
+        return 1;
+    }
+    0
 }
 
 // What applying the changes to a table will do. The words at new offers are written to the start of
@@ -33,29 +105,22 @@ pub fn prepare(table: &[u64], changes: &[u64], aside: &mut [u64]) -> Plan
     let mut added = 0;
     while j < changes.len() {
         let change = changes[j];
-        match side_at(table, i, change) {
-            Side::Below => {
-                kept += 1;
-                i += 1;
-            }
-            Side::Same => {
-                if Entry::kind_of(change) == Entry::PUT {
-                    kept += 1;
-                    i += 1;
-                    j += 1;
-                } else {
-                    i += 1;
-                    j += 1;
-                }
-            }
-            Side::Above => {
-                if Entry::kind_of(change) == Entry::PUT {
-                    aside[added] = change;
-                    added += 1;
-                    j += 1;
-                } else {
-                    j += 1;
-                }
+        let at = first_not_below(table, i, change);
+        if found_at(table, at, change) == 1 {
+            kept += (at - i) + put_count(change);
+            i = at + 1;
+            j += 1;
+        } else {
+            if Entry::kind_of(change) == Entry::PUT {
+                aside[added] = change;
+                added += 1;
+                kept += at - i;
+                i = at;
+                j += 1;
+            } else {
+                kept += at - i;
+                i = at;
+                j += 1;
             }
         }
     }
@@ -63,6 +128,26 @@ pub fn prepare(table: &[u64], changes: &[u64], aside: &mut [u64]) -> Plan
         kept: kept + (table.len() - i),
         added,
     }
+}
+
+// Moves the words from `from` on whose offers are below the limit's down to `to`, and gives the place of the
+// first that is not.
+fn keep_below(words: &mut [u64], from: usize, to: usize, limit: u64) -> usize
+    requires { ⌜ (to ≤ from) × (from ≤ length (now words)) ⌝ }
+    ensures { λ r. ⌜ (r ≡ from + leading (offerOf limit) (drop from (now (words .entry)))) × (now (words .exit) ≡ take to (now (words .entry)) ++ take (r - from) (drop from (now (words .entry))) ++ drop (to + (r - from)) (now (words .entry))) ⌝ }
+{
+    let mut i = from;
+    let mut k = to;
+    while i < words.len() {
+        let word = words[i];
+        if offer_field(limit) <= offer_field(word) {
+            return i;
+        }
+        words[k] = word;
+        k += 1;
+        i += 1;
+    }
+    i
 }
 
 // The forward pass: overwrites the words that the changes put, closes the gaps of those that they remove,
@@ -75,26 +160,23 @@ fn keep(table: &mut [u64], changes: &[u64]) -> usize
     let mut k = 0;
     while j < changes.len() {
         let word = changes[j];
-        match side_at(table, i, word) {
-            Side::Below => {
-                table[k] = table[i];
-                k += 1;
-                i += 1;
-            }
-            Side::Same => {
-                if Entry::kind_of(word) == Entry::PUT {
-                    table[k] = word;
-                    k += 1;
-                    i += 1;
-                    j += 1;
-                } else {
-                    i += 1;
-                    j += 1;
-                }
-            }
-            Side::Above => {
+        let at = keep_below(table, i, k, word);
+        let to = k + (at - i);
+        if found_at(table, at, word) == 1 {
+            if Entry::kind_of(word) == Entry::PUT {
+                table[to] = word;
+                k = to + 1;
+                i = at + 1;
+                j += 1;
+            } else {
+                k = to;
+                i = at + 1;
                 j += 1;
             }
+        } else {
+            k = to;
+            i = at;
+            j += 1;
         }
     }
     shift(table, i, k);

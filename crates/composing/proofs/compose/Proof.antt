@@ -3,8 +3,7 @@
 use mathlib.Core.Path.{_∙_, sym}
 use Prim.Native.Nat.{_+_, _-_}
 use lib.ListN.{length, getD}
-use Rattle.composing.proofs.Composing.{Composing, composing, take-earlier, take-both, take-later, left-over}
-use Rattle.composing.proofs.Places.{below-there}
+use Rattle.composing.proofs.Composing.{Composing, composing, turn, left-earlier, left-later}
 use Rattle.words.proofs.Writing.{copied-size, copied}
 use borrow.Author.Needs.{needs}
 use native.Mathlib.Omega.{arith}
@@ -19,87 +18,6 @@ abbrev μ-loop : tie.MeasureT-loop
 
 loop-holds : tie.Need-loop-holds Inv-loop μ-loop
 loop-holds c = composing _ _ _ (omega arith)
-
-mul-w : tie.Need-mul-w Inv-loop μ-loop
-mul-w c = search needs
-
-shared-slice-read-w : tie.Need-shared-slice-read-w Inv-loop μ-loop
-shared-slice-read-w c = search needs
-
-side-at-requires : tie.Need-side-at-requires Inv-loop μ-loop
-side-at-requires c κs = search needs
-
-enum-told : tie.Need-enum-told Inv-loop μ-loop
-enum-told c = search needs
-
-mul-out : tie.Need-mul-out Inv-loop μ-loop
-mul-out c = search needs
-
-shared-slice-read-out : tie.Need-shared-slice-read-out Inv-loop μ-loop
-shared-slice-read-out c = below-there ((c .before .before .before .before .before .before .before .before .before .before .args .earlier .now)) (c .before .before .before .before .before .before .loop .i) (getD ((c .before .before .before .before .before .before .before .before .before .before .args .later .now)) (c .before .before .before .before .before .before .loop .j) 0) (sym (c .before .before .before .side-at .ensures) ∙ (c .before .enum-told .given .1)) .0
-
-mul-out-2 : tie.Need-mul-out-2 Inv-loop μ-loop
-mul-out-2 c = search needs
-
-slice-write-out : tie.Need-slice-write-out Inv-loop μ-loop
-slice-write-out c = search needs
-
-add-k : tie.Need-add-k Inv-loop μ-loop
-add-k c = search needs
-
-add-i : tie.Need-add-i Inv-loop μ-loop
-add-i c = search needs
-
-loop-less : tie.Need-loop-less Inv-loop μ-loop
-loop-less c = omega (arith, below-there ((c .before .before .before .before .before .before .before .before .before .before .args .earlier .now)) (c .before .before .before .before .before .before .loop .i) (getD ((c .before .before .before .before .before .before .before .before .before .before .args .later .now)) (c .before .before .before .before .before .before .loop .j) 0) (sym (c .before .before .before .side-at .ensures) ∙ (c .before .enum-told .given .1)) .0)
-
-loop-again : tie.Need-loop-again Inv-loop μ-loop
-loop-again c = take-earlier (c .before .before .before .before .before .before .loop .inv) (c .before .before .before .before .before .loop-test .taken) (sym (c .before .before .before .side-at .ensures) ∙ (c .before .enum-told .given .1))
-
-enum-told-2 : tie.Need-enum-told-2 Inv-loop μ-loop
-enum-told-2 c = search needs
-
-mul-out-3 : tie.Need-mul-out-3 Inv-loop μ-loop
-mul-out-3 c = search needs
-
-slice-write-out-2 : tie.Need-slice-write-out-2 Inv-loop μ-loop
-slice-write-out-2 c = search needs
-
-add-k-2 : tie.Need-add-k-2 Inv-loop μ-loop
-add-k-2 c = search needs
-
-add-i-2 : tie.Need-add-i-2 Inv-loop μ-loop
-add-i-2 c = search needs
-
-add-j : tie.Need-add-j Inv-loop μ-loop
-add-j c = search needs
-
-loop-less-2 : tie.Need-loop-less-2 Inv-loop μ-loop
-loop-less-2 c = search needs
-
-loop-again-2 : tie.Need-loop-again-2 Inv-loop μ-loop
-loop-again-2 c = take-both (c .before .before .before .before .before .loop .inv) (c .before .before .before .before .loop-test .taken) (sym (c .before .before .side-at .ensures) ∙ (c .enum-told2 .given .1))
-
-enum-told-3 : tie.Need-enum-told-3 Inv-loop μ-loop
-enum-told-3 c = search needs
-
-mul-out-4 : tie.Need-mul-out-4 Inv-loop μ-loop
-mul-out-4 c = search needs
-
-slice-write-out-3 : tie.Need-slice-write-out-3 Inv-loop μ-loop
-slice-write-out-3 c = search needs
-
-add-k-3 : tie.Need-add-k-3 Inv-loop μ-loop
-add-k-3 c = search needs
-
-add-j-2 : tie.Need-add-j-2 Inv-loop μ-loop
-add-j-2 c = search needs
-
-loop-less-3 : tie.Need-loop-less-3 Inv-loop μ-loop
-loop-less-3 c = search needs
-
-loop-again-3 : tie.Need-loop-again-3 Inv-loop μ-loop
-loop-again-3 c = take-later (c .before .before .before .before .before .loop .inv) (c .before .before .before .before .loop-test .taken) (sym (c .before .before .side-at .ensures) ∙ (c .enum-told3 .given .1))
 
 mul-copy : tie.Need-mul-copy Inv-loop μ-loop
 mul-copy c = search needs
@@ -139,8 +57,85 @@ same-length c = search needs
 
 returns : tie.Need-returns Inv-loop μ-loop
 returns c =
-    let rest = left-over (c .before .before .before .before .before .before .loop .inv) (c .before .before .before .before .before .loop-test .left) in
-    (copied-size ((c .before .before .before .before .before .before .loop .inv .writing)) ((c .before .before .before .before .before .before .before .before .before .before .args .earlier .now)) (c .before .before .before .before .before .before .loop .i) rest, copied ((c .before .before .before .before .before .before .loop .inv .writing)) ((c .before .before .before .before .before .before .before .before .before .before .args .earlier .now)) (c .before .before .before .before .before .before .loop .i) rest ((c .before .before .copy .last .1 .0)) (c .before .before .copy .ensures))
+    let rest = left-later (c .before .before .before .before .before .before .before .loop .inv) (c .before .before .before .before .before .if1 .taken) in
+    (copied-size (c .before .before .before .before .before .before .before .loop .inv .writing) (c .before .before .before .before .before .before .before .before .before .before .before .args .later .now) (c .before .before .before .before .before .before .before .loop .j) rest, copied (c .before .before .before .before .before .before .before .loop .inv .writing) (c .before .before .before .before .before .before .before .before .before .before .before .args .later .now) (c .before .before .before .before .before .before .before .loop .j) rest (c .before .before .copy .last .1 .0) (c .before .before .copy .ensures))
+
+mul-v : tie.Need-mul-v Inv-loop μ-loop
+mul-v c = search needs
+
+shared-slice-read-v : tie.Need-shared-slice-read-v Inv-loop μ-loop
+shared-slice-read-v c = search needs
+
+mul-w : tie.Need-mul-w Inv-loop μ-loop
+mul-w c = search needs
+
+shared-slice-read-w : tie.Need-shared-slice-read-w Inv-loop μ-loop
+shared-slice-read-w c = search needs
+
+next-word-requires : tie.Need-next-word-requires Inv-loop μ-loop
+next-word-requires c κs = search needs
+
+mul-out : tie.Need-mul-out Inv-loop μ-loop
+mul-out c = search needs
+
+slice-write-out : tie.Need-slice-write-out Inv-loop μ-loop
+slice-write-out c = search needs
+
+add-k : tie.Need-add-k Inv-loop μ-loop
+add-k c = search needs
+
+past-requires : tie.Need-past-requires Inv-loop μ-loop
+past-requires c κs = search needs
+
+past-requires-2 : tie.Need-past-requires-2 Inv-loop μ-loop
+past-requires-2 c κs = search needs
+
+loop-less : tie.Need-loop-less Inv-loop μ-loop
+loop-less c = turn (c .before .before .before .before .before .before .before .loop .inv) (c .before .before .before .before .before .if1 .left) (c .before .before .before .before .before .before .loop-test .taken) (c .before .before .next-word .result) (c .before .past .result) (c .past2 .result) (c .before .before .next-word .ensures) (c .before .past .ensures) (c .past2 .ensures) .1
+
+loop-again : tie.Need-loop-again Inv-loop μ-loop
+loop-again c = turn (c .before .before .before .before .before .before .before .loop .inv) (c .before .before .before .before .before .if1 .left) (c .before .before .before .before .before .before .loop-test .taken) (c .before .before .next-word .result) (c .before .past .result) (c .past2 .result) (c .before .before .next-word .ensures) (c .before .past .ensures) (c .past2 .ensures) .0
+
+mul-copy-3 : tie.Need-mul-copy-3 Inv-loop μ-loop
+mul-copy-3 c = search needs
+
+sub-copy-3 : tie.Need-sub-copy-3 Inv-loop μ-loop
+sub-copy-3 c = search needs
+
+part-copy-start-3 : tie.Need-part-copy-start-3 Inv-loop μ-loop
+part-copy-start-3 c = search needs
+
+part-copy-end-3 : tie.Need-part-copy-end-3 Inv-loop μ-loop
+part-copy-end-3 c = search needs
+
+mul-copy-4 : tie.Need-mul-copy-4 Inv-loop μ-loop
+mul-copy-4 c = search needs
+
+sub-copy-4 : tie.Need-sub-copy-4 Inv-loop μ-loop
+sub-copy-4 c = search needs
+
+part-copy-start-4 : tie.Need-part-copy-start-4 Inv-loop μ-loop
+part-copy-start-4 c = search needs
+
+part-copy-end-4 : tie.Need-part-copy-end-4 Inv-loop μ-loop
+part-copy-end-4 c = search needs
+
+copy-requires-2 : tie.Need-copy-requires-2 Inv-loop μ-loop
+copy-requires-2 c κs = search needs
+
+sub-result-2 : tie.Need-sub-result-2 Inv-loop μ-loop
+sub-result-2 c = search needs
+
+add-result-2 : tie.Need-add-result-2 Inv-loop μ-loop
+add-result-2 c = search needs
+
+same-length-2 : tie.Need-same-length-2 Inv-loop μ-loop
+same-length-2 c = search needs
+
+returns-2 : tie.Need-returns-2 Inv-loop μ-loop
+returns-2 c =
+    let rest = left-earlier (c .before .before .before .before .before .before .loop .inv) (c .before .before .before .before .before .loop-test .left) in
+    (copied-size (c .before .before .before .before .before .before .loop .inv .writing) (c .before .before .before .before .before .before .before .before .before .before .args .earlier .now) (c .before .before .before .before .before .before .loop .i) rest, copied (c .before .before .before .before .before .before .loop .inv .writing) (c .before .before .before .before .before .before .before .before .before .before .args .earlier .now) (c .before .before .before .before .before .before .loop .i) rest (c .before .before .copy2 .last .1 .0) (c .before .before .copy2 .ensures))
 
 pub compose-spec : {M : Type 1} → statement M
 compose-spec =
@@ -149,33 +144,6 @@ compose-spec =
     Inv-loop
     μ-loop
     loop-holds
-    mul-w
-    shared-slice-read-w
-    side-at-requires
-    enum-told
-    mul-out
-    shared-slice-read-out
-    mul-out-2
-    slice-write-out
-    add-k
-    add-i
-    loop-less
-    loop-again
-    enum-told-2
-    mul-out-3
-    slice-write-out-2
-    add-k-2
-    add-i-2
-    add-j
-    loop-less-2
-    loop-again-2
-    enum-told-3
-    mul-out-4
-    slice-write-out-3
-    add-k-3
-    add-j-2
-    loop-less-3
-    loop-again-3
     mul-copy
     sub-copy
     part-copy-start
@@ -188,4 +156,29 @@ compose-spec =
     sub-result
     add-result
     same-length
-    returns)
+    returns
+    mul-v
+    shared-slice-read-v
+    mul-w
+    shared-slice-read-w
+    next-word-requires
+    mul-out
+    slice-write-out
+    add-k
+    past-requires
+    past-requires-2
+    loop-less
+    loop-again
+    mul-copy-3
+    sub-copy-3
+    part-copy-start-3
+    part-copy-end-3
+    mul-copy-4
+    sub-copy-4
+    part-copy-start-4
+    part-copy-end-4
+    copy-requires-2
+    sub-result-2
+    add-result-2
+    same-length-2
+    returns-2)
