@@ -2,6 +2,7 @@
 // found by halving; a mark at each place says whether an order named its offer.
 use crate::check::Check;
 use entry::Entry;
+use lists::search::place;
 use orders::Order;
 use orders::effects::Effect;
 use orders::effects::effect_of;
@@ -19,21 +20,14 @@ pub fn place_of(words: &[u64], offer: u32) -> usize
     requires { ⌜ From 0 (now words) ⌝ }
     ensures { λ r. ⌜ r ≡ placeOf offer (now (words .entry)) ⌝ }
 {
-    let mut low = 0;
-    let mut high = words.len();
-    while low < high {
-        let middle = low + (high - low) / 2;
-        let there = Entry::offer_of(words[middle]);
-        if there == offer {
-            return middle;
-        }
-        if there < offer {
-            low = middle + 1;
-        } else {
-            high = middle;
-        }
+    let at = place(words, offer);
+    if words.len() <= at {
+        return words.len();
     }
-    words.len()
+    if Entry::offer_of(words[at]) != offer {
+        return words.len();
+    }
+    at
 }
 
 // Runs the orders over a copy of the read set, and marks the offers that they name. The marked words are then the

@@ -6,14 +6,14 @@ use mathlib.Core.List.{List}
 use Prim.Native.Nat.{ℕ}
 use lib.ListN.{length}
 use Rattle.layout.specs.declared.head.Head.{Head}
-use Rattle.reads.specs.Forward.{forwardCheck, forwardReads, forwardHead, forwardJournal}
-use Rattle.reads.specs.Issue.{issueCheck, issueHead, issueList}
-use Rattle.reads.specs.LookUp.{lookUp}
-use Rattle.reads.specs.Release.{releaseCheck, releaseHead, releaseJournal}
+use Rattle.forwards.specs.Forward.{forwardCheck, forwardReads, forwardHead, forwardJournal}
+use Rattle.issues.specs.Issue.{issueCheck, issueHead, issueList}
+use Rattle.lookups.specs.LookUp.{lookUp}
+use Rattle.releases.specs.Release.{releaseCheck, releaseHead, releaseJournal}
 use Rattle.snapshot.specs.Calls.{clearOutcome, clearHead, clearWords, loadOutcome, loadHead, loadTable, loadJournal, writeCheck, writeAnswer, writeBytes, restartHead, restartTable, restartJournal}
-use Rattle.steps.specs.Commit.{commitCheck, commitJournal, commitHead}
-use Rattle.steps.specs.Flush.{flushCheck, flushTable, flushJournal, flushHead}
-use Rattle.steps.specs.RollBack.{rollCheck, rollJournal, rollHead}
+use Rattle.commits.specs.Commit.{commitCheck, commitJournal, commitHead}
+use Rattle.flushes.specs.Flush.{flushCheck, flushTable, flushJournal, flushHead}
+use Rattle.rollbacks.specs.RollBack.{rollCheck, rollJournal, rollHead}
 use Rattle.calls.specs.declared.call.Answer.{Answer}
 use Rattle.calls.specs.declared.call.Call.{Call}
 use Rattle.calls.specs.declared.call.Call.the-variants.{Clear, Load, WriteImage, Restart, Commit, RollBack, Flush, LookUp, Issue, Forward, Release}

@@ -15,7 +15,7 @@ use Rattle.calls.specs.declared.call.Answer.{Answer}
 use Rattle.calls.specs.declared.call.Answer.the-variants.{Refused}
 use Rattle.calls.specs.declared.call.Call.{Call}
 use Rattle.unit.specs.declared.serve.Served.{Served}
-use Rattle.unit.specs.Tally.{acceptedB}
+use Rattle.tallies.specs.Tally.{acceptedB}
 use Rattle.calls.specs.Calls as unit
 use Rattle.unit.specs.Serve.{served}
 use Rattle.capi.specs.HeadWords.{headOf, headB, wordsOf}

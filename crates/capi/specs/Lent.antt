@@ -13,10 +13,10 @@ use Rattle.calls.specs.declared.call.Answer.{Answer}
 use Rattle.calls.specs.declared.call.Answer.the-variants.{Refused}
 use Rattle.calls.specs.declared.call.Call.{Call}
 use Rattle.calls.specs.declared.call.Call.the-variants.{Clear, Load, WriteImage, Restart, Commit, RollBack, Flush, LookUp, Issue, Forward, Release}
-use Rattle.unit.specs.declared.tally.Tally.{Tally}
+use Rattle.tallies.specs.declared.Tally.{Tally}
 use Rattle.calls.specs.Answers.{answerAs}
 use Rattle.calls.specs.Calls as unit
-use Rattle.unit.specs.Tally.{acceptedB, counts, tallyAfter}
+use Rattle.tallies.specs.Tally.{acceptedB, counts, tallyAfter}
 use Rattle.capi.specs.Codes.{codeOf}
 use Rattle.capi.specs.HeadWords.{headOf, wordsOf, headB}
 

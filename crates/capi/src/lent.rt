@@ -8,13 +8,13 @@ use calls::call::Call;
 use grounds::Refusal;
 use layout::head::Head;
 use layout::sound::lengths_fit;
+use tallies::is_accepted;
 use unit::serve::serve_core;
-use unit::tally::is_accepted;
 ghost use mathlib.Core.Path.{_≡_};
 ghost use mathlib.Core.Bool.{cond};
 ghost use mathlib.Core.List.{[], _∷_};
 ghost use lib.ListN.{length};
-ghost use Rattle.unit.specs.Tally.{acceptedB};
+ghost use Rattle.tallies.specs.Tally.{acceptedB};
 ghost use Rattle.capi.specs.HeadWords.{wordsOf};
 ghost use Rattle.capi.specs.Lent.{testsStore, lentB, unfit, answerTo, tableAfter, journalAfter, wordsAfter, bytesAfter, headAfter, tallyWordsAfter};
 

@@ -3,7 +3,7 @@
 use mathlib.Core.Path.{_≡_, refl, sym, _∙_, ap}
 use mathlib.Core.List.{List, [], _∷_}
 use Prim.Native.Nat.{ℕ, zero, suc, _+_, _≤_, _<_}
-use native.Mathlib.Decide.{ℕ-discrete, decLt}
+use native.Mathlib.Decide.{ℕ-discrete}
 use native.Mathlib.Omega.{arith}
 use borrow.Author.Tests.{eq-eqb, ne-eqb}
 use lib.ListN.{length, getD}
@@ -99,46 +99,3 @@ find-at n (w ∷ l) f (suc i) b =
 
 pub found-at : (l : List ℕ) → From 0 l → (i : ℕ) → i < length l → (k : ℕ) → offerOf (getD l i 0) ≡ k → find k l ≡ Word (getD l i 0)
 found-at l f i b k e = ap (λ (n : ℕ). find n l) (sym e) ∙ find-at 0 l f i b
-
--- The search by halving: words before low lie below the offer, words from high on lie above it.
-pub record Between (words : List ℕ) (offer low high : ℕ) : Type 0 where
-  pub order : low ≤ high
-  pub inside : high ≤ length words
-  pub below : (i : ℕ) → i < low → offerOf (getD words i 0) < offer
-  pub above : (i : ℕ) → high ≤ i → i < length words → offer < offerOf (getD words i 0)
-
-pub between-all : (words : List ℕ) (offer : ℕ) → Between words offer 0 (length words)
-between-all words offer =
-    record {
-      order = omega arith;
-      inside = omega arith;
-      below = λ i h. absurd (omega arith);
-      above = λ i h b. absurd (omega arith);
-    }
-
-module _ {words : List ℕ} {offer low high : ℕ} (b : Between words offer low high) where
-  module _ (rises : From 0 words) (middle : ℕ) (after : low ≤ middle) (before : middle < high) where
-    pub go-up : offerOf (getD words middle 0) < offer → Between words offer (middle + 1) high
-    go-up h =
-        record {
-          order = omega arith;
-          inside = b .inside;
-          below = λ i k. omega (arith, b .inside, not-below-at 0 words rises i middle (omega arith) (omega (arith, b .inside)));
-          above = b .above;
-        }
-
-    pub go-down : offer < offerOf (getD words middle 0) → Between words offer low middle
-    go-down h =
-        record {
-          order = after;
-          inside = omega (arith, b .inside);
-          below = b .below;
-          above = λ i k l. omega (arith, not-below-at 0 words rises middle i k l);
-        }
-
-  pub nothing-between : high ≤ low → find offer words ≡ Nothing
-  nothing-between h = find-nowhere offer words (λ i l e. go i l e (decLt i low))
-    where
-      go : (i : ℕ) → i < length words → offerOf (getD words i 0) ≡ offer → Dec (i < low) → ⊥
-      go i l e (yes k) = omega (arith, b .below i k)
-      go i l e (no k) = omega (arith, b .above i (omega arith) l)

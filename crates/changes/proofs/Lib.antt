@@ -1,10 +1,12 @@
 pub mod Applying
 pub mod Compose
+pub mod Each
 pub mod Find
 pub mod Laws
 pub mod ListTest
 pub mod MapTest
 pub mod Merging
+pub mod NoPuts
 pub mod ReadWords
 pub mod Reading
 pub mod Rising

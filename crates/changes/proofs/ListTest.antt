@@ -1,26 +1,20 @@
--- The test of a list's rules, clause by clause, as facts, and as a loop meets it.
+-- The test of a list's rules, clause by clause, and as facts.
 -- Assumes nothing.
-use mathlib.Core.Path.{_≡_, refl, sym, _∙_, ap}
+use mathlib.Core.Path.{_≡_, refl, _∙_}
 use mathlib.Core.Bool.{Bool, true, false, _&&_}
 use mathlib.Core.List.{List, [], _∷_}
-use Prim.Native.Nat.{ℕ, suc, _+_, _≤_, _<_, _^_}
-use native.Mathlib.Numerals.{add-one}
+use Prim.Native.Nat.{ℕ, _+_, _≤_, _<_}
 use native.Mathlib.Decide.{ℕ-discrete}
 use native.Mathlib.Omega.{arith}
 use borrow.Author.Tests.{eq-eqb, ne-eqb, eqb-true, le-leb, lt-leb, leb-true}
 use lib.Dec.{eqb, leb}
-use lib.ListN.{length, getD, drop, drop-of-length-le}
-use lib.Seq.{drop-cons}
+use lib.ListN.{length}
 use Rattle.entry.specs.Word.{kindOf, offerOf, priceOf, validB, Valid}
-use Rattle.entry.proofs.Laws.{kind-small}
 use Rattle.changes.specs.Lists.{risingB, listB, From, All}
 
--- a word of kind 1 is valid, and a word of another kind by its price
+-- a word of kind 1 is valid
 pub valid-put : (w : ℕ) → kindOf w ≡ 1 → validB w ≡ true
 valid-put w e = rw (eq-eqb (kindOf w) 1 e)
-
-pub valid-other : (w : ℕ) → w < 2 ^ 64 → (kindOf w ≡ 1 → ⊥) → validB w ≡ eqb (priceOf w) 0
-valid-other w b n = rw (ne-eqb (kindOf w) 1 n, eq-eqb (kindOf w) 0 (omega (arith, kind-small w b)))
 
 pub rising-empty : (n : ℕ) → risingB n [] ≡ true
 unfolding risingB
@@ -91,36 +85,3 @@ list-short l h = rw (le-leb (length l) 64 h)
 
 pub list-long : (l : List ℕ) → 64 < length l → listB l ≡ false
 list-long l h = rw (lt-leb (length l) 64 h)
-
--- A loop over the places: what is left of the words rises from the bound exactly when all of them rise.
-pub record Testing (words : List ℕ) (least i : ℕ) : Type 0 where
-  pub short : length words ≤ 64
-  pub inside : i ≤ length words
-  pub small : least ≤ 2 ^ 31
-  pub left : risingB least (drop i words) ≡ risingB 0 words
-
-pub testing-all : (words : List ℕ) → length words ≤ 64 → Testing words 0 0
-testing-all words h = record { short = h; inside = omega arith; small = omega arith; left = refl }
-
-module _ {words : List ℕ} {least i : ℕ} (t : Testing words least i) where
-  pub tested : length words ≤ i → listB words ≡ true
-  tested h = list-short words (t .short) ∙ sym (t .left) ∙ ap (risingB least) (drop-of-length-le words h) ∙ rising-empty least
-
-  module _ (b : i < length words) where
-    here : risingB least (getD words i 0 ∷ drop (suc i) words) ≡ listB words
-    here = ap (risingB least) (sym (drop-cons words i 0 b)) ∙ t .left ∙ sym (list-short words (t .short))
-
-    pub test-below : offerOf (getD words i 0) < least → listB words ≡ false
-    test-below h = sym here ∙ rising-below least _ _ h
-
-    pub test-invalid : least ≤ offerOf (getD words i 0) → validB (getD words i 0) ≡ false → listB words ≡ false
-    test-invalid h v = sym here ∙ rising-invalid least _ _ h v
-
-    pub test-next : least ≤ offerOf (getD words i 0) → validB (getD words i 0) ≡ true → Testing words (offerOf (getD words i 0) + 1) (i + 1)
-    test-next h v =
-        record {
-          short = t .short;
-          inside = omega arith;
-          small = omega arith;
-          left = rw (add-one i) (sym (rising-next least (getD words i 0) (drop (suc i) words) h v) ∙ here ∙ list-short words (t .short));
-        }

@@ -1,17 +1,14 @@
--- The test of a map's words, clause by clause, as facts, and as a loop meets it.
+-- The test of a map's words, clause by clause, and as facts.
 -- Assumes nothing.
-use mathlib.Core.Path.{_≡_, refl, sym, ap, _∙_}
+use mathlib.Core.Path.{_≡_, refl, _∙_}
 use mathlib.Core.Bool.{true, false, _&&_}
 use mathlib.Core.List.{List, [], _∷_}
-use Prim.Native.Nat.{ℕ, _+_, _^_, _≤_, _<_}
-use native.Mathlib.Omega.{arith}
+use Prim.Native.Nat.{ℕ, _+_, _≤_, _<_}
 use borrow.Author.Tests.{eq-eqb, ne-eqb, eqb-true, le-leb, lt-leb, leb-true}
 use lib.Dec.{leb}
-use lib.ListN.{length, getD, drop, drop-of-length-le}
 use Rattle.entry.specs.Word.{kindOf, offerOf, isPut, Put}
 use Rattle.changes.specs.Lists.{mapB, From, All, Map}
 use Rattle.changes.proofs.ListTest.{and-both}
-use Rattle.words.proofs.Parts.{next}
 
 pub map-none : (n : ℕ) → mapB n [] ≡ true
 unfolding mapB
@@ -51,34 +48,3 @@ map-of l e =
 
 pub of-map : (l : List ℕ) → Map l → mapB 0 l ≡ true
 of-map l m = facts-map 0 l (m .rises) (m .puts)
-
--- i words are passed, and the rest is a map from the bound on exactly when all of them are one
-pub record Mapping (words : List ℕ) (bound i : ℕ) : Type 0 where
-  pub inside : i ≤ length words
-  pub small : bound ≤ 2 ^ 31
-  pub left : mapB bound (drop i words) ≡ mapB 0 words
-
-pub mapping : (words : List ℕ) → Mapping words 0 0
-mapping words = record { inside = omega arith; small = omega arith; left = refl }
-
-module _ {words : List ℕ} {bound i : ℕ} (m : Mapping words bound i) where
-  pub mapped : length words ≤ i → mapB 0 words ≡ true
-  mapped h = sym (m .left) ∙ ap (mapB bound) (drop-of-length-le words h) ∙ map-none bound
-
-  module _ (h : i < length words) where
-    here : mapB bound (getD words i 0 ∷ drop (i + 1) words) ≡ mapB 0 words
-    here = ap (mapB bound) (sym (next words i h)) ∙ m .left
-
-    pub not-put : (Put (getD words i 0) → ⊥) → mapB 0 words ≡ false
-    not-put p = sym here ∙ map-not-put bound (getD words i 0) (drop (i + 1) words) p
-
-    pub falls-below : Put (getD words i 0) → offerOf (getD words i 0) < bound → mapB 0 words ≡ false
-    falls-below p l = sym here ∙ map-below bound (getD words i 0) (drop (i + 1) words) p l
-
-    pub map-on : Put (getD words i 0) → bound ≤ offerOf (getD words i 0) → Mapping words (offerOf (getD words i 0) + 1) (i + 1)
-    map-on p l =
-        record {
-          inside = omega arith;
-          small = omega arith;
-          left = sym (map-next bound (getD words i 0) (drop (i + 1) words) p l) ∙ here;
-        }

@@ -1,6 +1,6 @@
 -- The rules of a list of entry words (document 01, "What the unit holds").
 -- Assumes nothing.
-use mathlib.Core.Bool.{Bool, true, _&&_}
+use mathlib.Core.Bool.{Bool, true, not, _&&_}
 use mathlib.Core.List.{List, [], _∷_}
 use Prim.Native.Nat.{ℕ, _+_, _≤_}
 use lib.Dec.{leb}
@@ -20,6 +20,11 @@ listB l = leb (length l) 64 && risingB 0 l
 unfoldable pub mapB : ℕ → List ℕ → Bool
 mapB n [] = true
 mapB n (w ∷ l) = isPut w && leb n (offerOf w) && mapB (offerOf w + 1) l
+
+-- "an issue's list has a kind 1 word", or none: no word is of kind 1
+unfoldable pub noPutB : List ℕ → Bool
+noPutB [] = true
+noPutB (w ∷ l) = not (isPut w) && noPutB l
 
 -- The same as facts. A composition of lists rises and is valid too, and may pass 64 words.
 

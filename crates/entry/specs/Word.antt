@@ -1,8 +1,8 @@
 -- The entry word of document 01, "What the unit holds": kind 1 bit, offer 31 bits, price 32 bits, most significant first.
 -- Assumes nothing.
 use mathlib.Core.Path.{_≡_}
-use mathlib.Core.Bool.{Bool, _&&_, _||_}
-use Prim.Native.Nat.{ℕ, _+_, _*_, _/_, _%_, _^_, _≤_}
+use mathlib.Core.Bool.{Bool, cond, _&&_, _||_}
+use Prim.Native.Nat.{ℕ, _+_, _-_, _*_, _/_, _%_, _^_, _≤_}
 use lib.Dec.{eqb}
 
 -- the fields of a word
@@ -14,6 +14,10 @@ offerOf w = w / 2 ^ 32 % 2 ^ 31
 
 abbrev pub priceOf : ℕ → ℕ
 priceOf w = w % 2 ^ 32
+
+-- kind and offer as one number
+abbrev pub keyOf : ℕ → ℕ
+keyOf w = w / 2 ^ 32
 
 -- the word of a kind, an offer and a price
 abbrev pub wordOf : ℕ → ℕ → ℕ → ℕ
@@ -40,3 +44,11 @@ validB w = isPut w || eqb (kindOf w) 0 && eqb (priceOf w) 0
 
 abbrev pub Valid : ℕ → Type 0
 Valid w = (kindOf w ≤ 1) × (kindOf w ≡ 0 → priceOf w ≡ 0)
+
+-- a number whose kind bit says that a test passed
+abbrev pub markOf : Bool → ℕ
+markOf b = cond b 1 0
+
+-- a number whose kind bit is 1 exactly when the offer of w lies above that of v: the distance of their offers, from the largest offer on
+abbrev pub riseOf : ℕ → ℕ → ℕ
+riseOf v w = (offerOf w + (2 ^ 31 - 1 - offerOf v)) * 2 ^ 32

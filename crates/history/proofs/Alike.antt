@@ -9,7 +9,7 @@ use Rattle.entry.specs.Word.{offerOf}
 use Rattle.changes.specs.declared.search.Found.{Found}
 use Rattle.changes.specs.declared.search.Found.the-variants.{Word, Nothing}
 use Rattle.changes.specs.Calculus.{find}
-use Rattle.layout.specs.View.{Limits}
+use Rattle.views.specs.View.{Limits}
 use Rattle.history.specs.Calls.{Call, lookUp, commit, rollBack, flush, issue, forward, release, writeImage, Reply, done, forwarded, acceptedCalls, quotes}
 use Rattle.history.specs.Plain.{Verdict, accept, refuse, replyBy, leftBy, Line, Place, closed, reading, Plain, mapAt, shown, quoted, offersIn, grown, cutAbove, withPlace, checked, given, changed, loadedPlain}
 use Rattle.history.specs.Runs.{plainReplies}

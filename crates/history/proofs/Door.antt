@@ -12,15 +12,15 @@ use Rattle.grounds.specs.declared.Quote.{Quote}
 use Rattle.grounds.specs.declared.Quote.the-variants.{Price, NoPrice, Refused as Unquoted}
 use Rattle.grounds.specs.declared.Written.{Written}
 use Rattle.grounds.specs.declared.Written.the-variants.{Count, Refused as Unwritten}
-use Rattle.layout.specs.View.{Store}
-use Rattle.reads.specs.Forward.{forwardCheck, forwardReads}
-use Rattle.reads.specs.Issue.{issueCheck, issueList}
-use Rattle.reads.specs.LookUp as LookUp
-use Rattle.reads.specs.Release.{releaseCheck}
+use Rattle.views.specs.View.{Store}
+use Rattle.forwards.specs.Forward.{forwardCheck, forwardReads}
+use Rattle.issues.specs.Issue.{issueCheck, issueList}
+use Rattle.lookups.specs.LookUp as LookUp
+use Rattle.releases.specs.Release.{releaseCheck}
 use Rattle.snapshot.specs.Calls.{writeAnswer, writeBytes}
-use Rattle.steps.specs.Commit.{commitCheck}
-use Rattle.steps.specs.Flush.{flushCheck}
-use Rattle.steps.specs.RollBack.{rollCheck}
+use Rattle.commits.specs.Commit.{commitCheck}
+use Rattle.flushes.specs.Flush.{flushCheck}
+use Rattle.rollbacks.specs.RollBack.{rollCheck}
 use Rattle.history.specs.Calls.{Call, lookUp, commit, rollBack, flush, issue, forward, release, writeImage, Reply, Turn}
 use Rattle.history.specs.Door.{actedReply, doorReply, doorTurn}
 use Rattle.history.specs.Served.{replyOr, quoteReply, writtenReply, serve}

@@ -10,15 +10,15 @@ use lib.Dec.{ltb}
 use lib.ListN.{length}
 use Rattle.grounds.specs.declared.Outcome.the-variants.{Done}
 use Rattle.grounds.specs.First.{ifDone}
-use Rattle.layout.specs.States.{mapHere}
-use Rattle.layout.specs.Trim.{trimmed, trimmedHead, trimmedJournal}
-use Rattle.layout.specs.View.{Store, View, padded, encode, decode, Good, mapAt as viewMapAt}
-use Rattle.layout.proofs.Sounds.{Sound}
-use Rattle.layout.proofs.States.{map-is}
-use Rattle.layout.proofs.Views.{encoded-sound}
-use Rattle.steps.specs.Flush.{flushCheck, flushedHead, flushTable, flushJournal, flushHead}
+use Rattle.views.specs.States.{mapHere}
+use Rattle.views.specs.Trim.{trimmed, trimmedHead, trimmedJournal}
+use Rattle.views.specs.View.{Store, View, padded, encode, decode, Good, mapAt as viewMapAt}
+use Rattle.views.proofs.Sounds.{Sound}
+use Rattle.views.proofs.States.{map-is}
+use Rattle.views.proofs.Views.{encoded-sound}
+use Rattle.flushes.specs.Flush.{flushCheck, flushedHead, flushTable, flushJournal, flushHead}
 use Rattle.steps.specs.StepViews.{flushedView}
-use Rattle.steps.proofs.Flushing.{FlushOk, flush-ok}
+use Rattle.flushes.proofs.Flushing.{FlushOk, flush-ok}
 use Rattle.steps.proofs.OnViews.{flush-leaves, flush-leaves-good}
 use Rattle.history.specs.Calls.{flush, Turn, done}
 use Rattle.history.specs.Plain.{Ground, met, accept, firstOf, Plain, tipOf, mapAt, floorOf, checked, changed}

@@ -11,12 +11,9 @@ use lib.Seq.{take-all, take-suc, take-add, take-take, take-append-le, drop-appen
 use Rattle.changes.specs.Calculus.{apply, compose, composeAll}
 use Rattle.changes.specs.Lists.{listB, From, All, Changes, Map}
 use Rattle.changes.proofs.Applying.{compose-all-nil, compose-all-one}
+use Rattle.changes.proofs.Each.{IsList, list-changes, all-changes, all-at, all-take, all-drop, all-more}
 use Rattle.changes.proofs.Laws.{apply-zero, apply-twice, apply-map, run-changes, run-split}
-use Rattle.changes.proofs.ListTest.{list-facts}
 use Rattle.history.specs.Plain.{Line, tipOf, mapAt, grown, cutAbove}
-
-abbrev pub IsList : List ℕ → Type 0
-IsList d = listB d ≡ true
 
 -- each map is the one before it with the list beside it applied, and the lists keep their rules
 pub record Whole (l : Line) : Type 0 where
@@ -24,41 +21,6 @@ pub record Whole (l : Line) : Type 0 where
   pub first : Map (getD (l .maps) 0 [])
   pub lists : All IsList (l .lists)
   pub next : (k : ℕ) → k < length (l .lists) → getD (l .maps) (suc k) [] ≡ apply (getD (l .maps) k []) (getD (l .lists) k [])
-
--- what holds of each element
-module _ {A : Type 0} (P : A → Type 0) where
-  all-at : (l : List A) (d : A) (k : ℕ) → All P l → k < length l → P (getD l k d)
-  unfolding All
-  all-at [] d k h i = absurd (omega arith)
-  all-at (x ∷ l) d zero h i = h .0
-  all-at (x ∷ l) d (suc k) h i = all-at l d k (h .1) (omega arith)
-
-  all-take : (n : ℕ) (l : List A) → All P l → All P (take n l)
-  unfolding All
-  all-take zero l h = tt
-  all-take (suc n) [] h = tt
-  all-take (suc n) (x ∷ l) h = (h .0, all-take n l (h .1))
-
-  pub all-drop : (n : ℕ) (l : List A) → All P l → All P (drop n l)
-  unfolding All
-  all-drop zero l h = h
-  all-drop (suc n) [] h = tt
-  all-drop (suc n) (x ∷ l) h = all-drop n l (h .1)
-
-  all-more : (l : List A) (x : A) → All P l → P x → All P (l ++ (x ∷ []))
-  unfolding All
-  all-more [] x h e = (e, tt)
-  all-more (y ∷ l) x h e = (h .0, all-more l x (h .1) e)
-
-list-changes : (d : List ℕ) → IsList d → Changes d
-list-changes d e =
-    let f = list-facts d e in
-    record { rises = f .1; valid = f .2 }
-
-all-changes : (ds : List (List ℕ)) → All IsList ds → All Changes ds
-unfolding All
-all-changes [] h = tt
-all-changes (d ∷ ds) h = (list-changes d (h .0), all-changes ds (h .1))
 
 -- the lists that lead from a state to a later one
 unfoldable pub slice : Line → ℕ → ℕ → List (List ℕ)

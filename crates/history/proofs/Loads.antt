@@ -15,7 +15,7 @@ use Rattle.grounds.proofs.Firsts.{first-not}
 use Rattle.image.specs.Image.{imageB, numberIn, wordsIn}
 use Rattle.image.proofs.Words.{words-in-length}
 use Rattle.layout.specs.Sound.{lengthsB}
-use Rattle.layout.specs.View.{Store, encode, Good}
+use Rattle.views.specs.View.{Store, encode, Good}
 use Rattle.layout.proofs.Holds.{first-holds, all-none}
 use Rattle.snapshot.specs.Calls.{loadOutcome}
 use Rattle.snapshot.specs.FreshView.{freshView}

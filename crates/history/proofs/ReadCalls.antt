@@ -13,7 +13,7 @@ use Rattle.entry.specs.Word.{offerOf, noneOf}
 use Rattle.changes.specs.declared.search.Found.{Found}
 use Rattle.changes.specs.declared.search.Found.the-variants.{Word, Nothing}
 use Rattle.changes.specs.Calculus.{find, composeAll}
-use Rattle.changes.specs.Lists.{listB, Map}
+use Rattle.changes.specs.Lists.{listB, noPutB, Map}
 use Rattle.changes.specs.ReadSets.{foundOr, readOf, over}
 use Rattle.changes.proofs.Laws.{read-changed, read-changes, changes-test}
 use Rattle.changes.proofs.ListTest.{list-facts}
@@ -23,17 +23,19 @@ use Rattle.grounds.specs.First.{ifDone}
 use Rattle.grounds.proofs.Firsts.{new-is}
 use Rattle.image.specs.Image.{imageOf}
 use Rattle.image.proofs.RoundTrip.{image-length}
-use Rattle.layout.specs.States.{mapHere}
-use Rattle.layout.specs.Trim.{trimmed, trimmedHead, trimmedJournal}
-use Rattle.layout.specs.View.{Store, View, Slot, closed as shutSlot, holding, issuedOf, heldSteps, encode, decode, Good, mapAt as viewMapAt}
-use Rattle.reads.specs.Forward.{forwardCheck, forwardReads, forwardHead, forwardJournal, stepsFor}
-use Rattle.reads.specs.Issue.{noPutB, issueCheck, issueHead, issueList}
-use Rattle.reads.specs.LookUp.{lookUpCheck, quoteOf, quoteOr}
-use Rattle.reads.specs.LookUp as LookUp
+use Rattle.views.specs.States.{mapHere}
+use Rattle.views.specs.Trim.{trimmed, trimmedHead, trimmedJournal}
+use Rattle.views.specs.View.{Store, View, Slot, closed as shutSlot, holding, issuedOf, heldSteps, encode, decode, Good, mapAt as viewMapAt}
+use Rattle.forwards.specs.Forward.{forwardCheck, forwardReads, forwardHead, forwardJournal, stepsFor}
+use Rattle.issues.specs.Issue.{issueCheck, issueHead, issueList}
+use Rattle.lookups.specs.LookUp.{lookUpCheck, quoteOf, quoteOr}
+use Rattle.lookups.specs.LookUp as LookUp
 use Rattle.reads.specs.OnView.{withSlot, between}
-use Rattle.reads.specs.Release.{releaseCheck, releaseHead, releaseJournal}
-use Rattle.reads.specs.Slots.{opened, shut}
-use Rattle.reads.proofs.Accepted.{LookUpOk, look-up-ok, IssueOk, issue-ok, ForwardOk, forward-ok}
+use Rattle.releases.specs.Release.{releaseCheck, releaseHead, releaseJournal}
+use Rattle.slots.specs.Slots.{opened, shut}
+use Rattle.lookups.proofs.Accepted.{LookUpOk, look-up-ok}
+use Rattle.issues.proofs.Accepted.{IssueOk, issue-ok}
+use Rattle.forwards.proofs.Accepted.{ForwardOk, forward-ok}
 use Rattle.reads.proofs.ClosingViews.{release-leaves, release-good, forward-leaves, forward-good, forward-slot, forward-shows}
 use Rattle.reads.proofs.OnViews.{look-up-shows, issue-leaves, issue-good, issue-shows}
 use Rattle.snapshot.specs.Calls.{writeCheck, countOr, imageHere, writeAnswer, writeBytes}

@@ -14,11 +14,12 @@ use Rattle.grounds.specs.declared.Outcome.the-variants.{Done}
 use Rattle.grounds.specs.declared.Refusal.the-variants.{StateRange}
 use Rattle.grounds.specs.First.{ifDone}
 use Rattle.layout.specs.Sound.{heldOf}
-use Rattle.layout.specs.View.{Store, View, flat, encode, Good}
-use Rattle.steps.specs.Commit.{usedOf, commitCheck, withList, withStep, commitJournal, commitHead}
-use Rattle.steps.specs.RollBack.{rollCheck, keptOf, cutAt, cutTo, rollJournal, rollHead}
+use Rattle.views.specs.View.{Store, View, flat, encode, Good}
+use Rattle.commits.specs.Commit.{usedOf, commitCheck, withList, withStep, commitJournal, commitHead}
+use Rattle.rollbacks.specs.RollBack.{rollCheck, keptOf, cutAt, cutTo, rollJournal, rollHead}
 use Rattle.steps.specs.StepViews.{commitView, rollView}
-use Rattle.steps.proofs.Accepted.{CommitOk, commit-ok, RollOk, roll-ok}
+use Rattle.commits.proofs.Accepted.{CommitOk, commit-ok}
+use Rattle.rollbacks.proofs.Accepted.{RollOk, roll-ok}
 use Rattle.steps.proofs.OnViews.{commit-leaves, commit-leaves-good, roll-leaves, roll-leaves-good}
 use Rattle.history.specs.Calls.{commit, rollBack, Turn, done}
 use Rattle.history.specs.Plain.{Ground, met, accept, firstOf, Plain, tipOf, floorOf, heldLists, checked, changed, withLine, grown, cutAbove}

@@ -14,10 +14,10 @@ use Rattle.grounds.specs.First.{Ground, met, first}
 use Rattle.grounds.specs.Numbers.{numberOf}
 use Rattle.grounds.proofs.Firsts.{first-not}
 use Rattle.layout.specs.Sound.{lengthsB, soundB, heldOf}
-use Rattle.layout.specs.View.{Store, View, flat, encode, decode, Shaped}
-use Rattle.layout.proofs.Sounds.{facts-sound}
-use Rattle.layout.proofs.Views.{encoded-shaped, encoded-sound, decoded}
-use Rattle.steps.specs.Commit.{usedOf}
+use Rattle.views.specs.View.{Store, View, flat, encode, decode, Shaped}
+use Rattle.views.proofs.Sounds.{facts-sound}
+use Rattle.views.proofs.Views.{encoded-shaped, encoded-sound, decoded}
+use Rattle.commits.specs.Commit.{usedOf}
 use Rattle.steps.proofs.CommitViews.{held-is, used-is}
 use Rattle.history.specs.Calls.{Call, Turn}
 use Rattle.history.specs.Plain.{Ground as Test, met as asked, Verdict, accept, refuse, firstOf, replyBy, leftBy, Plain, tipOf, floorOf, heldLists, openAt, checked, given, changed}

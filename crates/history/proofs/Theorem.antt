@@ -8,7 +8,7 @@ use lib.ListN.{length, getD, set, replicate}
 use Rattle.entry.specs.Word.{offerOf}
 use Rattle.grounds.specs.declared.Outcome.{Outcome}
 use Rattle.grounds.specs.declared.Outcome.the-variants.{Done, Refused}
-use Rattle.layout.specs.View.{Store}
+use Rattle.views.specs.View.{Store}
 use Rattle.snapshot.specs.Calls.{loadOutcome}
 use Rattle.history.specs.Calls.{Call, lookUp, commit, rollBack, flush, issue, forward, release, writeImage, Reply, refused, done, Turn, acceptedCalls, quotes}
 use Rattle.history.specs.Condition3.{InRange, AnswersAsPlain, QuotesAlike, Condition3}

@@ -11,9 +11,9 @@ use Rattle.entry.specs.Word.{offerOf}
 use Rattle.changes.specs.Calculus.{apply, composeAll}
 use Rattle.changes.specs.Lists.{All}
 use Rattle.layout.specs.Sound.{lengthsB}
-use Rattle.layout.specs.Trim.{trimmed}
-use Rattle.layout.specs.View.{View, Slot, closed as shut, holding, openOf, heldSteps, leastSlot, NotAbove, Good, mapAt as viewMapAt}
-use Rattle.layout.proofs.SlotLists.{least-most}
+use Rattle.views.specs.Trim.{trimmed}
+use Rattle.views.specs.View.{View, Slot, closed as shut, holding, openOf, heldSteps, leastSlot, NotAbove, Good, mapAt as viewMapAt}
+use Rattle.views.proofs.SlotLists.{least-most}
 use Rattle.reads.specs.OnView.{withSlot, between}
 use Rattle.reads.proofs.SlotSets.{least-set, least-shut}
 use Rattle.steps.specs.StepViews.{commitView, rollView, flushedView}

@@ -11,7 +11,7 @@ use mathlib.Core.Path.{_≡_}
 use mathlib.Core.List.{List}
 use Prim.Native.Nat.{ℕ, _≤_}
 use lib.ListN.{length}
-use Rattle.layout.specs.View.{Store}
+use Rattle.views.specs.View.{Store}
 use Rattle.history.specs.Calls.{done, acceptedCalls, quotes}
 use Rattle.history.specs.Runs.{Asked, storeRun, plainRun, callsOf, lengthsOf}
 

@@ -9,7 +9,7 @@ use Rattle.calls.specs.declared.call.Call.{Call as DoorCall}
 use Rattle.calls.specs.declared.call.Call.the-variants.{LookUp, Commit, RollBack, Flush, Issue, Forward, Release, WriteImage}
 use Rattle.calls.specs.Calls.{answerTo, headAfter, tableAfter, journalAfter, wordsAfter, bytesAfter}
 use Rattle.grounds.specs.Numbers.{numberOf}
-use Rattle.layout.specs.View.{Store}
+use Rattle.views.specs.View.{Store}
 use Rattle.history.specs.Calls.{Call, lookUp, commit, rollBack, flush, issue, forward, release, writeImage, Reply, refused, done, price, noPrice, filled, forwarded, written, Turn}
 
 -- the call with its numbers

@@ -11,11 +11,10 @@ use Rattle.entry.specs.Word.{offerOf, priceOf, noneOf}
 use Rattle.changes.specs.declared.search.Found.{Found}
 use Rattle.changes.specs.declared.search.Found.the-variants.{Word, Nothing}
 use Rattle.changes.specs.Calculus.{find, apply}
-use Rattle.changes.specs.Lists.{listB}
+use Rattle.changes.specs.Lists.{listB, noPutB}
 use Rattle.changes.specs.ReadSets.{foundOr}
 use Rattle.image.specs.Image.{imageB, numberIn, wordsIn, imageOf}
-use Rattle.layout.specs.View.{Limits, flat}
-use Rattle.reads.specs.Issue.{noPutB}
+use Rattle.views.specs.View.{Limits, flat}
 use Rattle.history.specs.Calls.{Call, lookUp, commit, rollBack, flush, issue, forward, release, writeImage, Reply, done, price, noPrice, filled, forwarded, written, refused, Turn}
 
 -- a ground's test, which says whether it is met, with its number

@@ -7,7 +7,7 @@ use lib.ListN.{length, getD, set, replicate}
 use Rattle.grounds.specs.declared.Outcome.{Outcome}
 use Rattle.grounds.specs.declared.Outcome.the-variants.{Done, Refused}
 use Rattle.grounds.specs.Numbers.{numberOf}
-use Rattle.layout.specs.View.{Store, Limits}
+use Rattle.views.specs.View.{Store, Limits}
 use Rattle.snapshot.specs.Calls.{loadOutcome}
 use Rattle.history.specs.Calls.{Call, lookUp, commit, rollBack, flush, issue, forward, release, writeImage, Reply, refused, done, price, noPrice, filled, forwarded, written, acceptedB}
 use Rattle.history.specs.Plain.{Verdict, accept, refuse, Plain, plainTurn, loadChecked, loadedPlain}

@@ -10,15 +10,15 @@ use Rattle.grounds.specs.declared.Quote.the-variants.{Price, NoPrice, Refused a
 use Rattle.grounds.specs.declared.Written.{Written}
 use Rattle.grounds.specs.declared.Written.the-variants.{Count, Refused as Unwritten}
 use Rattle.grounds.specs.Numbers.{numberOf}
-use Rattle.layout.specs.View.{Store}
-use Rattle.reads.specs.Forward.{forwardCheck, forwardReads, forwardHead, forwardJournal}
-use Rattle.reads.specs.Issue.{issueCheck, issueHead, issueList}
-use Rattle.reads.specs.LookUp as LookUp
-use Rattle.reads.specs.Release.{releaseCheck, releaseHead, releaseJournal}
+use Rattle.views.specs.View.{Store}
+use Rattle.forwards.specs.Forward.{forwardCheck, forwardReads, forwardHead, forwardJournal}
+use Rattle.issues.specs.Issue.{issueCheck, issueHead, issueList}
+use Rattle.lookups.specs.LookUp as LookUp
+use Rattle.releases.specs.Release.{releaseCheck, releaseHead, releaseJournal}
 use Rattle.snapshot.specs.Calls.{loadTable, loadJournal, loadHead, writeAnswer, writeBytes}
-use Rattle.steps.specs.Commit.{commitCheck, commitJournal, commitHead}
-use Rattle.steps.specs.Flush.{flushCheck, flushTable, flushJournal, flushHead}
-use Rattle.steps.specs.RollBack.{rollCheck, rollJournal, rollHead}
+use Rattle.commits.specs.Commit.{commitCheck, commitJournal, commitHead}
+use Rattle.flushes.specs.Flush.{flushCheck, flushTable, flushJournal, flushHead}
+use Rattle.rollbacks.specs.RollBack.{rollCheck, rollJournal, rollHead}
 use Rattle.history.specs.Calls.{Call, lookUp, commit, rollBack, flush, issue, forward, release, writeImage, Reply, refused, done, price, noPrice, filled, forwarded, written, Turn}
 
 -- what an accepted call is answered, or the number of the ground

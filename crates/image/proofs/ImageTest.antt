@@ -1,14 +1,15 @@
 -- The test of an image, clause by clause, as facts, and as a loop meets it.
 -- Assumes nothing.
-use mathlib.Core.Path.{_≡_, sym, _∙_, ap}
+use mathlib.Core.Path.{_≡_, sym, _∙_, ap, subst}
 use mathlib.Core.Bool.{true, false, _&&_}
 use mathlib.Core.List.{List, _∷_}
 use Prim.Native.Nat.{ℕ, _+_, _-_, _*_, _≤_, _<_, _^_}
+use native.Mathlib.Decide.{ℕ-discrete}
 use native.Mathlib.Omega.{arith}
 use borrow.Author.Tests.{eq-eqb, ne-eqb, eqb-true, le-leb, lt-leb, leb-true}
 use lib.Dec.{eqb, leb}
 use lib.ListN.{length, take, drop}
-use Rattle.entry.specs.Word.{kindOf, offerOf}
+use Rattle.entry.specs.Word.{kindOf, offerOf, keyOf}
 use Rattle.changes.specs.Lists.{mapB, Map}
 use Rattle.changes.proofs.ListTest.{and-both}
 use Rattle.changes.proofs.MapTest.{map-none, map-not-put, map-below, map-next, map-facts, facts-map}
@@ -90,3 +91,31 @@ module _ {b : List ℕ} {least i : ℕ} (t : Testing b least i) where
           small = omega arith;
           left = sym (map-next least w _ k o) ∙ here;
         }
+
+-- The loop carries the last key, which is the bound on offers less one, of kind 1.
+pub record Keyed (b : List ℕ) (last i : ℕ) : Type 0 where
+  pub least : 2 ^ 31 ≤ last + 1
+  pub most : last < 2 ^ 32
+  pub tested : Testing b (last + 1 - 2 ^ 31) i
+
+pub keyed-all : (b : List ℕ) → 6 ≤ length b → length b ≡ 6 + 8 * countIn b → Keyed b (2 ^ 31 - 1) 0
+keyed-all b l e = record { least = omega arith; most = omega arith; tested = testing-all b l e }
+
+module _ {b : List ℕ} {last i : ℕ} (t : Keyed b last i) (h : i < countIn b) (w : ℕ) (small : w < 2 ^ 64) (e : w ≡ valueOf (take 8 (drop (6 + 8 * i) b))) where
+  pub key-falls : keyOf w ≤ last → imageB b ≡ false
+  key-falls k = go (ℕ-discrete (kindOf w) 1)
+    where
+      go : Dec (kindOf w ≡ 1) → imageB b ≡ false
+      go (yes p) = test-below (t .tested) h w e p (omega (arith, t .least))
+      go (no p) = test-not-put (t .tested) h w e p
+
+  pub key-rises : last < keyOf w → Keyed b (keyOf w) (i + 1)
+  key-rises k =
+      let puts : kindOf w ≡ 1 = omega (arith, t .least) in
+      let next : Testing b (offerOf w + 1) (i + 1) = test-next (t .tested) h w e puts (omega (arith, t .least)) in
+      let bound : offerOf w + 1 ≡ keyOf w + 1 - 2 ^ 31 = omega (arith, t .least) in
+      record {
+        least = omega (arith, t .least);
+        most = omega arith;
+        tested = subst (λ (n : ℕ). Testing b n (i + 1)) bound next;
+      }

@@ -8,24 +8,11 @@ use lib.ListN.{length, take, drop, length-append, length-drop, take-append-drop}
 use lib.Seq.{take-at, drop-at, take-add, length-take-le}
 use Rattle.entry.specs.Word.{Put}
 use Rattle.changes.specs.Lists.{All}
+use Rattle.changes.proofs.Each.{all-take, all-drop}
 use Rattle.image.specs.Bytes.{bytesOf, valueOf, Byte}
 use Rattle.image.specs.Image.{wordBytes, imageOf, wordsOf, numberIn, countIn, wordsIn}
 use Rattle.image.proofs.Bytes.{length-bytes, value-of-bytes, bytes-of-value}
 use Rattle.image.proofs.Words.{word-bytes-length, image-parts, words-in-length}
-
--- what holds of each element of a list holds of each of a part
-module _ (P : ℕ → Type 0) where
-  all-take : (k : ℕ) (l : List ℕ) → All P l → All P (take k l)
-  unfolding All
-  all-take zero l h = tt
-  all-take (suc k) [] h = tt
-  all-take (suc k) (x ∷ l) h = (h .0, all-take k l (h .1))
-
-  all-drop : (k : ℕ) (l : List ℕ) → All P l → All P (drop k l)
-  unfolding All
-  all-drop zero l h = h
-  all-drop (suc k) [] h = tt
-  all-drop (suc k) (x ∷ l) h = all-drop k l (h .1)
 
 -- words, to bytes and back
 pub words-back : (l : List ℕ) → All Put l → wordsOf (length l) (wordBytes l) ≡ l

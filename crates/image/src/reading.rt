@@ -38,18 +38,14 @@ pub fn is_image(bytes: &[u8]) -> bool
     if bytes.len() != HEADER_BYTES + WORD_BYTES * count {
         return false;
     }
-    let mut least = 0;
+    let mut last = Entry::LAST_REMOVAL;
     let mut i = 0;
     while i < count {
-        let word = u64_at(bytes, HEADER_BYTES + WORD_BYTES * i);
-        if Entry::kind_of(word) != Entry::PUT {
+        let key = Entry::key_of(u64_at(bytes, HEADER_BYTES + WORD_BYTES * i));
+        if key <= last {
             return false;
         }
-        let offer = Entry::offer_of(word);
-        if offer < least {
-            return false;
-        }
-        least = offer + 1;
+        last = key;
         i += 1;
     }
     true

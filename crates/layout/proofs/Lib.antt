@@ -1,11 +1,4 @@
 pub mod HeadTests
 pub mod Holds
-mod Moving
-pub mod SlotLists
-pub mod Sounds
-pub mod States
-pub mod StepLists
 pub mod StepTests
-pub mod Trims
-pub mod Views
 pub mod WordTests

@@ -1,11 +1,13 @@
 -- The tests of words, clause by clause, as facts, and as a loop meets them.
 -- Assumes nothing.
-use mathlib.Core.Path.{_≡_, refl, ap, _∙_}
-use mathlib.Core.Bool.{Bool, true, false, cond}
+use mathlib.Core.Path.{_≡_, refl, sym, ap, ap₂, _∙_}
+use mathlib.Core.Bool.{Bool, true, false, cond, _&&_}
 use mathlib.Core.List.{List, [], _∷_}
 use Prim.Native.Nat.{ℕ, zero, suc, _+_, _≤_, _<_, min}
+use native.Mathlib.Decide.{ℕ-discrete}
 use native.Mathlib.Omega.{arith}
 use borrow.Author.Tests.{eq-eqb, ne-eqb, eqb-true}
+use lib.Bits.{bitOr, or-add-and, and-le-l, and-le-r}
 use lib.Dec.{eqb}
 use lib.ListN.{length, getD, drop, replicate, drop-of-length-le}
 use lib.Seq.{drop-cons}
@@ -19,10 +21,6 @@ unfolding zerosB
 zeros-none = refl
 
 module _ (w : ℕ) (l : List ℕ) where
-  pub zeros-stop : (w ≡ 0 → ⊥) → zerosB (w ∷ l) ≡ false
-  unfolding zerosB
-  zeros-stop n = rw (ne-eqb w 0 n)
-
   pub zeros-on : w ≡ 0 → zerosB (w ∷ l) ≡ zerosB l
   unfolding zerosB
   zeros-on e = rw (eq-eqb w 0 e)
@@ -40,17 +38,38 @@ pub fact-zeros : (n : ℕ) → zerosB (replicate n 0) ≡ true
 fact-zeros zero = zeros-none
 fact-zeros (suc n) = zeros-on 0 (replicate n 0) refl ∙ fact-zeros n
 
--- from a place on, as a loop meets it
-module _ (l : List ℕ) (i : ℕ) where
-  pub zeros-at-end : length l ≤ i → zerosB (drop i l) ≡ true
-  zeros-at-end h = ap zerosB (drop-of-length-le l h) ∙ zeros-none
+-- words joined by `or` are zero when each of them is
+or-zero : (a b : ℕ) → eqb (bitOr a b) 0 ≡ eqb a 0 && eqb b 0
+or-zero a b = go (ℕ-discrete a 0) (ℕ-discrete b 0)
+  where
+    go : Dec (a ≡ 0) → Dec (b ≡ 0) → eqb (bitOr a b) 0 ≡ eqb a 0 && eqb b 0
+    go (yes p) (yes q) =
+        let none : bitOr a b ≡ 0 = ap₂ bitOr p q in
+        rw (eq-eqb (bitOr a b) 0 none, eq-eqb a 0 p, eq-eqb b 0 q)
+    go (yes p) (no q) =
+        rw (ne-eqb (bitOr a b) 0 (λ e. q (omega (arith, or-add-and a b, and-le-l a b))), eq-eqb a 0 p, ne-eqb b 0 q)
+    go (no p) q =
+        rw (ne-eqb (bitOr a b) 0 (λ e. p (omega (arith, or-add-and a b, and-le-r a b))), ne-eqb a 0 p)
 
-  module _ (h : i < length l) where
-    pub zeros-at-stop : (getD l i 0 ≡ 0 → ⊥) → zerosB (drop i l) ≡ false
-    zeros-at-stop n = ap zerosB (next l i h) ∙ zeros-stop (getD l i 0) (drop (i + 1) l) n
+and-assoc : (a b c : Bool) → (a && b) && c ≡ a && (b && c)
+and-assoc true b c = refl
+and-assoc false b c = refl
 
-    pub zeros-at-on : getD l i 0 ≡ 0 → zerosB (drop i l) ≡ zerosB (drop (i + 1) l)
-    zeros-at-on e = ap zerosB (next l i h) ∙ zeros-on (getD l i 0) (drop (i + 1) l) e
+and-true : (a : Bool) → a && true ≡ a
+and-true true = refl
+and-true false = refl
+
+-- what a loop has joined, and what is left from a place on
+module _ (l : List ℕ) (seen i : ℕ) where
+  pub zeros-joined : length l ≤ i → eqb seen 0 && zerosB (drop i l) ≡ eqb seen 0
+  zeros-joined h = ap (λ (b : Bool). eqb seen 0 && b) (ap zerosB (drop-of-length-le l h) ∙ zeros-none) ∙ and-true (eqb seen 0)
+
+  pub zeros-join : i < length l → eqb (bitOr seen (getD l i 0)) 0 && zerosB (drop (i + 1) l) ≡ eqb seen 0 && zerosB (drop i l)
+  unfolding zerosB
+  zeros-join h =
+      ap (λ (b : Bool). b && zerosB (drop (i + 1) l)) (or-zero seen (getD l i 0))
+      ∙ and-assoc (eqb seen 0) (eqb (getD l i 0) 0) (zerosB (drop (i + 1) l))
+      ∙ ap (λ (l : List ℕ). eqb seen 0 && zerosB l) (sym (next l i h))
 
 -- the least of a number and the marked numbers
 pub least-none : (c : ℕ) (numbers : List ℕ) → least c [] numbers ≡ c

@@ -2,4 +2,3 @@
 // "What the unit holds").
 pub mod head;
 pub mod sound;
-pub mod trim;

@@ -32,18 +32,17 @@ pub fn lengths_fit(table: usize, journal: usize) -> bool
     journal <= JOURNAL_WORDS
 }
 
-// Whether all words are zero.
+// Whether all words are zero: joined by `|`, so that the compiler can take several words in a turn.
 pub fn is_zero(words: &[u64]) -> bool
     ensures { λ r. ⌜ r ≡ zerosB (now (words .entry)) ⌝ }
 {
+    let mut seen = 0;
     let mut i = 0;
     while i < words.len() {
-        if words[i] != 0 {
-            return false;
-        }
+        seen = seen | words[i];
         i += 1;
     }
-    true
+    seen == 0
 }
 
 fn is_table(table: &[u64], used: usize) -> bool
@@ -117,14 +116,13 @@ fn are_unused(ends: &[usize], n: usize) -> bool
     requires { ⌜ n ≤ length (now ends) ⌝ }
     ensures { λ r. ⌜ r ≡ zerosB (drop n (now (ends .entry))) ⌝ }
 {
+    let mut seen = 0;
     let mut k = n;
     while k < ends.len() {
-        if ends[k] != 0 {
-            return false;
-        }
+        seen = seen | ends[k];
         k += 1;
     }
-    true
+    seen == 0
 }
 
 fn slot_fits(is_open: bool, number: u32, checkpoint: u32) -> bool

@@ -15,8 +15,8 @@ use Rattle.grounds.proofs.Firsts.{new-is}
 use Rattle.image.specs.Image.{countIn, numberIn, wordsIn}
 use Rattle.image.proofs.Words.{words-in-length}
 use Rattle.layout.specs.declared.head.Head.{Head}
-use Rattle.layout.specs.View.{padded}
-use Rattle.layout.proofs.Views.{padded-length}
+use Rattle.views.specs.View.{padded}
+use Rattle.views.proofs.Views.{padded-length}
 use Rattle.listing_text.specs.Listing.{textOf, refusalText}
 use Rattle.snapshot.specs.Calls.{loadCheck, loadOutcome, loadHead, loadTable}
 use Rattle.snapshot.specs.Fresh.{freshHead}

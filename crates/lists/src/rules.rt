@@ -1,21 +1,11 @@
-// The rules of a list (document 01, "What the unit holds").
+// The rules of a list (document 01, "What the unit holds"). A scan joins what it finds of each word in one bit and leaves at
+// its end alone, so that the compiler can take several words in a turn.
 use entry::Entry;
 ghost use mathlib.Core.Path.{_≡_};
-ghost use Rattle.entry.specs.Word.{validB};
 ghost use Rattle.changes.specs.Lists.{listB, mapB};
 
 // The most words that a list given by a caller has.
 pub const LIST_WORDS: usize = 64;
-
-// A word of kind 1, or of kind 0 with price 0.
-fn is_valid(word: u64) -> bool
-    ensures { λ r. ⌜ r ≡ validB word ⌝ }
-{
-    if Entry::kind_of(word) == Entry::PUT {
-        return true;
-    }
-    Entry::price_of(word) == 0
-}
 
 // Whether the words are a list: at most 64, each valid, with strictly rising offers.
 pub fn is_list(words: &[u64]) -> bool
@@ -24,39 +14,31 @@ pub fn is_list(words: &[u64]) -> bool
     if LIST_WORDS < words.len() {
         return false;
     }
-    let mut least = 0;
-    let mut i = 0;
+    if words.len() == 0 {
+        return true;
+    }
+    let mut good = Entry::valid_mark(words[0]);
+    let mut i = 1;
     while i < words.len() {
-        let offer = Entry::offer_of(words[i]);
-        if offer < least {
-            return false;
-        }
-        if !is_valid(words[i]) {
-            return false;
-        }
-        least = offer + 1;
+        good = good & Entry::valid_mark(words[i]) & Entry::rise(words[i - 1], words[i]);
         i += 1;
     }
-    true
+    Entry::kind_of(good) == Entry::PUT
 }
 
-// Whether the words are a map: of kind 1, with strictly rising offers.
+// Whether the words are a map: of kind 1, with strictly rising offers. Then their keys rise from above the largest key of
+// kind 0 on.
 pub fn is_map(words: &[u64]) -> bool
     ensures { λ r. ⌜ r ≡ mapB 0 (now (words .entry)) ⌝ }
 {
-    let mut next = 0;
+    let mut good = Entry::PUT_BIT;
+    let mut last = Entry::LAST_REMOVAL;
     let mut i = 0;
     while i < words.len() {
-        let word = words[i];
-        if Entry::kind_of(word) != Entry::PUT {
-            return false;
-        }
-        let offer = Entry::offer_of(word);
-        if offer < next {
-            return false;
-        }
-        next = offer + 1;
+        let key = Entry::key_of(words[i]);
+        good = good & Entry::climb(last, key);
+        last = key;
         i += 1;
     }
-    true
+    Entry::kind_of(good) == Entry::PUT
 }

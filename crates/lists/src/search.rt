@@ -2,28 +2,47 @@
 use changes::search::Found;
 use entry::Entry;
 ghost use mathlib.Core.Path.{_≡_};
+ghost use lib.Dec.{leb};
+ghost use Rattle.entry.specs.Word.{markOf};
 ghost use Rattle.changes.specs.Calculus.{find};
 ghost use Rattle.changes.specs.Lists.{From};
+ghost use Rattle.lists.specs.Places.{OnlyAt};
 
-// The word at the offer, by halving.
+// 1 where an offer is not above another, else 0. A search multiplies by it, so that no turn of it branches.
+fn reaches(there: u32, offer: u32) -> usize
+    ensures { λ r. ⌜ r ≡ markOf (leb there offer) ⌝ }
+{
+    (((offer as u64) + (1 << 32) - (there as u64)) >> 32) as usize
+}
+
+// The place of the offer, by halving; where the words have no such offer, some place.
+pub fn place(words: &[u64], offer: u32) -> usize
+    requires { ⌜ From 0 (now words) ⌝ }
+    ensures { λ r. ⌜ OnlyAt (now (words .entry)) offer r ⌝ }
+{
+    let mut low = 0;
+    let mut size = words.len();
+    while 1 < size {
+        let half = size / 2;
+        let there = Entry::offer_of(words[low + half]);
+        low = low + half * reaches(there, offer);
+        size = size - half;
+    }
+    low
+}
+
+// The word at the offer.
 pub fn find(words: &[u64], offer: u32) -> Found
     requires { ⌜ From 0 (now words) ⌝ }
     ensures { λ r. ⌜ r ≡ find offer (now (words .entry)) ⌝ }
 {
-    let mut low = 0;
-    let mut high = words.len();
-    while low < high {
-        let middle = low + (high - low) / 2;
-        let word = words[middle];
-        let there = Entry::offer_of(word);
-        if there == offer {
-            return Found::Word(word);
-        }
-        if there < offer {
-            low = middle + 1;
-        } else {
-            high = middle;
-        }
+    let at = place(words, offer);
+    if words.len() <= at {
+        return Found::Nothing;
     }
-    Found::Nothing
+    let word = words[at];
+    if Entry::offer_of(word) != offer {
+        return Found::Nothing;
+    }
+    Found::Word(word)
 }

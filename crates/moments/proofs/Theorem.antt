@@ -4,7 +4,7 @@
 use mathlib.Core.Path.{_≡_, refl}
 use mathlib.Core.List.{map}
 use Rattle.changes.specs.Calculus.{find, compose, puts, apply, composeAll}
-use Rattle.changes.specs.Lists.{risingB, mapB}
+use Rattle.changes.specs.Lists.{risingB, mapB, noPutB}
 use Rattle.changes.specs.ReadSets.{readOf, over}
 use Rattle.changes.specs.Runs.{runOf}
 use Rattle.grounds.specs.First.{first}
@@ -17,13 +17,12 @@ use Rattle.image.specs.Bytes.{bytesOf, valueOf}
 use Rattle.image.specs.Image.{wordBytes, imageOf, wordsOf, numberIn, countIn, wordsIn, imageB}
 use Rattle.layout.specs.Sound.{soundB}
 use Rattle.layout.specs.Tests.{allB, allOf, zerosB, least}
-use Rattle.layout.specs.Trim.{trimmedHead, trimmedJournal}
+use Rattle.views.specs.Trim.{trimmedHead, trimmedJournal}
 use Rattle.snapshot.specs.Fresh.{freshHead}
-use Rattle.steps.specs.Commit.{withStep}
-use Rattle.steps.specs.Flush.{flushedHead}
-use Rattle.steps.specs.RollBack.{cutTo}
-use Rattle.reads.specs.Issue.{noPutB}
-use Rattle.reads.specs.Slots.{opened, shut}
+use Rattle.commits.specs.Commit.{withStep}
+use Rattle.flushes.specs.Flush.{flushedHead}
+use Rattle.rollbacks.specs.RollBack.{cutTo}
+use Rattle.slots.specs.Slots.{opened, shut}
 use Rattle.history.specs.Runs.{storeReplies}
 use Rattle.moments.specs.Moments.{computed, expected}
 use Rattle.moments.specs.Table.{twelve}

@@ -7,7 +7,7 @@ use Prim.Native.Nat.{ℕ, _+_, _*_, _^_}
 use lib.ListN.{length, replicate}
 use Rattle.entry.specs.Word.{putOf}
 use Rattle.grounds.specs.Numbers.{Answer}
-use Rattle.layout.specs.View.{Store}
+use Rattle.views.specs.View.{Store}
 use Rattle.batch.specs.Batches.{batch, answer, output}
 use Rattle.snapshot.specs.Calls.{clearOutcome, clearHead, clearWords}
 use Rattle.snapshot.specs.Fresh.{freshHead}

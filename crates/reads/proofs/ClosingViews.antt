@@ -14,19 +14,20 @@ use Rattle.grounds.specs.declared.Outcome.the-variants.{Done}
 use Rattle.grounds.proofs.Firsts.{new-is}
 use Rattle.layout.specs.declared.head.Head.{Head}
 use Rattle.layout.specs.Sound.{heldOf}
-use Rattle.layout.specs.States.{stepIndex, stepsBetween}
-use Rattle.layout.specs.Trim.{trimmedHead, trimmedJournal, trimmed}
-use Rattle.layout.specs.View.{Store, View, closed, holding, heldSteps, encode, decode, openOf, issuedOf, NotAbove, Good, Shaped}
-use Rattle.layout.proofs.Sounds.{Sound}
-use Rattle.layout.proofs.States.{run-middle}
-use Rattle.layout.proofs.Trims.{Nearly, trimStore, trim-leaves, trim-good}
-use Rattle.layout.proofs.Views.{restored, decoded-good}
-use Rattle.reads.specs.Forward.{forwardCheck, forwardHead, forwardJournal, forwardReads, stepsFor}
+use Rattle.views.specs.States.{stepIndex, stepsBetween}
+use Rattle.views.specs.Trim.{trimmedHead, trimmedJournal, trimmed}
+use Rattle.views.specs.View.{Store, View, closed, holding, heldSteps, encode, decode, openOf, issuedOf, NotAbove, Good, Shaped}
+use Rattle.views.proofs.Sounds.{Sound}
+use Rattle.views.proofs.States.{run-middle}
+use Rattle.views.proofs.Trims.{Nearly, trimStore, trim-leaves, trim-good}
+use Rattle.views.proofs.Views.{restored, decoded-good}
+use Rattle.forwards.specs.Forward.{forwardCheck, forwardHead, forwardJournal, forwardReads, stepsFor}
 use Rattle.reads.specs.OnView.{withSlot, between}
-use Rattle.reads.specs.Release.{releaseCheck, releaseHead, releaseJournal}
-use Rattle.reads.specs.Slots.{shut}
-use Rattle.reads.proofs.Accepted.{release-ok, ForwardOk, forward-ok}
-use Rattle.reads.proofs.Closing.{number-low, number-high}
+use Rattle.releases.specs.Release.{releaseCheck, releaseHead, releaseJournal}
+use Rattle.slots.specs.Slots.{shut}
+use Rattle.releases.proofs.Accepted.{release-ok}
+use Rattle.forwards.proofs.Accepted.{ForwardOk, forward-ok}
+use Rattle.slots.proofs.Closing.{number-low, number-high}
 use Rattle.reads.proofs.SlotSets.{held-set, issued-set, all-set, least-shut, slot-there}
 
 abbrev shutIn : ℕ → Store → Store

@@ -8,8 +8,8 @@ use Prim.Native.Nat.{ℕ, zero, suc, _≤_, _<_, min}
 use native.Mathlib.Omega.{arith}
 use lib.ListN.{length, getD, set}
 use Rattle.changes.specs.Lists.{All}
-use Rattle.layout.specs.View.{Slot, closed, holding, leastSlot, openOf, issuedOf, NotAbove}
-use Rattle.layout.proofs.SlotLists.{least-most}
+use Rattle.views.specs.View.{Slot, closed, holding, leastSlot, openOf, issuedOf, NotAbove}
+use Rattle.views.proofs.SlotLists.{least-most}
 
 -- a slot set in a list of slots, as the head has it
 pub held-set : (ss : List Slot) (k : ℕ) (s : Slot) → set (map openOf ss) k (openOf s) ≡ map openOf (set ss k s)

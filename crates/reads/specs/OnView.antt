@@ -3,7 +3,7 @@
 use mathlib.Core.List.{List}
 use Prim.Native.Nat.{ℕ, _-_}
 use lib.ListN.{length, set, take, drop}
-use Rattle.layout.specs.View.{View, Slot, heldSteps}
+use Rattle.views.specs.View.{View, Slot, heldSteps}
 
 -- a view with one slot set
 unfoldable pub withSlot : View → ℕ → Slot → View

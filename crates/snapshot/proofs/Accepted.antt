@@ -17,7 +17,7 @@ use Rattle.image.proofs.Theorems.{written-reads-back}
 use Rattle.image.proofs.Words.{words-in-length}
 use Rattle.layout.specs.declared.head.Head.{Head}
 use Rattle.layout.proofs.HeadTests.{InRange, lengths-facts}
-use Rattle.layout.proofs.Sounds.{Sound, sound-facts}
+use Rattle.views.proofs.Sounds.{Sound, sound-facts}
 use Rattle.snapshot.specs.Calls.{loadCheck, writeCheck, imageHere}
 
 -- a load

@@ -10,7 +10,7 @@ use lib.Seq.{take-at}
 use Rattle.words.proofs.Parts.{part, put-part}
 use Rattle.image.specs.Image.{countIn, wordsIn}
 use Rattle.image.proofs.Words.{words-in-length}
-use Rattle.layout.specs.View.{padded}
+use Rattle.views.specs.View.{padded}
 
 pub filled : (table image : List ℕ) (n : ℕ) (read zeros : List ℕ) → n ≡ countIn image → read ≡ wordsIn image ++ drop (countIn image) table → countIn image ≤ length table
     → zeros ≡ replicate (length (take (length read - n) (drop n read))) 0

@@ -13,9 +13,9 @@ use Rattle.grounds.proofs.Firsts.{new-is}
 use Rattle.image.specs.Image.{imageOf, countIn, numberIn, wordsIn}
 use Rattle.image.proofs.Words.{words-in-length}
 use Rattle.layout.specs.declared.head.Head.{Head}
-use Rattle.layout.specs.View.{Store, Limits, leastSlot, flat, marksFrom, padded, encode, decode, Good}
-use Rattle.layout.proofs.Sounds.{Sound}
-use Rattle.layout.proofs.Views.{encoded-sound, decoded}
+use Rattle.views.specs.View.{Store, Limits, leastSlot, flat, marksFrom, padded, encode, decode, Good}
+use Rattle.views.proofs.Sounds.{Sound}
+use Rattle.views.proofs.Views.{encoded-sound, decoded}
 use Rattle.snapshot.specs.Calls.{clearOutcome, clearHead, clearWords, loadOutcome, loadHead, loadTable, loadJournal, writeCheck, imageHere, restartHead, restartTable, restartJournal}
 use Rattle.snapshot.specs.Fresh.{freshHead}
 use Rattle.snapshot.specs.FreshView.{freshView}

@@ -21,9 +21,9 @@ use Rattle.image.proofs.Theorems.{accepted-writes-back}
 use Rattle.image.proofs.Words.{words-in-length}
 use Rattle.layout.specs.declared.head.Head.{Head}
 use Rattle.layout.specs.Sound.{lengthsB, soundB}
-use Rattle.layout.specs.View.{Store, padded}
-use Rattle.layout.proofs.Sounds.{Sound, facts-sound}
-use Rattle.layout.proofs.Views.{encoded-sound, padded-length}
+use Rattle.views.specs.View.{Store, padded}
+use Rattle.views.proofs.Sounds.{Sound, facts-sound}
+use Rattle.views.proofs.Views.{encoded-sound, padded-length}
 use Rattle.snapshot.specs.Calls.{loadCheck, loadOutcome, loadHead, loadTable, loadJournal, writeCheck, writeAnswer, writeBytes, countOr, imageHere}
 use Rattle.snapshot.specs.Fresh.{freshHead}
 use Rattle.snapshot.proofs.Accepted.{LoadOk, load-ok, write-ok, reads-back, count-back}

@@ -15,7 +15,7 @@ use Rattle.grounds.specs.First.{met, first, ifDone}
 use Rattle.image.specs.Image.{imageB, countIn, numberIn, wordsIn, imageOf}
 use Rattle.layout.specs.declared.head.Head.{Head}
 use Rattle.layout.specs.Sound.{lengthsB, soundB}
-use Rattle.layout.specs.View.{padded}
+use Rattle.views.specs.View.{padded}
 use Rattle.snapshot.specs.Fresh.{freshHead}
 
 -- "Clear gives the empty map as state 0 in the same way. Both set all other words of book and change memory to zero."

@@ -3,7 +3,7 @@
 use mathlib.Core.List.{List, []}
 use Prim.Native.Nat.{ℕ}
 use lib.ListN.{replicate}
-use Rattle.layout.specs.View.{View, Limits, closed}
+use Rattle.views.specs.View.{View, Limits, closed}
 
 unfoldable pub freshView : List ℕ → ℕ → Limits → View
 freshView words number limits = record {

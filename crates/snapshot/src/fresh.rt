@@ -8,7 +8,7 @@ ghost use mathlib.Core.Path.{_≡_};
 ghost use Prim.Native.Nat.{_+_, _*_, _≤_};
 ghost use lib.ListN.{length, replicate};
 ghost use Rattle.image.specs.Image.{countIn, numberIn, wordsIn};
-ghost use Rattle.layout.specs.View.{padded};
+ghost use Rattle.views.specs.View.{padded};
 ghost use Rattle.snapshot.specs.Fresh.{freshHead};
 
 // The head of a store that has one state, no step and no open slot.

@@ -9,9 +9,9 @@ use lib.ListN.{length, take, set, replicate, length-append}
 use Rattle.changes.specs.Lists.{listB, All}
 use Rattle.changes.specs.Runs.{startOf}
 use Rattle.layout.specs.Sound.{heldOf}
-use Rattle.layout.specs.View.{Store, View, heldSteps, tipOf, padded, flat, marksFrom, encode, Good}
-use Rattle.layout.proofs.StepLists.{marks-length}
-use Rattle.steps.specs.Commit.{usedOf, withList, withStep}
+use Rattle.views.specs.View.{Store, View, heldSteps, tipOf, padded, flat, marksFrom, encode, Good}
+use Rattle.views.proofs.StepLists.{marks-length}
+use Rattle.commits.specs.Commit.{usedOf, withList, withStep}
 use Rattle.steps.specs.StepViews.{commitView}
 use Rattle.steps.proofs.StepRuns.{flat-more, marks-more, end-of-run, padded-more, padded-set, all-one, all-append}
 

@@ -7,13 +7,13 @@ use Prim.Native.Nat.{ℕ, _+_, _-_, _≤_}
 use native.Mathlib.Omega.{arith}
 use lib.ListN.{length, take, drop, length-append, length-drop}
 use Rattle.changes.specs.Lists.{listB, All}
-use Rattle.layout.specs.Trim.{trimmed}
-use Rattle.layout.specs.View.{Store, View, heldSteps, tipOf, padded, flat, marksFrom, leastSlot, openOf, issuedOf, encode, mapAt, Good}
-use Rattle.layout.proofs.SlotLists.{least-slots, least-later, below-later}
-use Rattle.layout.proofs.States.{at-checkpoint, at-map}
-use Rattle.layout.proofs.Trims.{Nearly, trimStore, trim-leaves, trim-good}
-use Rattle.layout.proofs.Views.{padded-length}
-use Rattle.steps.specs.Flush.{flushedHead}
+use Rattle.views.specs.Trim.{trimmed}
+use Rattle.views.specs.View.{Store, View, heldSteps, tipOf, padded, flat, marksFrom, leastSlot, openOf, issuedOf, encode, mapAt, Good}
+use Rattle.views.proofs.SlotLists.{least-slots, least-later, below-later}
+use Rattle.views.proofs.States.{at-checkpoint, at-map}
+use Rattle.views.proofs.Trims.{Nearly, trimStore, trim-leaves, trim-good}
+use Rattle.views.proofs.Views.{padded-length}
+use Rattle.flushes.specs.Flush.{flushedHead}
 use Rattle.steps.specs.StepViews.{flushedView}
 use Rattle.steps.proofs.RollViews.{split, steps-long}
 

@@ -12,21 +12,22 @@ use Rattle.grounds.specs.declared.Refusal.{Refusal}
 use Rattle.grounds.proofs.Firsts.{new-is, old-is}
 use Rattle.layout.specs.declared.head.Head.{Head}
 use Rattle.layout.specs.Sound.{heldOf}
-use Rattle.layout.specs.States.{mapHere}
-use Rattle.layout.specs.Trim.{trimmedHead, trimmedJournal, trimmed}
-use Rattle.layout.specs.View.{Store, heldSteps, tipOf, padded, flat, encode, decode, mapAt, Good, Shaped}
-use Rattle.layout.proofs.Sounds.{Sound}
-use Rattle.layout.proofs.States.{map-is}
-use Rattle.layout.proofs.Trims.{trimStore}
-use Rattle.layout.proofs.Views.{restored, decoded-good, encoded-sound, decoded}
-use Rattle.steps.specs.Commit.{usedOf, commitCheck, withList, withStep, commitJournal, commitHead}
-use Rattle.steps.specs.Flush.{flushCheck, flushedHead, flushTable, flushJournal, flushHead}
-use Rattle.steps.specs.RollBack.{rollCheck, keptOf, cutAt, cutTo, rollJournal, rollHead}
+use Rattle.views.specs.States.{mapHere}
+use Rattle.views.specs.Trim.{trimmedHead, trimmedJournal, trimmed}
+use Rattle.views.specs.View.{Store, heldSteps, tipOf, padded, flat, encode, decode, mapAt, Good, Shaped}
+use Rattle.views.proofs.Sounds.{Sound}
+use Rattle.views.proofs.States.{map-is}
+use Rattle.views.proofs.Trims.{trimStore}
+use Rattle.views.proofs.Views.{restored, decoded-good, encoded-sound, decoded}
+use Rattle.commits.specs.Commit.{usedOf, commitCheck, withList, withStep, commitJournal, commitHead}
+use Rattle.flushes.specs.Flush.{flushCheck, flushedHead, flushTable, flushJournal, flushHead}
+use Rattle.rollbacks.specs.RollBack.{rollCheck, keptOf, cutAt, cutTo, rollJournal, rollHead}
 use Rattle.steps.specs.StepViews.{commitView, rollView, flushedView}
-use Rattle.steps.proofs.Accepted.{CommitOk, commit-ok, RollOk, roll-ok}
+use Rattle.commits.proofs.Accepted.{CommitOk, commit-ok}
+use Rattle.rollbacks.proofs.Accepted.{RollOk, roll-ok}
 use Rattle.steps.proofs.CommitViews.{held-is, used-is, committed, commit-encoded, commit-good}
 use Rattle.steps.proofs.FlushViews.{flushedIn, flush-trimmed, flush-good, flush-nothing}
-use Rattle.steps.proofs.Flushing.{FlushOk, flush-ok}
+use Rattle.flushes.proofs.Flushing.{FlushOk, flush-ok}
 use Rattle.steps.proofs.RollViews.{rolledBack, roll-encoded, roll-good}
 
 -- what lies in memory after each accepted call

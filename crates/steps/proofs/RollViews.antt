@@ -9,10 +9,10 @@ use lib.ListN.{length, take, drop, replicate, length-append, take-append-drop}
 use lib.Seq.{length-take-le}
 use Rattle.changes.specs.Lists.{listB, All}
 use Rattle.changes.specs.Runs.{startOf}
-use Rattle.layout.specs.View.{Store, View, heldSteps, tipOf, padded, flat, marksFrom, encode, Good}
-use Rattle.layout.proofs.StepLists.{marks-length}
-use Rattle.layout.proofs.Views.{padded-length}
-use Rattle.steps.specs.RollBack.{keptOf, cutAt, cutTo}
+use Rattle.views.specs.View.{Store, View, heldSteps, tipOf, padded, flat, marksFrom, encode, Good}
+use Rattle.views.proofs.StepLists.{marks-length}
+use Rattle.views.proofs.Views.{padded-length}
+use Rattle.rollbacks.specs.RollBack.{keptOf, cutAt, cutTo}
 use Rattle.steps.specs.StepViews.{rollView}
 use Rattle.steps.proofs.StepRuns.{flat-append, marks-append, end-of-run, padded-cut, all-front}
 

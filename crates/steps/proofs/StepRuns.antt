@@ -2,15 +2,15 @@
 -- Assumes nothing.
 use mathlib.Core.Path.{_≡_, refl, sym, ap, ap₂, _∙_}
 use mathlib.Core.List.{List, [], _∷_, _++_, append-assoc, append-nil}
-use Prim.Native.Nat.{ℕ, zero, suc, _+_, _-_, _<_}
+use Prim.Native.Nat.{ℕ, _+_, _-_, _<_}
 use native.Mathlib.Omega.{arith}
 use lib.ListN.{length, take, drop, set, replicate, length-append}
 use lib.Seq.{take-at, set-at, append-snoc, take-append-seam, drop-append-add}
 use Rattle.changes.specs.Lists.{All}
 use Rattle.changes.specs.Runs.{startOf}
-use Rattle.words.proofs.Parts.{zeros-next}
-use Rattle.layout.specs.View.{padded, flat, marksFrom}
-use Rattle.layout.proofs.StepLists.{marks-end}
+use Rattle.words.proofs.Parts.{zeros-next, zeros-from}
+use Rattle.views.specs.View.{padded, flat, marksFrom}
+use Rattle.views.proofs.StepLists.{marks-end}
 
 pub flat-append : (ps qs : List (List ℕ)) → flat (ps ++ qs) ≡ flat ps ++ flat qs
 unfolding flat
@@ -48,18 +48,6 @@ marks-more ss d =
     let same : 0 + length (flat ss) + length d ≡ length (flat ss) + length d = omega arith in
     marks-append 0 ss (d ∷ [])
     ∙ ap (λ (l : List ℕ). marksFrom 0 ss ++ l) (marks-one (0 + length (flat ss)) d ∙ ap (λ (n : ℕ). n ∷ []) same)
-
--- zeros from a place on
-pub zeros-from : (n m : ℕ) → drop n (replicate {A = ℕ} m 0) ≡ replicate (m - n) 0
-zeros-from zero m =
-    let same : m ≡ m - 0 = omega arith in
-    ap (λ (k : ℕ). replicate {A = ℕ} k 0) same
-zeros-from (suc n) zero =
-    let same : 0 ≡ 0 - suc n = omega arith in
-    ap (λ (k : ℕ). replicate {A = ℕ} k 0) same
-zeros-from (suc n) (suc m) =
-    let same : m - n ≡ suc m - suc n = omega arith in
-    zeros-from n m ∙ ap (λ (k : ℕ). replicate {A = ℕ} k 0) same
 
 -- words written behind padded words are padded with them
 pub padded-more : (n : ℕ) (l d : List ℕ) → take (length l) (padded n l) ++ d ++ drop (length l + length d) (padded n l) ≡ padded n (l ++ d)

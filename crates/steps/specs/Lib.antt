@@ -1,4 +1,1 @@
-pub mod Commit
-pub mod Flush
-pub mod RollBack
 pub mod StepViews

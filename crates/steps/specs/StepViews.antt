@@ -3,7 +3,7 @@
 use mathlib.Core.List.{List, [], _∷_, _++_}
 use Prim.Native.Nat.{ℕ, _-_}
 use lib.ListN.{take, drop}
-use Rattle.layout.specs.View.{View, mapAt}
+use Rattle.views.specs.View.{View, mapAt}
 
 -- "Commit appends a list as state tip + 1."
 unfoldable pub commitView : View → List ℕ → View

@@ -1,19 +1,19 @@
 // The moments at the counter (document 01) that need no flush, run on a store, each answer printed.
+use commits::commit;
 use entry::Entry;
+use forwards::forward;
 use grounds::Outcome;
 use grounds::Quote;
 use grounds::number;
+use issues::issue;
 use layout::head::Head;
 use layout::head::Stored;
 use libc::STDOUT_FILENO;
-use reads::forward::forward;
-use reads::issue::issue;
-use reads::look_up::look_up;
-use reads::release::release;
+use lookups::look_up;
+use releases::release;
+use rollbacks::roll_back;
 use snapshot::fresh::fresh_head;
 use snapshot::load::load;
-use steps::commit::commit;
-use steps::roll_back::roll_back;
 
 // State 0 with offer 5 at 1200.
 const IMAGE: [u8; 14] = [0, 0, 0, 0, 0, 1, 0x80, 0, 0, 5, 0, 0, 0x04, 0xb0];

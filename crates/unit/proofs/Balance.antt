@@ -7,9 +7,9 @@ use Prim.Native.Nat.{ℕ, _+_, _-_, _≤_, min}
 use native.Mathlib.Omega.{arith}
 use Rattle.layout.specs.declared.head.Head.{Head}
 use Rattle.calls.specs.Calls.{headAfter}
-use Rattle.unit.specs.declared.tally.Tally.{Tally}
+use Rattle.tallies.specs.declared.Tally.{Tally}
 use Rattle.unit.specs.Runs.{Lent, Asked, Accepted, acceptsB, next, after, setsToZeroB, noted, notedAll, sumOf}
-use Rattle.unit.specs.Tally.{largest, startsAnew, countsOf}
+use Rattle.tallies.specs.Tally.{largest, startsAnew, countsOf}
 use Rattle.unit.proofs.Effects.{Moves, Effect, turned, began, moved, effect}
 
 -- the numbers of steps committed, rolled back and flushed, the tally that stands for them, and the head

@@ -13,26 +13,26 @@ use Rattle.grounds.specs.First.{ifDone}
 use Rattle.image.specs.Image.{countIn, numberIn}
 use Rattle.layout.specs.declared.head.Head.{Head}
 use Rattle.layout.specs.Sound.{heldOf}
-use Rattle.layout.specs.States.{mapHere}
-use Rattle.layout.specs.Trim.{trimmedHead}
-use Rattle.reads.specs.Forward.{forwardCheck}
-use Rattle.reads.specs.Issue.{issueCheck}
-use Rattle.reads.specs.LookUp.{lookUp}
-use Rattle.reads.specs.Release.{releaseCheck}
-use Rattle.reads.specs.Slots.{opened, shut}
+use Rattle.views.specs.States.{mapHere}
+use Rattle.views.specs.Trim.{trimmedHead}
+use Rattle.forwards.specs.Forward.{forwardCheck}
+use Rattle.issues.specs.Issue.{issueCheck}
+use Rattle.lookups.specs.LookUp.{lookUp}
+use Rattle.releases.specs.Release.{releaseCheck}
+use Rattle.slots.specs.Slots.{opened, shut}
 use Rattle.snapshot.specs.Calls.{clearOutcome, loadOutcome, writeCheck, writeAnswer, imageHere}
 use Rattle.snapshot.specs.Fresh.{freshHead}
-use Rattle.steps.specs.Commit.{commitCheck, usedOf, withStep}
-use Rattle.steps.specs.Flush.{flushCheck, flushedHead}
-use Rattle.steps.specs.RollBack.{rollCheck, keptOf, cutTo}
-use Rattle.steps.proofs.Accepted.{roll-ok}
-use Rattle.steps.proofs.Flushing.{flush-ok}
+use Rattle.commits.specs.Commit.{commitCheck, usedOf, withStep}
+use Rattle.flushes.specs.Flush.{flushCheck, flushedHead}
+use Rattle.rollbacks.specs.RollBack.{rollCheck, keptOf, cutTo}
+use Rattle.rollbacks.proofs.Accepted.{roll-ok}
+use Rattle.flushes.proofs.Flushing.{flush-ok}
 use Rattle.calls.specs.declared.call.Call.{Call}
 use Rattle.calls.specs.declared.call.Call.the-variants.{Clear, Load, WriteImage, Restart, Commit, RollBack, Flush, LookUp, Issue, Forward, Release}
 use Rattle.calls.specs.Answers.{actedAs, quotedAs, countedAs}
 use Rattle.calls.specs.Calls.{answerTo, headAfter}
-use Rattle.unit.specs.declared.tally.Tally.{Tally}
-use Rattle.unit.specs.Tally.{acceptedB, startsAnew, counts, countsOf}
+use Rattle.tallies.specs.declared.Tally.{Tally}
+use Rattle.tallies.specs.Tally.{acceptedB, startsAnew, counts, countsOf}
 
 -- from one head to another by so many steps committed, rolled back and flushed
 pub record Moves (count : Tally) (from to : Head) : Type 0 where

@@ -1,4 +1,4 @@
 pub mod Balance
-pub mod Counting
 pub mod Effects
+pub mod Serving
 pub mod Theorems

@@ -10,11 +10,11 @@ use native.Mathlib.Omega.{arith}
 use Rattle.layout.specs.declared.head.Head.{Head}
 use Rattle.calls.specs.declared.call.Answer.{Answer}
 use Rattle.calls.specs.declared.call.Call.{Call}
-use Rattle.unit.specs.declared.tally.Tally.{Tally}
+use Rattle.tallies.specs.declared.Tally.{Tally}
 use Rattle.unit.specs.Runs.{Lent, Asked, next, after, setsToZeroB, committedBy, rolledBackBy, flushedBy}
-use Rattle.unit.specs.Tally.{acceptedB, largest, startsAnew, counts, countsOf, tallyAfter}
+use Rattle.tallies.specs.Tally.{acceptedB, largest, startsAnew, counts, countsOf, tallyAfter}
 use Rattle.unit.proofs.Balance.{Balanced, kept-after, starts, exact}
-use Rattle.unit.proofs.Counting.{count-kept}
+use Rattle.tallies.proofs.Counting.{count-kept}
 
 -- An accepted clear, load or restart, and then any calls: refused ones, and more clears, loads and restarts, among them.
 module _ (lent : Lent) (first : Asked) (zeroed : setsToZeroB lent first ≡ true) (asked : List Asked) where

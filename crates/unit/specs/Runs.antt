@@ -8,8 +8,8 @@ use Rattle.layout.specs.declared.head.Head.{Head}
 use Rattle.calls.specs.declared.call.Answer.{Answer}
 use Rattle.calls.specs.declared.call.Call.{Call}
 use Rattle.calls.specs.Calls.{answerTo, headAfter, tableAfter, journalAfter}
-use Rattle.unit.specs.declared.tally.Tally.{Tally}
-use Rattle.unit.specs.Tally.{acceptedB, startsAnew, countsOf, tallyAfter}
+use Rattle.tallies.specs.declared.Tally.{Tally}
+use Rattle.tallies.specs.Tally.{acceptedB, startsAnew, countsOf, tallyAfter}
 
 -- what the caller hands from one call to the next
 pub record Lent : Type 0 where

@@ -9,8 +9,8 @@ use Rattle.calls.specs.declared.call.Reply.{Reply}
 use Rattle.calls.specs.Answers.{answerAs}
 use Rattle.calls.specs.Calls.{answerTo, replyTo}
 use Rattle.unit.specs.declared.serve.Served.{Served}
-use Rattle.unit.specs.declared.tally.Tally.{Tally}
-use Rattle.unit.specs.Tally.{counts, tallyAfter}
+use Rattle.tallies.specs.declared.Tally.{Tally}
+use Rattle.tallies.specs.Tally.{counts, tallyAfter}
 
 abbrev pub servedAs : Reply → Tally → Served
 servedAs reply tally = record { reply = reply; committed = tally .committed; «rolled_back» = tally .«rolled_back»; flushed = tally .flushed }

@@ -1,15 +1,15 @@
 // The one function that is lent the tally, and its core on plain numbers, which proved callers use.
-use crate::tally::Tally;
-use crate::tally::count_after;
-use crate::tally::counts_of;
 use calls::call::Call;
 use calls::call::Reply;
 use calls::perform::perform;
 use layout::head::Head;
+use tallies::Tally;
+use tallies::count_after;
+use tallies::counts_of;
 ghost use mathlib.Core.Path.{_≡_};
 ghost use Rattle.calls.specs.Calls.{GivesReply, answerTo, replyTo, tableAfter, journalAfter, wordsAfter, bytesAfter};
 ghost use Rattle.unit.specs.Serve.{GivesServed, served};
-ghost use Rattle.unit.specs.Tally.{tallyAfter};
+ghost use Rattle.tallies.specs.Tally.{tallyAfter};
 
 // The reply to a call, and the counts of the tally after it.
 pub struct Served {

@@ -2,7 +2,7 @@
 -- Assumes nothing.
 use mathlib.Core.Path.{_≡_, _∙_, ap, ap₂, sym}
 use mathlib.Core.List.{List, [], _∷_, _++_, append-nil}
-use Prim.Native.Nat.{ℕ, suc, _+_, _-_, _≤_, _<_}
+use Prim.Native.Nat.{ℕ, zero, suc, _+_, _-_, _≤_, _<_}
 use native.Mathlib.Nat.{le-trans}
 use native.Mathlib.Numerals.{add-one}
 use native.Mathlib.Omega.{arith}
@@ -48,3 +48,15 @@ pub zeros-end : (n i : ℕ) → n ≤ i → _≡_ {A = List ℕ} (replicate (n -
 zeros-end n i h =
     let e : n - i ≡ 0 = omega arith in
     ap (λ (m : ℕ). replicate {A = ℕ} m 0) e
+
+-- zeros from a place on
+pub zeros-from : (n m : ℕ) → drop n (replicate {A = ℕ} m 0) ≡ replicate (m - n) 0
+zeros-from zero m =
+    let same : m ≡ m - 0 = omega arith in
+    ap (λ (k : ℕ). replicate {A = ℕ} k 0) same
+zeros-from (suc n) zero =
+    let same : 0 ≡ 0 - suc n = omega arith in
+    ap (λ (k : ℕ). replicate {A = ℕ} k 0) same
+zeros-from (suc n) (suc m) =
+    let same : m - n ≡ suc m - suc n = omega arith in
+    zeros-from n m ∙ ap (λ (k : ℕ). replicate {A = ℕ} k 0) same

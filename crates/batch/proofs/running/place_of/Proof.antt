@@ -1,75 +1,42 @@
--- `running::place_of` meets its contract. The loop's invariant: words before low lie below the offer, words from high on above it.
+-- `running::place_of` meets its contract: the offer stands at its only place, or nowhere.
 -- Assumes nothing.
 use mathlib.Core.Path.{sym, _∙_}
-use Prim.Native.Nat.{_-_}
 use borrow.Author.Needs.{needs}
 use native.Mathlib.Omega.{arith}
-use Rattle.changes.proofs.Find.{Between, between-all, go-up, go-down, nothing-between}
+use Rattle.lists.proofs.Halving.{none-there, other-there}
 use Rattle.batch.proofs.OrderPlaces.{place-at, place-nothing}
 use Rattle.batch.proofs.running.place_of.Statement.{statement}
 use Rattle.batch.proofs.running.place_of.Tie as tie
 
-abbrev Inv-loop : tie.InvT-loop
-Inv-loop words offer low₀ high₀ low high = Between words offer low high
+place-requires : tie.Need-place-requires
+place-requires c κs = search needs
 
-abbrev μ-loop : tie.MeasureT-loop
-μ-loop words offer low₀ high₀ low high = high - low
+returns : tie.Need-returns
+returns c = sym (place-nothing _ _ (none-there (c .before .before .before .args .words .now) (c .before .before .before .args .offer) (c .before .place .result) (c .before .place .ensures) (omega arith)))
 
-loop-holds : tie.Need-loop-holds Inv-loop μ-loop
-loop-holds c = between-all _ _
+mul-offer-of : tie.Need-mul-offer-of
+mul-offer-of c = search needs
 
-sub-middle : tie.Need-sub-middle Inv-loop μ-loop
-sub-middle c = omega arith
+shared-slice-read-offer-of : tie.Need-shared-slice-read-offer-of
+shared-slice-read-offer-of c = search needs
 
-add-middle : tie.Need-add-middle Inv-loop μ-loop
-add-middle c = omega arith
-
-mul-offer-of : tie.Need-mul-offer-of Inv-loop μ-loop
-mul-offer-of c = omega arith
-
-shared-slice-read-offer-of : tie.Need-shared-slice-read-offer-of Inv-loop μ-loop
-shared-slice-read-offer-of c = omega arith
-
-offer-of-requires : tie.Need-offer-of-requires Inv-loop μ-loop
+offer-of-requires : tie.Need-offer-of-requires
 offer-of-requires c κs = search needs
 
-returns : tie.Need-returns Inv-loop μ-loop
-returns c = sym (place-at 0 _ (c .before .before .before .before .before .before .pre) _ (omega arith) _ (sym (c .before .offer-of .ensures) ∙ (c .if1 .taken)))
+returns-2 : tie.Need-returns-2
+returns-2 c = sym (place-nothing _ _ (other-there (c .before .before .before .before .before .before .args .words .now) (c .before .before .before .before .before .before .args .offer) (c .before .before .before .before .place .result) (c .before .before .before .before .place .ensures) (λ e. (c .if2 .taken) ((c .before .offer-of .ensures) ∙ e))))
 
-add-low : tie.Need-add-low Inv-loop μ-loop
-add-low c = omega arith
-
-loop-less : tie.Need-loop-less Inv-loop μ-loop
-loop-less c = omega arith
-
-loop-again : tie.Need-loop-again Inv-loop μ-loop
-loop-again c = go-up (c .before .before .before .before .before .loop .inv) (c .before .before .before .before .before .before .before .pre) _ (omega arith) (omega arith) (omega arith)
-
-loop-less-2 : tie.Need-loop-less-2 Inv-loop μ-loop
-loop-less-2 c = omega arith
-
-loop-again-2 : tie.Need-loop-again-2 Inv-loop μ-loop
-loop-again-2 c = go-down (c .before .before .before .before .before .loop .inv) (c .before .before .before .before .before .before .before .pre) _ (omega arith) (omega arith) (omega arith)
-
-returns-2 : tie.Need-returns-2 Inv-loop μ-loop
-returns-2 c = sym (place-nothing _ _ (nothing-between (c .before .loop .inv) (omega arith)))
+returns-3 : tie.Need-returns-3
+returns-3 c = sym (place-at 0 (c .before .before .before .before .before .before .args .words .now) (c .before .before .before .before .before .before .pre) (c .before .before .before .before .place .result) (omega arith) (c .before .before .before .before .before .before .args .offer) (sym (c .before .offer-of .ensures) ∙ (c .if2 .left)))
 
 pub place-of-spec : {M : Type 1} → statement M
 place-of-spec =
     tie.close
     (tie.spec
-    Inv-loop
-    μ-loop
-    loop-holds
-    sub-middle
-    add-middle
+    place-requires
+    returns
     mul-offer-of
     shared-slice-read-offer-of
     offer-of-requires
-    returns
-    add-low
-    loop-less
-    loop-again
-    loop-less-2
-    loop-again-2
-    returns-2)
+    returns-2
+    returns-3)

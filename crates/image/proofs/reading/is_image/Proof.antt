@@ -1,20 +1,20 @@
--- `reading::is_image` meets its contract. The loop's invariant: the words that are left are a map's from the least offer allowed on
--- exactly when the bytes are an image.
+-- `reading::is_image` meets its contract. The loop's invariant: the words that are left are a map's from the last key on exactly
+-- when the bytes are an image.
 -- Assumes nothing.
 use mathlib.Core.Path.{sym}
 use Prim.Native.Nat.{_-_}
 use Rattle.image.specs.Image.{countIn}
-use Rattle.image.proofs.ImageTest.{Testing, testing-all, tested, test-not-put, test-below, test-next, image-short, image-missized}
+use Rattle.image.proofs.ImageTest.{Keyed, keyed-all, key-falls, key-rises, tested, image-short, image-missized}
 use borrow.Author.Needs.{needs}
 use native.Mathlib.Omega.{arith}
 use Rattle.image.proofs.reading.is_image.Statement.{statement}
 use Rattle.image.proofs.reading.is_image.Tie as tie
 
 abbrev Inv-loop : tie.InvT-loop
-Inv-loop bytes count least₀ i₀ least i = Testing bytes least i
+Inv-loop bytes count last₀ i₀ last i = Keyed bytes last i
 
 abbrev μ-loop : tie.MeasureT-loop
-μ-loop bytes count least₀ i₀ least i = countIn bytes - i
+μ-loop bytes count last₀ i₀ last i = countIn bytes - i
 
 returns : tie.Need-returns Inv-loop μ-loop
 returns c = sym (image-short (c .before .before .args .bytes .now) (omega arith))
@@ -32,7 +32,7 @@ returns-2 : tie.Need-returns-2 Inv-loop μ-loop
 returns-2 c = sym (image-missized (c .before .before .before .before .args .bytes .now) (omega arith) (λ e. omega arith))
 
 loop-holds : tie.Need-loop-holds Inv-loop μ-loop
-loop-holds c = testing-all _ (omega arith) (omega arith)
+loop-holds c = keyed-all _ (omega arith) (omega arith)
 
 mul-u64-at : tie.Need-mul-u64-at Inv-loop μ-loop
 mul-u64-at c = search needs
@@ -41,22 +41,13 @@ add-u64-at : tie.Need-add-u64-at Inv-loop μ-loop
 add-u64-at c = search needs
 
 u64-at-requires : tie.Need-u64-at-requires Inv-loop μ-loop
-u64-at-requires c κs = search needs
+u64-at-requires c κs = omega (arith, c .before .loop .inv .tested .size)
 
-kind-of-requires : tie.Need-kind-of-requires Inv-loop μ-loop
-kind-of-requires c κs = search needs
+key-of-requires : tie.Need-key-of-requires Inv-loop μ-loop
+key-of-requires c κs = search needs
 
 returns-3 : tie.Need-returns-3 Inv-loop μ-loop
-returns-3 c = sym (test-not-put (c .before .before .before .before .loop .inv) (omega arith) (c .before .before .u64-at .result) (c .before .before .u64-at .ensures) (λ e. omega arith))
-
-offer-of-requires : tie.Need-offer-of-requires Inv-loop μ-loop
-offer-of-requires c κs = search needs
-
-returns-4 : tie.Need-returns-4 Inv-loop μ-loop
-returns-4 c = sym (test-below (c .before .before .before .before .before .before .loop .inv) (omega arith) (c .before .before .before .before .u64-at .result) (c .before .before .before .before .u64-at .ensures) (omega arith) (omega arith))
-
-add-least : tie.Need-add-least Inv-loop μ-loop
-add-least c = search needs
+returns-3 c = sym (key-falls (c .before .before .before .before .loop .inv) (omega arith) (c .before .before .u64-at .result) (omega arith) (c .before .before .u64-at .ensures) (omega arith))
 
 add-i : tie.Need-add-i Inv-loop μ-loop
 add-i c = search needs
@@ -65,10 +56,10 @@ loop-less : tie.Need-loop-less Inv-loop μ-loop
 loop-less c = search needs
 
 loop-again : tie.Need-loop-again Inv-loop μ-loop
-loop-again c = rw (c .before .offer-of .ensures) (test-next (c .before .before .before .before .before .before .loop .inv) (omega arith) (c .before .before .before .before .u64-at .result) (c .before .before .before .before .u64-at .ensures) (omega arith) (omega arith))
+loop-again c = rw (c .before .key-of .ensures .0) (key-rises (c .before .before .before .before .loop .inv) (omega arith) (c .before .before .u64-at .result) (omega arith) (c .before .before .u64-at .ensures) (omega arith))
 
-returns-5 : tie.Need-returns-5 Inv-loop μ-loop
-returns-5 c = sym (tested (c .before .loop .inv) (omega arith))
+returns-4 : tie.Need-returns-4 Inv-loop μ-loop
+returns-4 c = sym (tested (c .before .loop .inv .tested) (omega arith))
 
 pub is-image-spec : {M : Type 1} → statement M
 is-image-spec =
@@ -85,12 +76,9 @@ is-image-spec =
     mul-u64-at
     add-u64-at
     u64-at-requires
-    kind-of-requires
+    key-of-requires
     returns-3
-    offer-of-requires
-    returns-4
-    add-least
     add-i
     loop-less
     loop-again
-    returns-5)
+    returns-4)

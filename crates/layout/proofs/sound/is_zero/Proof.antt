@@ -1,31 +1,31 @@
--- `sound::is_zero` meets its contract: what is left of the words is zero exactly when all of them are.
+-- `sound::is_zero` meets its contract: what is joined of the words and what is left are zero exactly when all of them are.
 -- Assumes nothing.
 use mathlib.Core.Path.{_≡_, _∙_, sym, refl}
+use mathlib.Core.Bool.{_&&_}
 use Prim.Native.Nat.{_-_}
+use borrow.Author.Needs.{needs}
+use native.Mathlib.Omega.{arith}
+use lib.Dec.{eqb}
 use lib.ListN.{length, drop}
 use Rattle.layout.specs.Tests.{zerosB}
-use Rattle.layout.proofs.WordTests.{zeros-at-end, zeros-at-stop, zeros-at-on}
-use borrow.Author.Needs.{needs}
+use Rattle.layout.proofs.WordTests.{zeros-join, zeros-joined}
 use Rattle.layout.proofs.sound.is_zero.Statement.{statement}
 use Rattle.layout.proofs.sound.is_zero.Tie as tie
 
 abbrev Inv-loop : tie.InvT-loop
-Inv-loop words i₀ i = zerosB (drop i words) ≡ zerosB words
+Inv-loop words seen₀ i₀ seen i = eqb seen 0 && zerosB (drop i words) ≡ zerosB words
 
 abbrev μ-loop : tie.MeasureT-loop
-μ-loop words i₀ i = length words - i
+μ-loop words seen₀ i₀ seen i = length words - i
 
 loop-holds : tie.Need-loop-holds Inv-loop μ-loop
 loop-holds c = refl
 
-mul-if1 : tie.Need-mul-if1 Inv-loop μ-loop
-mul-if1 c = search needs
+mul-seen : tie.Need-mul-seen Inv-loop μ-loop
+mul-seen c = search needs
 
-shared-slice-read-if1 : tie.Need-shared-slice-read-if1 Inv-loop μ-loop
-shared-slice-read-if1 c = search needs
-
-returns : tie.Need-returns Inv-loop μ-loop
-returns c = sym (sym (c .before .before .before .loop .inv) ∙ zeros-at-stop ((c .before .before .before .before .args .words .now)) (c .before .before .before .loop .i) (c .before .before .loop-test .taken) (c .if1 .taken))
+shared-slice-read-seen : tie.Need-shared-slice-read-seen Inv-loop μ-loop
+shared-slice-read-seen c = search needs
 
 add-i : tie.Need-add-i Inv-loop μ-loop
 add-i c = search needs
@@ -34,10 +34,10 @@ loop-less : tie.Need-loop-less Inv-loop μ-loop
 loop-less c = search needs
 
 loop-again : tie.Need-loop-again Inv-loop μ-loop
-loop-again c = sym (zeros-at-on ((c .before .before .before .before .args .words .now)) (c .before .before .before .loop .i) (c .before .before .loop-test .taken) (c .if1 .left)) ∙ (c .before .before .before .loop .inv)
+loop-again c = zeros-join (c .before .before .before .args .words .now) (c .before .before .loop .seen) (c .before .before .loop .i) (omega arith) ∙ c .before .before .loop .inv
 
-returns-2 : tie.Need-returns-2 Inv-loop μ-loop
-returns-2 c = sym (sym (c .before .loop .inv) ∙ zeros-at-end ((c .before .before .args .words .now)) (c .before .loop .i) (c .loop-test .left))
+returns : tie.Need-returns Inv-loop μ-loop
+returns c = sym (zeros-joined (c .before .before .args .words .now) (c .before .loop .seen) (c .before .loop .i) (omega arith)) ∙ c .before .loop .inv
 
 pub is-zero-spec : {M : Type 1} → statement M
 is-zero-spec =
@@ -46,10 +46,9 @@ is-zero-spec =
     Inv-loop
     μ-loop
     loop-holds
-    mul-if1
-    shared-slice-read-if1
-    returns
+    mul-seen
+    shared-slice-read-seen
     add-i
     loop-less
     loop-again
-    returns-2)
+    returns)

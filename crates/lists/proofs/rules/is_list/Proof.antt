@@ -1,54 +1,64 @@
--- `rules::is_list` meets its contract. The loop's invariant: what is left of the words rises from the least offer allowed
--- exactly when all of them rise.
+-- `rules::is_list` meets its contract: the words joined so far are marked exactly when the rest decides.
 -- Assumes nothing.
-use mathlib.Core.Path.{sym, _∙_}
-use Prim.Native.Nat.{_-_}
+use mathlib.Core.Path.{_∙_, sym, ap}
+use Prim.Native.Nat.{ℕ, _-_}
 use borrow.Author.Needs.{needs}
-use borrow.Author.Tests.{not-true, not-false}
 use native.Mathlib.Omega.{arith}
+use lib.Dec.{eqb}
 use lib.ListN.{length}
-use Rattle.changes.proofs.ListTest.{Testing, testing-all, tested, test-below, test-invalid, test-next, list-long}
+use Rattle.changes.specs.Lists.{risingB}
+use Rattle.changes.proofs.ListTest.{list-short, list-long}
+use Rattle.lists.proofs.Scans.{Joined, none-joined, first, joined, all-joined, lists}
 use Rattle.lists.proofs.rules.is_list.Statement.{statement}
 use Rattle.lists.proofs.rules.is_list.Tie as tie
 
 abbrev Inv-loop : tie.InvT-loop
-Inv-loop words least₀ i₀ least i = Testing words least i
+Inv-loop words good₀ i₀ good i = Joined risingB words good i
 
 abbrev μ-loop : tie.MeasureT-loop
-μ-loop words least₀ i₀ least i = length words - i
+μ-loop words good₀ i₀ good i = length words - i
 
 returns : tie.Need-returns Inv-loop μ-loop
 returns c = sym (list-long (c .before .before .args .words .now) (omega arith))
 
-loop-holds : tie.Need-loop-holds Inv-loop μ-loop
-loop-holds c = testing-all _ (omega arith)
-
-mul-offer-of : tie.Need-mul-offer-of Inv-loop μ-loop
-mul-offer-of c = omega arith
-
-shared-slice-read-offer-of : tie.Need-shared-slice-read-offer-of Inv-loop μ-loop
-shared-slice-read-offer-of c = omega arith
-
-offer-of-requires : tie.Need-offer-of-requires Inv-loop μ-loop
-offer-of-requires c κs = search needs
-
 returns-2 : tie.Need-returns-2 Inv-loop μ-loop
-returns-2 c = sym (test-below (c .before .before .before .before .loop .inv) (omega arith) (omega arith))
+returns-2 c = none-joined lists (c .before .before .before .args .words .now) (omega arith) ∙ sym (list-short (c .before .before .before .args .words .now) (omega arith))
 
-mul-is-valid : tie.Need-mul-is-valid Inv-loop μ-loop
-mul-is-valid c = omega arith
+shared-slice-read-valid-mark : tie.Need-shared-slice-read-valid-mark Inv-loop μ-loop
+shared-slice-read-valid-mark c = omega arith
 
-shared-slice-read-is-valid : tie.Need-shared-slice-read-is-valid Inv-loop μ-loop
-shared-slice-read-is-valid c = omega arith
+valid-mark-requires : tie.Need-valid-mark-requires Inv-loop μ-loop
+valid-mark-requires c κs = search needs
 
-is-valid-requires : tie.Need-is-valid-requires Inv-loop μ-loop
-is-valid-requires c κs = search needs
+loop-holds : tie.Need-loop-holds Inv-loop μ-loop
+loop-holds c = first lists (c .before .before .before .before .before .args .words .now) (c .valid-mark .result) (omega arith) (omega arith) (c .valid-mark .ensures)
 
-returns-3 : tie.Need-returns-3 Inv-loop μ-loop
-returns-3 c = sym (test-invalid (c .before .before .before .before .before .before .before .loop .inv) (omega arith) (omega arith) (sym (c .before .is-valid .ensures) ∙ not-true _ (c .if3 .taken)))
+mul-valid-mark : tie.Need-mul-valid-mark Inv-loop μ-loop
+mul-valid-mark c = omega arith
 
-add-least : tie.Need-add-least Inv-loop μ-loop
-add-least c = omega arith
+shared-slice-read-valid-mark-2 : tie.Need-shared-slice-read-valid-mark-2 Inv-loop μ-loop
+shared-slice-read-valid-mark-2 c = omega arith
+
+valid-mark-requires-2 : tie.Need-valid-mark-requires-2 Inv-loop μ-loop
+valid-mark-requires-2 c κs = search needs
+
+sub-rise : tie.Need-sub-rise Inv-loop μ-loop
+sub-rise c = omega arith
+
+mul-rise : tie.Need-mul-rise Inv-loop μ-loop
+mul-rise c = omega arith
+
+shared-slice-read-rise : tie.Need-shared-slice-read-rise Inv-loop μ-loop
+shared-slice-read-rise c = omega arith
+
+mul-rise-2 : tie.Need-mul-rise-2 Inv-loop μ-loop
+mul-rise-2 c = omega arith
+
+shared-slice-read-rise-2 : tie.Need-shared-slice-read-rise-2 Inv-loop μ-loop
+shared-slice-read-rise-2 c = omega arith
+
+rise-requires : tie.Need-rise-requires Inv-loop μ-loop
+rise-requires c κs = search needs
 
 add-i : tie.Need-add-i Inv-loop μ-loop
 add-i c = omega arith
@@ -57,10 +67,13 @@ loop-less : tie.Need-loop-less Inv-loop μ-loop
 loop-less c = omega arith
 
 loop-again : tie.Need-loop-again Inv-loop μ-loop
-loop-again c = rw (c .before .before .before .before .offer-of .ensures) (test-next (c .before .before .before .before .before .before .before .loop .inv) (omega arith) (omega arith) (sym (c .before .is-valid .ensures) ∙ not-false _ (c .if3 .left)))
+loop-again c = rw (c .rise .ensures) (joined lists (c .before .before .before .before .before .before .before .before .before .before .before .before .args .words .now) (c .before .before .before .before .before .before .loop .good) (c .before .before .before .before .before .before .loop .i) (c .before .before .before .valid-mark2 .result) (c .before .before .before .before .before .before .loop .inv) (omega arith) (omega arith) (c .before .before .before .valid-mark2 .ensures))
 
-returns-4 : tie.Need-returns-4 Inv-loop μ-loop
-returns-4 c = sym (tested (c .before .loop .inv) (omega arith))
+kind-of-requires : tie.Need-kind-of-requires Inv-loop μ-loop
+kind-of-requires c κs = search needs
+
+returns-3 : tie.Need-returns-3 Inv-loop μ-loop
+returns-3 c = ap (λ (k : ℕ). eqb k 1) (c .kind-of .ensures) ∙ all-joined lists (c .before .before .before .before .before .before .before .before .args .words .now) _ _ (c .before .before .loop .inv) (omega arith) ∙ sym (list-short (c .before .before .before .before .before .before .before .before .args .words .now) (omega arith))
 
 pub is-list-spec : {M : Type 1} → statement M
 is-list-spec =
@@ -69,17 +82,21 @@ is-list-spec =
     Inv-loop
     μ-loop
     returns
-    loop-holds
-    mul-offer-of
-    shared-slice-read-offer-of
-    offer-of-requires
     returns-2
-    mul-is-valid
-    shared-slice-read-is-valid
-    is-valid-requires
-    returns-3
-    add-least
+    shared-slice-read-valid-mark
+    valid-mark-requires
+    loop-holds
+    mul-valid-mark
+    shared-slice-read-valid-mark-2
+    valid-mark-requires-2
+    sub-rise
+    mul-rise
+    shared-slice-read-rise
+    mul-rise-2
+    shared-slice-read-rise-2
+    rise-requires
     add-i
     loop-less
     loop-again
-    returns-4)
+    kind-of-requires
+    returns-3)

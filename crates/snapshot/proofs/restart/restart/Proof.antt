@@ -5,7 +5,7 @@ use lib.ListN.{length}
 use lib.Seq.{length-take-le}
 use Rattle.grounds.proofs.Firsts.{gives, if-refused, if-done}
 use Rattle.image.specs.Image.{countIn, numberIn, wordsIn}
-use Rattle.layout.specs.View.{padded}
+use Rattle.views.specs.View.{padded}
 use Rattle.snapshot.specs.Fresh.{freshHead}
 use Rattle.snapshot.proofs.Accepted.{write-ok, used-long, write-room, written-is, image-inside, image-part, load-room}
 use borrow.Author.Needs.{needs}

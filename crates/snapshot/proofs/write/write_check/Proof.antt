@@ -7,7 +7,7 @@ use borrow.Author.Tests.{not-false, lt-ltb, le-ltb}
 use lib.ListN.{length}
 use Rattle.grounds.proofs.Firsts.{first-met, first-not, none-met}
 use Rattle.layout.proofs.HeadTests.{lengths-facts}
-use Rattle.layout.proofs.Sounds.{sound-facts}
+use Rattle.views.proofs.Sounds.{sound-facts}
 use borrow.Author.Needs.{needs}
 use native.Mathlib.Omega.{arith}
 use Rattle.snapshot.proofs.write.write_check.Statement.{statement}

@@ -1,7 +1,7 @@
 -- `serve::serve_core` meets its contract.
 -- Assumes nothing.
 use Rattle.calls.specs.Calls.{replyTo}
-use Rattle.unit.proofs.Counting.{served-is}
+use Rattle.unit.proofs.Serving.{served-is}
 use borrow.Author.Needs.{needs}
 use Rattle.unit.proofs.serve.serve_core.Statement.{statement}
 use Rattle.unit.proofs.serve.serve_core.Tie as tie

@@ -1,0 +1,182 @@
+-- What a flush knows of its memory when it is planned and when it is accepted, and what it leaves.
+-- Assumes nothing.
+use mathlib.Core.Path.{_≡_, refl, sym, ap, _∙_}
+use mathlib.Core.Bool.{true, false}
+use mathlib.Core.List.{List, [], _∷_, _++_, append-assoc}
+use Prim.Native.Nat.{ℕ, _+_, _-_, _≤_, _<_, max}
+use native.Mathlib.Omega.{arith}
+use borrow.Author.Tests.{ltb-false, lt-ltb, le-ltb, not-false}
+use lib.ListN.{length, take, drop, replicate, length-drop, replicate-append-replicate}
+use lib.Seq.{length-take-le, drop-drop}
+use Rattle.changes.specs.Calculus.{apply}
+use Rattle.table.specs.InPlace.{Planned}
+use Rattle.words.proofs.Parts.{zeros-from}
+use Rattle.grounds.specs.declared.Outcome.{Outcome}
+use Rattle.grounds.specs.declared.Outcome.the-variants.{Done, Refused}
+use Rattle.grounds.specs.declared.Refusal.{Refusal}
+use Rattle.grounds.specs.declared.Refusal.the-variants.{TableFull}
+use Rattle.grounds.specs.First.{Ground, met, first}
+use Rattle.grounds.specs.Numbers.{Gives}
+use Rattle.grounds.proofs.Firsts.{done-not, first-met, first-not, none-met, gives, if-refused, if-done}
+use Rattle.layout.specs.declared.head.Head.{Head}
+use Rattle.views.specs.States.{mapHere}
+use Rattle.layout.specs.Tests.{zerosB}
+use Rattle.views.specs.Trim.{Trimmable, trimmedHead, trimmedJournal}
+use Rattle.views.specs.View.{padded, Shaped}
+use Rattle.layout.proofs.HeadTests.{InRange, lengths-facts}
+use Rattle.views.proofs.SlotLists.{least-up-to, least-later}
+use Rattle.views.proofs.SoundFacts.{shaped}
+use Rattle.views.proofs.Sounds.{Sound, sound-facts, sound-marked}
+use Rattle.views.proofs.States.{since-rises}
+use Rattle.layout.proofs.WordTests.{zeros-fact}
+use Rattle.flush_plans.specs.Plan.{earlyCheck, FlushPlan}
+use Rattle.flush_plans.proofs.Planning.{EarlyOk, early-ok}
+use Rattle.flushes.specs.Flush.{flushCheck, flushHead, flushTable, flushJournal, flushedHead}
+
+-- the first ground among some, with others behind them
+refused-before : (gs hs : List Ground) (r : Refusal) → first gs ≡ Refused r → first (gs ++ hs) ≡ Refused r
+unfolding first
+refused-before [] hs r e = absurd (let z : _≡_ {A = ℕ} 0 1 = cc in omega arith)
+refused-before (met true g ∷ gs) hs r e = e
+refused-before (met false g ∷ gs) hs r e = refused-before gs hs r e
+
+done-before : (gs hs : List Ground) → first gs ≡ Done → first (gs ++ hs) ≡ first hs
+unfolding first
+done-before [] hs e = refl
+done-before (met true g ∷ gs) hs e = absurd (let z : _≡_ {A = ℕ} 0 1 = cc in omega arith)
+done-before (met false g ∷ gs) hs e = done-before gs hs e
+
+module _ (table journal : List ℕ) (head : Head) (state : ℕ) where
+  pub early-refused : (r : Refusal) → earlyCheck table journal head state ≡ Refused r → flushCheck table journal head state ≡ Refused r
+  early-refused r e = refused-before _ _ r e
+
+  pub full-refused : earlyCheck table journal head state ≡ Done → length table < length (mapHere table journal head state) → flushCheck table journal head state ≡ Refused TableFull
+  full-refused e h = done-before _ _ e ∙ first-met _ _ _ (lt-ltb (length table) (length (mapHere table journal head state)) h)
+
+  pub room-done : earlyCheck table journal head state ≡ Done → length (mapHere table journal head state) ≤ length table → flushCheck table journal head state ≡ Done
+  room-done e h = done-before _ _ e ∙ first-not _ _ _ (le-ltb (length table) (length (mapHere table journal head state)) h) ∙ none-met
+
+-- what is known where the early grounds are passed
+pub record FlushStart (table journal : List ℕ) (head : Head) (state : ℕ) : Type 0 where
+  pub shape : Shaped head
+  pub passed : earlyCheck table journal head state ≡ Done
+  pub ok : EarlyOk table journal head state
+
+module _ (table journal : List ℕ) (head : Head) (state : ℕ) where
+  pub flush-start : {r : Outcome} → r ≡ earlyCheck table journal head state → r ≡ Done → length (head .held) ≡ 8 → length (head .issued) ≡ 8 → length (head .ends) ≡ 64
+      → FlushStart table journal head state
+  flush-start e d a b c = record { shape = shaped head a b c; passed = sym e ∙ d; ok = early-ok table journal head state (sym e ∙ d) }
+
+  -- what a flush gives back: where it is turned away all as it came, where it is accepted what it made
+  pub flush-refused : {r : Outcome} {why : Refusal} → r ≡ earlyCheck table journal head state → r ≡ Refused why
+      → Gives r (flushCheck table journal head state) × (head ≡ flushHead table journal head state) × (table ≡ flushTable table journal head state) × (journal ≡ flushJournal table journal head state)
+  flush-refused {why = why} e d =
+      let f = early-refused table journal head state why (sym e ∙ d) in
+      (gives (d ∙ sym f), if-refused f _ _, if-refused f _ _, if-refused f _ _)
+
+  pub flush-full : FlushStart table journal head state → length table < length (mapHere table journal head state)
+      → Gives (Refused TableFull) (flushCheck table journal head state) × (head ≡ flushHead table journal head state) × (table ≡ flushTable table journal head state) × (journal ≡ flushJournal table journal head state)
+  flush-full k h =
+      let e = full-refused table journal head state (k .passed) h in
+      (gives (sym e), if-refused e _ _, if-refused e _ _, if-refused e _ _)
+
+  pub flush-done : FlushStart table journal head state → length (mapHere table journal head state) ≤ length table → {next end : Head} {made left : List ℕ}
+      → next ≡ flushedHead head (length (mapHere table journal head state)) state → end ≡ trimmedHead next
+      → made ≡ padded (length table) (mapHere table journal head state) → left ≡ trimmedJournal next journal
+      → Gives Done (flushCheck table journal head state) × (end ≡ flushHead table journal head state) × (made ≡ flushTable table journal head state) × (left ≡ flushJournal table journal head state)
+  flush-done k h n t m l =
+      let e = room-done table journal head state (k .passed) h in
+      (gives (sym e), if-done e _ _ (t ∙ ap trimmedHead n), if-done e _ _ m, if-done e _ _ (l ∙ ap (λ (x : Head). trimmedJournal x journal) n))
+
+-- a flush
+pub record FlushOk (table journal : List ℕ) (head : Head) (state : ℕ) : Type 0 where
+  pub range : InRange (length table) (length journal)
+  pub sound : Sound table journal head
+  pub low : head .checkpoint ≤ state
+  pub high : state ≤ head .tip
+  pub fits : length (mapHere table journal head state) ≤ length table
+
+pub flush-ok : (table journal : List ℕ) (head : Head) (state : ℕ) → flushCheck table journal head state ≡ Done → FlushOk table journal head state
+flush-ok table journal head state e =
+    let a = done-not _ _ _ e in
+    let b = done-not _ _ _ (a .1) in
+    let c = done-not _ _ _ (b .1) in
+    let d = done-not _ _ _ (c .1) in
+    let f = done-not _ _ _ (d .1) in
+    record {
+      range = lengths-facts (length table) (length journal) (not-false _ (a .0));
+      sound = sound-facts table journal head (not-false _ (b .0));
+      low = ltb-false state (head .checkpoint) (c .0);
+      high = ltb-false (head .tip) state (d .0);
+      fits = ltb-false (length table) (length (mapHere table journal head state)) (f .0);
+    }
+
+-- words with zeros behind: from a place on there are zeros only, and a map written to their start, with zeros up to the used words, is
+-- the map padded
+zeros-on : (l : List ℕ) (used n : ℕ) → used ≤ n → zerosB (drop used l) ≡ true → drop n l ≡ replicate (length l - n) 0
+zeros-on l used n h z =
+    let sum : used + (n - used) ≡ n = omega arith in
+    let rest : length (drop used l) - (n - used) ≡ length l - n = omega (arith, length-drop used l) in
+    ap (λ (k : ℕ). drop k l) (sym sum)
+    ∙ sym (drop-drop (n - used) used l)
+    ∙ ap (drop (n - used)) (zeros-fact (drop used l) z)
+    ∙ zeros-from (n - used) (length (drop used l))
+    ∙ ap (λ (k : ℕ). replicate k 0) rest
+
+zeros-join : (l : List ℕ) (used : ℕ) (m : List ℕ) (n : ℕ) → n ≡ length m → (used ≤ length l) × (n ≤ length l) → zerosB (drop used l) ≡ true
+    → m ++ replicate (used - n) 0 ++ drop (max used n) l ≡ padded (length l) m
+zeros-join l used m n e h z =
+    let zeros : used - n + (length l - max used n) ≡ length l - length m = omega (arith, h .0, h .1) in
+    ap (λ (r : List ℕ). m ++ replicate (used - n) 0 ++ r) (zeros-on l used (max used n) (omega arith) z)
+    ∙ append-assoc m (replicate (used - n) 0) (replicate (length l - max used n) 0)
+    ∙ ap (λ (r : List ℕ). m ++ r) (replicate-append-replicate (used - n) (length l - max used n) 0 ∙ ap (λ (k : ℕ). replicate k 0) zeros)
+
+-- a plan
+module _ {table journal : List ℕ} {head : Head} {state : ℕ} {changes aside : List ℕ} {n a size : ℕ} (f : FlushPlan table journal head state changes aside n a size) where
+  pub changes-in : n ≡ length (take n changes)
+  changes-in = sym (length-take-le n changes (f .count-in))
+
+  pub new-in : a ≡ length (take a aside)
+  new-in = sym (length-take-le a aside (f .new-in))
+
+  pub plan-full : length table < size → length table < length (mapHere table journal head state)
+  plan-full h = omega (arith, f .size-is)
+
+  pub plan-fits : size ≤ length table → length (mapHere table journal head state) ≤ length table
+  plan-fits h = omega (arith, f .size-is)
+
+  pub head-is : (used : ℕ) (next : Head) → used ≡ length (apply (take (head .used) table) (take n changes)) → next ≡ flushedHead head used state
+      → next ≡ flushedHead head (length (mapHere table journal head state)) state
+  head-is used next eu en = en ∙ ap (λ (u : ℕ). flushedHead head u state) (eu ∙ ap (λ (d : List ℕ). length (apply (take (head .used) table) d)) (f .changes-are))
+
+module _ {table journal : List ℕ} {head : Head} {state : ℕ} (p : Shaped head) (ok : EarlyOk table journal head state) where
+  -- the plan carried out
+  module _ {changes aside : List ℕ} {n a size : ℕ} (f : FlushPlan table journal head state changes aside n a size) (h : size ≤ length table) where
+    pub can-apply : Planned table (head .used) (take n changes) (take a aside)
+    can-apply =
+        record {
+          inside = ok .sound .used-in;
+          map = ok .sound .map;
+          rises = rw (f .changes-are) (since-rises table journal head (ok .sound) state (ok .low) (ok .high) p);
+          aside = rw (f .changes-are) (f .new-are);
+          fits = rw (f .changes-are) (plan-fits f h);
+        }
+
+    pub table-is : (used : ℕ) (last : List ℕ) → used ≡ length (apply (take (head .used) table) (take n changes))
+        → last ≡ apply (take (head .used) table) (take n changes) ++ replicate (head .used - used) 0 ++ drop (max (head .used) used) table
+        → last ≡ padded (length table) (mapHere table journal head state)
+    table-is used last eu el =
+        el
+        ∙ zeros-join table (head .used) (apply (take (head .used) table) (take n changes)) used eu (ok .sound .used-in, omega (arith, eu, can-apply .fits)) (ok .sound .table-zeros)
+        ∙ ap (λ (d : List ℕ). padded (length table) (apply (take (head .used) table) d)) (f .changes-are)
+
+  -- the floor of the flushed head does not fall, and its steps can be trimmed
+  pub flushed-trimmable : (used : ℕ) → Trimmable journal (flushedHead head used state)
+  unfolding flushedHead
+  flushed-trimmable used =
+      record {
+        low = omega (arith, ok .sound .oldest, least-later (head .checkpoint) state (head .held) (head .issued) (ok .low));
+        high = omega (arith, least-up-to state (head .held) (head .issued), ok .high);
+        few = ok .sound .few;
+        marked = sound-marked table journal head p (ok .sound);
+      }

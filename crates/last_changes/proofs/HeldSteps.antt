@@ -1,0 +1,23 @@
+-- The held steps of a sound store can be searched.
+-- Assumes nothing.
+use mathlib.Core.List.{List}
+use Prim.Native.Nat.{ℕ, _≤_}
+use native.Mathlib.Omega.{arith}
+use Rattle.changes.proofs.ListTest.{list-facts}
+use Rattle.changes.proofs.Running.{marked-fewer}
+use Rattle.layout.specs.declared.head.Head.{Head}
+use Rattle.views.specs.States.{stepIndex}
+use Rattle.views.specs.View.{Shaped}
+use Rattle.views.proofs.Sounds.{Sound, sound-marked}
+use Rattle.layout.proofs.StepTests.{step-list}
+use Rattle.last_changes.specs.Steps.{Rising}
+
+-- the held steps from one state to a later one, up to the tip
+pub steps-rising : (table journal : List ℕ) (head : Head) → Shaped head → Sound table journal head → (from to : ℕ) → from ≤ to → to ≤ head .tip
+    → Rising journal (head .ends) (stepIndex head from) (stepIndex head to)
+steps-rising table journal head p s from to h k =
+    record {
+      marked = marked-fewer (sound-marked table journal head p s) (stepIndex head to) (omega arith);
+      order = omega arith;
+      rises = λ i a b. list-facts _ (step-list journal (head .ends) i (s .steps i (omega arith))) .1;
+    }

@@ -1,0 +1,64 @@
+// The last change of an offer among some steps of the journal, and a read set brought forward by the last changes of its
+// offers.
+use changes::search::Found;
+use entry::Entry;
+use layout::sound::end_of;
+use lists::search::find;
+ghost use mathlib.Core.Path.{_≡_};
+ghost use Prim.Native.Nat.{_+_, _-_, _≤_};
+ghost use Rattle.entry.specs.Word.{offerOf};
+ghost use Rattle.changes.specs.Calculus.{find as found, composeAll};
+ghost use Rattle.changes.specs.Lists.{From};
+ghost use Rattle.changes.specs.ReadSets.{foundOr, over};
+ghost use Rattle.changes.specs.Runs.{stepOf, runOf, Marked};
+ghost use Rattle.last_changes.specs.Steps.{Rising};
+
+// The word of one step at the offer.
+fn find_in_step(journal: &[u64], ends: &[usize], step: usize, offer: u32) -> Found
+    requires { ⌜ Marked (now journal) (now ends) (step + 1) × From 0 (stepOf (now journal) (now ends) step) ⌝ }
+    ensures { λ r. ⌜ r ≡ found offer (stepOf (now (journal .entry)) (now (ends .entry)) step) ⌝ }
+{
+    let start = end_of(ends, step);
+    let end = end_of(ends, step + 1);
+    find(&journal[start..end], offer)
+}
+
+// The last change of the offer among the steps from `from` up to `to`, exclusive, sought from the newest back.
+pub fn last_change(journal: &[u64], ends: &[usize], from: usize, to: usize, offer: u32) -> Found
+    requires { ⌜ Rising (now journal) (now ends) from to ⌝ }
+    ensures { λ r. ⌜ r ≡ found offer (composeAll (runOf (now (journal .entry)) (now (ends .entry)) from (to - from))) ⌝ }
+{
+    let mut k = to;
+    while from < k {
+        let step = k - 1;
+        let found = find_in_step(journal, ends, step, offer);
+        let Found::Nothing = found else {
+            return found;
+        };
+        k = step;
+    }
+    Found::Nothing
+}
+
+// The last change of the word's offer among the steps, or the word itself.
+fn word_after(word: u64, journal: &[u64], ends: &[usize], from: usize, to: usize) -> u64
+    requires { ⌜ Rising (now journal) (now ends) from to ⌝ }
+    ensures { λ r. ⌜ r ≡ foundOr (found (offerOf word) (composeAll (runOf (now (journal .entry)) (now (ends .entry)) from (to - from)))) word ⌝ }
+{
+    match last_change(journal, ends, from, to, Entry::offer_of(word)) {
+        Found::Word(later) => later,
+        Found::Nothing => word,
+    }
+}
+
+// Applies the steps from `from` up to `to`, exclusive, to the read set at its own offers.
+pub fn bring_forward(words: &mut [u64], journal: &[u64], ends: &[usize], from: usize, to: usize)
+    requires { ⌜ Rising (now journal) (now ends) from to ⌝ }
+    ensures { λ r. ⌜ now (words .exit) ≡ over (now (words .entry)) (composeAll (runOf (now (journal .entry)) (now (ends .entry)) from (to - from))) ⌝ }
+{
+    let mut i = 0;
+    while i < words.len() {
+        words[i] = word_after(words[i], journal, ends, from, to);
+        i += 1;
+    }
+}

@@ -1,0 +1,3 @@
+mod Climbing
+pub mod Halving
+mod Scans

@@ -1,0 +1,49 @@
+-- `lookups::price_after` meets its contract: the last change tells the price, and without one the map.
+-- Assumes nothing.
+use mathlib.Core.Path.{_∙_, sym, ap}
+use Prim.Native.Nat.{_-_}
+use Rattle.changes.specs.Calculus.{composeAll, ifPut}
+use Rattle.changes.specs.Runs.{runOf}
+use Rattle.lookups.specs.LookUp.{quoteOf}
+use Rattle.lookups.proofs.Quoting.{by-change, by-map}
+use Rattle.last_changes.proofs.Seeking.{between-rises}
+use borrow.Author.Needs.{needs}
+use Rattle.lookups.proofs.price_after.Statement.{statement}
+use Rattle.lookups.proofs.price_after.Tie as tie
+
+last-change-requires : tie.Need-last-change-requires
+last-change-requires c κs = search needs
+
+enum-told : tie.Need-enum-told
+enum-told c = search needs
+
+enum-told-2 : tie.Need-enum-told-2
+enum-told-2 c = search needs
+
+quote-of-requires : tie.Need-quote-of-requires
+quote-of-requires c κs = search needs
+
+returns : tie.Need-returns
+returns c = (c .quote-of .ensures) ∙ ap (λ f. quoteOf (ifPut f)) (c .before .before .before .last-change .ensures) ∙ ap quoteOf (by-change (c .before .before .before .before .before .before .before .args .offer) ((c .before .before .before .before .before .before .before .args .base .now)) (composeAll (runOf ((c .before .before .before .before .before .before .before .args .journal .now)) ((c .before .before .before .before .before .before .before .args .ends .now)) (c .before .before .before .before .before .before .before .args .from) ((c .before .before .before .before .before .before .before .args .to) - (c .before .before .before .before .before .before .before .args .from)))) (c .before .before .before .before .before .before .before .pre .0) (between-rises (c .before .before .before .before .before .before .before .pre .1)) _ (sym (c .before .before .before .last-change .ensures) ∙ (c .before .enum-told2 .given .1)))
+
+find-requires : tie.Need-find-requires
+find-requires c κs = (c .before .before .before .before .before .before .pre .0 .rises)
+
+quote-of-requires-2 : tie.Need-quote-of-requires-2
+quote-of-requires-2 c κs = search needs
+
+returns-2 : tie.Need-returns-2
+returns-2 c = (c .quote-of2 .ensures) ∙ ap (λ f. quoteOf (ifPut f)) (c .before .find .ensures) ∙ ap quoteOf (by-map (c .before .before .before .before .before .before .before .before .args .offer) ((c .before .before .before .before .before .before .before .before .args .base .now)) (composeAll (runOf ((c .before .before .before .before .before .before .before .before .args .journal .now)) ((c .before .before .before .before .before .before .before .before .args .ends .now)) (c .before .before .before .before .before .before .before .before .args .from) ((c .before .before .before .before .before .before .before .before .args .to) - (c .before .before .before .before .before .before .before .before .args .from)))) (c .before .before .before .before .before .before .before .before .pre .0) (between-rises (c .before .before .before .before .before .before .before .before .pre .1)) (sym (c .before .before .before .before .last-change .ensures) ∙ (c .before .before .enum-told .given .1)))
+
+pub price-after-spec : {M : Type 1} → statement M
+price-after-spec =
+    tie.close
+    (tie.spec
+    last-change-requires
+    enum-told
+    enum-told-2
+    quote-of-requires
+    returns
+    find-requires
+    quote-of-requires-2
+    returns-2)

@@ -1,0 +1,23 @@
+-- `slots::open_slot` meets its contract.
+-- Assumes nothing.
+use mathlib.Core.Path.{refl}
+use Rattle.slots.specs.Slots.{opened}
+use borrow.Author.Needs.{needs}
+use Rattle.slots.proofs.open_slot.Statement.{statement}
+use Rattle.slots.proofs.open_slot.Tie as tie
+
+element-write-next : tie.Need-element-write-next
+element-write-next c = search needs
+
+mul-next : tie.Need-mul-next
+mul-next c = search needs
+
+element-write-next-2 : tie.Need-element-write-next-2
+element-write-next-2 c = search needs
+
+returns : tie.Need-returns
+unfolding opened
+returns c = refl
+
+pub open-slot-spec : {M : Type 1} → statement M
+open-slot-spec = tie.close (tie.spec element-write-next mul-next element-write-next-2 returns)

@@ -1,0 +1,27 @@
+// Slots (document 01: reading places) that open and close.
+use layout::head::Head;
+ghost use mathlib.Core.Path.{_≡_};
+ghost use Prim.Native.Nat.{_<_};
+ghost use Rattle.slots.specs.Slots.{opened, shut};
+
+// The head with the slot open at the checkpoint.
+pub fn open_slot(head: Head, slot: usize) -> Head
+    requires { ⌜ slot < 8 ⌝ }
+    ensures { λ r. ⌜ r ≡ opened head slot ⌝ }
+{
+    let mut next = head;
+    next.held[slot] = true;
+    next.issued[slot] = head.checkpoint;
+    next
+}
+
+// The head with the slot closed.
+pub fn close_slot(head: Head, slot: usize) -> Head
+    requires { ⌜ slot < 8 ⌝ }
+    ensures { λ r. ⌜ r ≡ shut head slot ⌝ }
+{
+    let mut next = head;
+    next.held[slot] = false;
+    next.issued[slot] = 0;
+    next
+}

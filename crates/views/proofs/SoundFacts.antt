@@ -1,0 +1,28 @@
+-- What every call reads off a sound store: the lengths of its head's arrays, its used words, and where its steps end.
+-- Assumes nothing.
+use mathlib.Core.Path.{_≡_}
+use mathlib.Core.List.{List}
+use Prim.Native.Nat.{ℕ, _≤_}
+use native.Mathlib.Omega.{arith}
+use lib.ListN.{length, take}
+use lib.Seq.{length-take-le}
+use Rattle.changes.specs.Runs.{startOf}
+use Rattle.layout.specs.declared.head.Head.{Head}
+use Rattle.layout.specs.Sound.{heldOf, stepB}
+use Rattle.views.specs.View.{Shaped}
+use Rattle.layout.proofs.Holds.{all-of}
+use Rattle.views.proofs.Sounds.{Sound}
+use Rattle.layout.proofs.StepTests.{steps-inside}
+
+-- a head whose arrays have their lengths
+pub shaped : (head : Head) → length (head .held) ≡ 8 → length (head .issued) ≡ 8 → length (head .ends) ≡ 64 → Shaped head
+shaped head a b c = record { held-8 = a; issued-8 = b; ends-64 = c }
+
+module _ {table journal : List ℕ} {head : Head} (s : Sound table journal head) where
+  -- the used words of the table
+  pub used-long : length (take (head .used) table) ≡ head .used
+  used-long = length-take-le (head .used) table (s .used-in)
+
+  -- the held steps, or the first of them, end within the journal
+  pub inside : (n : ℕ) → n ≤ heldOf head → startOf (head .ends) n ≤ length journal
+  inside n h = steps-inside journal (head .ends) n (all-of (stepB journal (head .ends)) n (λ k l. s .steps k (omega arith)))

@@ -1,0 +1,3 @@
+pub mod Trim
+pub mod View
+pub mod States

@@ -1,0 +1,139 @@
+-- The structured view of a sound store: its maps, lists and numbers, apart from how they lie in memory.
+-- Assumes nothing.
+use mathlib.Core.Path.{_≡_}
+use mathlib.Core.Bool.{Bool, true, false}
+use mathlib.Core.List.{List, [], _∷_, _++_, map}
+use Prim.Native.Nat.{ℕ, _+_, _-_, _≤_, min}
+use lib.ListN.{length, take, drop, replicate}
+use Rattle.changes.specs.Calculus.{apply, composeAll}
+use Rattle.changes.specs.Lists.{listB, All, Map}
+use Rattle.changes.specs.Runs.{runOf}
+use Rattle.layout.specs.declared.head.Head.{Head}
+use Rattle.layout.specs.Sound.{heldOf}
+
+-- the memory of a store with its head
+pub record Store : Type 0 where
+  pub table : List ℕ
+  pub journal : List ℕ
+  pub head : Head
+
+-- a reading place: closed, or open with the anchor at its issue
+pub data Slot : Type 0 where
+  closed : Slot
+  holding : ℕ → Slot
+
+-- the lengths lent
+pub record Limits : Type 0 where
+  pub table : ℕ
+  pub journal : ℕ
+
+pub record View : Type 0 where
+  -- the map at the checkpoint (anchor)
+  pub base : List ℕ
+  -- the held steps that lead up to the checkpoint, and those that lead on from it, oldest first
+  pub old : List (List ℕ)
+  pub steps : List (List ℕ)
+  pub checkpoint : ℕ
+  pub slots : List Slot
+  pub limits : Limits
+
+-- all held steps
+abbrev pub heldSteps : View → List (List ℕ)
+heldSteps v = v .old ++ v .steps
+
+abbrev pub tipOf : View → ℕ
+tipOf v = v .checkpoint + length (v .steps)
+
+-- "State number s is the book with the steps from the anchor to s applied, for anchor ≤ s ≤ tip."
+unfoldable pub mapAt : View → ℕ → List ℕ
+mapAt v s = apply (v .base) (composeAll (take (s - v .checkpoint) (v .steps)))
+
+-- the least of a number and the numbers of the open slots
+unfoldable pub leastSlot : ℕ → List Slot → ℕ
+leastSlot c [] = c
+leastSlot c (closed ∷ slots) = leastSlot c slots
+leastSlot c (holding n ∷ slots) = min n (leastSlot c slots)
+
+-- words with zeros behind, to a length
+abbrev pub padded : ℕ → List ℕ → List ℕ
+padded n l = l ++ replicate (n - length l) 0
+
+-- lists one after another, and where each ends
+unfoldable pub flat : List (List ℕ) → List ℕ
+flat [] = []
+flat (d ∷ ds) = d ++ flat ds
+
+unfoldable pub marksFrom : ℕ → List (List ℕ) → List ℕ
+marksFrom n [] = []
+marksFrom n (d ∷ ds) = (n + length d) ∷ marksFrom (n + length d) ds
+
+-- a slot as the head has it, and back
+abbrev pub openOf : Slot → Bool
+openOf closed = false
+openOf (holding n) = true
+
+abbrev pub issuedOf : Slot → ℕ
+issuedOf closed = 0
+issuedOf (holding n) = n
+
+abbrev pub slotOf : Bool → ℕ → Slot
+slotOf true n = holding n
+slotOf false n = closed
+
+unfoldable pub slotsOf : List Bool → List ℕ → List Slot
+slotsOf [] numbers = []
+slotsOf (m ∷ marks) [] = slotOf m 0 ∷ slotsOf marks []
+slotsOf (m ∷ marks) (n ∷ numbers) = slotOf m n ∷ slotsOf marks numbers
+
+-- a view in memory
+unfoldable pub encode : View → Store
+encode v = record {
+  table = padded (v .limits .table) (v .base);
+  journal = padded (v .limits .journal) (flat (heldSteps v));
+  head = record {
+    used = length (v .base);
+    oldest = v .checkpoint - length (v .old);
+    checkpoint = v .checkpoint;
+    tip = tipOf v;
+    held = map openOf (v .slots);
+    issued = map issuedOf (v .slots);
+    ends = padded 64 (marksFrom 0 (heldSteps v));
+  };
+}
+
+-- the view of what lies in memory
+unfoldable pub decode : Store → View
+decode s =
+    let all = runOf (s .journal) (s .head .ends) 0 (heldOf (s .head)) in
+    let before = s .head .checkpoint - s .head .oldest in
+    record {
+      base = take (s .head .used) (s .table);
+      old = take before all;
+      steps = drop before all;
+      checkpoint = s .head .checkpoint;
+      slots = slotsOf (s .head .held) (s .head .issued);
+      limits = record { table = length (s .table); journal = length (s .journal) };
+    }
+
+-- an open slot's number is not above the checkpoint
+abbrev pub NotAbove : ℕ → Slot → Type 0
+NotAbove c closed = Unit
+NotAbove c (holding n) = n ≤ c
+
+-- a view that memory can hold
+pub record Good (v : View) : Type 0 where
+  pub map : Map (v .base)
+  pub room : length (v .base) ≤ v .limits .table
+  pub lists : All (λ d. listB d ≡ true) (heldSteps v)
+  pub few : length (heldSteps v) ≤ 64
+  pub fits : length (flat (heldSteps v)) ≤ v .limits .journal
+  pub eight : length (v .slots) ≡ 8
+  pub below : All (NotAbove (v .checkpoint)) (v .slots)
+  pub since : length (v .old) ≤ v .checkpoint
+  pub oldest : v .checkpoint - length (v .old) ≡ leastSlot (v .checkpoint) (v .slots)
+
+-- the arrays of a head have their lengths
+pub record Shaped (h : Head) : Type 0 where
+  pub held-8 : length (h .held) ≡ 8
+  pub issued-8 : length (h .issued) ≡ 8
+  pub ends-64 : length (h .ends) ≡ 64

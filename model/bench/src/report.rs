@@ -1,0 +1,349 @@
+//! docs/BENCHMARKS.md, from what was measured.
+
+use crate::peer::KINDS;
+use crate::results::{Beside, Figure, Line, Results, Row, Soundness, JOURNAL, OFFERS, TABLE};
+use std::fmt::Write;
+
+/// The targets: a call against the baseline, and the test of a store against a plain pass.
+const TO_RUST: f64 = 1.1;
+const TO_PASS: f64 = 2.5;
+/// How far a time's growth from some words lent to the most may pass that of the words: what measuring leaves open.
+const LEEWAY: f64 = 1.1;
+
+/// What the run was made on.
+pub struct Setting {
+    /// The machine, the compiler and the versions of the peers, a line each.
+    pub lines: Vec<String>,
+}
+
+/// The text of the report.
+pub fn report(results: &Results, setting: &Setting) -> String {
+    let mut text = String::from(INTRODUCTION);
+    setting.lines.iter().for_each(|line| text += &format!("- {line}\n"));
+    text += MEASURED;
+    text += &targets(results);
+    text += "\n## Calls\n\n";
+    text += &format!(
+        "{} table words and {} journal words are lent, whatever they hold; times in microseconds. A step has 64 entries.\n\n",
+        grouped(TABLE),
+        grouped(JOURNAL)
+    );
+    text += &calls(&results.rows);
+    text += "\nA batch on a read set of 64 offers, in nanoseconds:\n\n";
+    text += &batches(&results.batches);
+    text += SOUNDNESS;
+    text += &soundness(&results.soundness);
+    text += PEERS;
+    text += &beside(&results.beside);
+    text += GROWTH;
+    text += &growth(&results.lines);
+    text
+}
+
+const INTRODUCTION: &str = "# Benchmarks
+
+Made by `make bench` from one run of `model/bench` on
+
+";
+
+const MEASURED: &str = "
+Each call of the C interface is measured beside
+
+- (a) the same work in safe Rust (`model/bench/src/baseline/`), as one writes it for speed and clarity: on the same lent memory, with the
+  same grounds in the same order, and with the whole test of the store in every call. A test holds it to the library on random calls;
+- (b) one plain pass over the words lent, their sum, which the compiler vectorises: the limit of a call that tests all of them;
+- (c) LMDB and SQLite in memory, for lookups and commits of 64 entries, where they are installed.
+
+All buffers are warm: each side has made the same calls on the same memory just before. A round times a batch of calls of each side, one
+side after another; a figure is the median of the rounds, and a ratio the median of the ratios of each round. Calls that change the store
+are timed one by one, what they change is restored before each, and the clock's own time is subtracted. Offers, lists and stores take
+turns.
+";
+
+const SOUNDNESS: &str = "
+## The test of a store
+
+A release of slot 8 is refused by ground 3, right after the store has been tested. The baseline is measured in a second form too, whose
+scans do not stop at the first word that is wrong, so that the compiler vectorises them. Times in microseconds; a ratio is to the plain
+pass.
+
+";
+
+const PEERS: &str = "
+## Beside LMDB and SQLite
+
+8 steps of 64 entries are held, and the peers have the same prices. A commit is one transaction of 64 entries, in LMDB without sync on a
+folder in memory; a lookup is one read transaction. The unit tests all of its lent words in every call, and the peers do not. Times in
+microseconds.
+
+";
+
+const GROWTH: &str = "
+## Time against words lent
+
+![time of a call against the words lent](benchmarks.svg)
+
+Table and journal share the words lent as 8,000 to 4,096. The table is full; half of the journal holds up to 32 steps; a commit has as many
+entries as a step; a flush is of all steps. Nanoseconds, the unit's and (a)'s. Time counts as growing no faster than the words where
+from each size to the largest, if that is four times as many words or more, it grows by no more than the words do, or than the plain pass
+does where a nearer cache no longer holds them; a tenth is left to measuring.
+
+";
+
+/// Which targets are reached.
+fn targets(results: &Results) -> String {
+    let mut text = String::from("\n## Targets\n\n| target | reached | |\n|---|---|---|\n");
+    for (target, (reached, remark)) in [
+        ("every call at most 1.1 times (a)", to_rust(results)),
+        ("the test of a store at most 2.5 times (b)", to_pass(&results.soundness)),
+        ("a commit of 64 entries at 8,000 offers below LMDB's without sync", below_lmdb(&results.beside)),
+        ("time grows no faster than the words lent", grows(&results.lines)),
+    ] {
+        let reached = match reached {
+            Some(true) => "yes",
+            Some(false) => "no",
+            None => "not measured",
+        };
+        let _ = writeln!(text, "| {target} | {reached} | {remark} |");
+    }
+    text
+}
+
+/// A ratio as it is printed, so that what is compared is what is read.
+fn rounded(ratio: f64) -> f64 {
+    (ratio * 100.0).round() / 100.0
+}
+
+fn to_rust(results: &Results) -> (Option<bool>, String) {
+    let calls = results.rows.iter().flat_map(|row| row.figures.iter().map(|figure| (row.call, figure.ratio)));
+    let batches = results.batches.iter().map(|(_, figure)| ("price_batch", figure.ratio));
+    let all: Vec<(&str, f64)> = calls.chain(batches).map(|(call, ratio)| (call, rounded(ratio))).collect();
+    let above: Vec<_> = all.iter().filter(|(_, ratio)| *ratio > TO_RUST).collect();
+    let mut worst: Vec<(&str, f64)> = Vec::new();
+    for &&(call, ratio) in &above {
+        match worst.iter_mut().find(|(other, _)| *other == call) {
+            Some((_, highest)) => *highest = highest.max(ratio),
+            None => worst.push((call, ratio)),
+        }
+    }
+    let named: Vec<String> = worst.iter().map(|(call, ratio)| format!("{call} up to {ratio:.2}")).collect();
+    let mut remark = format!("{} of {} figures", all.len() - above.len(), all.len());
+    if !named.is_empty() {
+        let _ = write!(remark, "; above: {}", named.join(", "));
+    }
+    (Some(above.is_empty()), remark)
+}
+
+fn to_pass(soundness: &[Soundness]) -> (Option<bool>, String) {
+    let ratios: Vec<f64> = soundness.iter().map(|row| rounded(row.to_pass[0])).collect();
+    let lowest = ratios.iter().copied().fold(f64::INFINITY, f64::min);
+    let highest = ratios.iter().copied().fold(0.0, f64::max);
+    (Some(highest <= TO_PASS), format!("{lowest:.2} to {highest:.2}"))
+}
+
+fn below_lmdb(beside: &[Beside]) -> (Option<bool>, String) {
+    let commit = beside.iter().find(|row| row.call.starts_with("commit") && row.offers == 8000);
+    let lmdb = |row: &Beside| {
+        row.peers.iter().zip(&KINDS).find(|(_, kind)| kind.name.starts_with("LMDB"))?.0.as_ref().copied()
+    };
+    match commit.and_then(|row| Some((row.figure.unit, lmdb(row)?))) {
+        Some((unit, lmdb)) => (Some(unit < lmdb), format!("{} against {} µs", micro(unit), micro(lmdb))),
+        None => (None, String::from("LMDB is not installed")),
+    }
+}
+
+/// From each size to the largest, four times it or more, a time may grow as the words do, or as the plain pass does, which memory
+/// slows.
+fn grows(lines: &[Line]) -> (Option<bool>, String) {
+    let (passes, calls): (Vec<&Line>, Vec<&Line>) = lines.iter().partition(|line| line.call == "plain pass");
+    let (first, last) = (calls[0].points[0].words, calls[0].points[calls[0].points.len() - 1].words);
+    let mut remarks = Vec::new();
+    let mut reached = true;
+    for line in calls {
+        let points = line.points.iter().zip(&passes[0].points).filter(|(point, _)| 4 * point.words <= last);
+        let growth = points.map(|(point, pass)| {
+            let allowed = pass.to_last.max(last as f64 / point.words as f64);
+            (point.to_last / allowed, point)
+        });
+        let (most, from) = growth.max_by(|(one, _), (other, _)| one.total_cmp(other)).unwrap();
+        let mut remark = format!("{} {:.0} times", line.call, line.points[0].to_last);
+        if most > LEEWAY {
+            reached = false;
+            let _ = write!(remark, " (but {:.1} times from {} words)", from.to_last, grouped(from.words));
+        }
+        remarks.push(remark);
+    }
+    let more = last as f64 / first as f64;
+    let remark =
+        format!("{first} to {} words, {more:.0} times as many: {}", grouped(last), remarks.join(", "));
+    (Some(reached), remark)
+}
+
+fn calls(rows: &[Row]) -> String {
+    let mut text = String::from("| call | steps held |");
+    for offers in OFFERS {
+        let offers =
+            if offers == 1 { String::from("1 offer") } else { format!("{} offers", grouped(offers)) };
+        let _ = write!(text, " {offers}: unit | (a) | ratio |");
+    }
+    text += "\n|---|--:|--:|--:|--:|--:|--:|--:|--:|--:|--:|\n";
+    for row in rows {
+        let _ = write!(text, "| {} | {} |", row.call, row.held);
+        for Figure { unit, rust, ratio } in &row.figures {
+            let _ = write!(text, " {} | {} | **{ratio:.2}** |", micro(*unit), micro(*rust));
+        }
+        text.push('\n');
+    }
+    text
+}
+
+fn batches(batches: &[(usize, Figure)]) -> String {
+    let mut text = String::from("| orders | unit | (a) | ratio |\n|--:|--:|--:|--:|\n");
+    for (orders, Figure { unit, rust, ratio }) in batches {
+        let _ = writeln!(text, "| {orders} | {unit:.0} | {rust:.0} | **{ratio:.2}** |");
+    }
+    text
+}
+
+fn soundness(rows: &[Soundness]) -> String {
+    let mut text = String::from(
+        "| offers | steps held | plain pass | unit | ratio | (a) | ratio | (a) without exits | ratio |\n",
+    );
+    text += "|--:|--:|--:|--:|--:|--:|--:|--:|--:|\n";
+    for Soundness { offers, held, figure, without_exits, pass, to_pass } in rows {
+        let _ = write!(text, "| {} | {held} | {} |", grouped(*offers), micro(*pass));
+        let times = [figure.unit, figure.rust, *without_exits];
+        for (time, ratio) in times.iter().zip(to_pass) {
+            let _ = write!(text, " {} | **{ratio:.2}** |", micro(*time));
+        }
+        text.push('\n');
+    }
+    text
+}
+
+fn beside(rows: &[Beside]) -> String {
+    let mut text = String::from("| call | offers | unit | (a) |");
+    KINDS.iter().for_each(|kind| text += &format!(" {} |", kind.name));
+    text += "\n|---|--:|--:|--:|";
+    KINDS.iter().for_each(|_| text += "--:|");
+    text.push('\n');
+    for Beside { call, offers, figure, peers } in rows {
+        let _ = write!(
+            text,
+            "| {call} | {} | {} | {} |",
+            grouped(*offers),
+            micro(figure.unit),
+            micro(figure.rust)
+        );
+        for peer in peers {
+            let time = peer.map_or_else(|| String::from("not installed"), micro);
+            let _ = write!(text, " {time} |");
+        }
+        text.push('\n');
+    }
+    text
+}
+
+fn growth(lines: &[Line]) -> String {
+    let mut text = String::from("| words lent |");
+    lines.iter().for_each(|line| text += &format!(" {} |", line.call));
+    text += "\n|--:|";
+    lines.iter().for_each(|_| text += "--:|");
+    text.push('\n');
+    for place in 0..lines[0].points.len() {
+        let _ = write!(text, "| {} |", grouped(lines[0].points[place].words));
+        for line in lines {
+            let point = line.points[place];
+            match line.call {
+                "plain pass" => text += &format!(" {:.0} |", point.unit),
+                _ => text += &format!(" {:.0}, {:.0} |", point.unit, point.rust),
+            }
+        }
+        text.push('\n');
+    }
+    text
+}
+
+/// Nanoseconds as microseconds, with three digits.
+fn micro(nanoseconds: f64) -> String {
+    let micro = nanoseconds / 1000.0;
+    let decimals = if micro < 10.0 { 2 } else { usize::from(micro < 100.0) };
+    format!("{micro:.decimals$}")
+}
+
+/// A number with a comma before its last three digits, if it has more.
+fn grouped(number: usize) -> String {
+    if number < 1000 {
+        return number.to_string();
+    }
+    format!("{},{:03}", number / 1000, number % 1000)
+}
+
+#[cfg(test)]
+mod tests {
+    use super::{grouped, micro, report, Setting};
+    use crate::results::{Beside, Figure, Line, Point, Results, Row, Soundness};
+
+    /// Results in which every ratio of the unit to the baseline is the same, and every one to the plain pass.
+    fn results(ratio: f64, to_pass: f64, lmdb: Option<f64>, flush_to_last: f64) -> Results {
+        let figure = Figure { unit: 1000.0 * ratio, rust: 1000.0, ratio };
+        let point = |words, to_last| Point { words, unit: 10.0, rust: 10.0, to_last };
+        let line = |call, to_last| Line { call, points: vec![point(64, to_last), point(6400, 1.0)] };
+        Results {
+            rows: vec![Row { call: "load", held: 0, figures: vec![figure; 3] }],
+            batches: vec![(64, figure)],
+            soundness: vec![Soundness {
+                offers: 1,
+                held: 8,
+                figure,
+                without_exits: 800.0,
+                pass: 500.0,
+                to_pass: [to_pass, 2.0, 1.6],
+            }],
+            beside: vec![Beside {
+                call: "commit of 64",
+                offers: 8000,
+                figure,
+                peers: vec![lmdb, lmdb, None],
+            }],
+            lines: vec![line("flush", flush_to_last), line("plain pass", 120.0)],
+        }
+    }
+
+    fn lines_of(results: Results) -> Vec<String> {
+        let setting = Setting { lines: vec![String::from("a machine")] };
+        report(&results, &setting).lines().map(String::from).collect()
+    }
+
+    fn target(lines: &[String], begin: &str) -> String {
+        lines.iter().find(|line| line.starts_with(&format!("| {begin}"))).unwrap().clone()
+    }
+
+    #[test]
+    fn targets_that_are_reached() {
+        let lines = lines_of(results(1.104, 2.504, Some(1500.0), 130.0));
+        assert!(lines.contains(&String::from("- a machine")));
+        assert!(target(&lines, "every call").ends_with("| yes | 4 of 4 figures |"));
+        assert!(target(&lines, "the test").ends_with("| yes | 2.50 to 2.50 |"));
+        assert!(target(&lines, "a commit").ends_with("| yes | 1.10 against 1.50 µs |"));
+        assert!(target(&lines, "time grows")
+            .contains("| yes | 64 to 6,400 words, 100 times as many: flush 130 times |"));
+    }
+
+    #[test]
+    fn targets_that_are_not_reached() {
+        let lines = lines_of(results(1.2, 2.6, None, 140.0));
+        assert!(target(&lines, "every call")
+            .ends_with("| no | 0 of 4 figures; above: load up to 1.20, price_batch up to 1.20 |"));
+        assert!(target(&lines, "the test").contains("| no |"));
+        assert!(target(&lines, "a commit").contains("| not measured | LMDB is not installed |"));
+        assert!(target(&lines, "time grows").contains("| no |"));
+        assert!(target(&lines, "time grows").contains("flush 140 times (but 140.0 times from 64 words)"));
+    }
+
+    #[test]
+    fn numbers_as_they_are_printed() {
+        assert_eq!([640.0, 12_340.0, 123_400.0].map(micro), ["0.64", "12.3", "123"]);
+        assert_eq!([1, 999, 1000, 12096].map(grouped), ["1", "999", "1,000", "12,096"]);
+    }
+}

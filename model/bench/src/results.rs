@@ -1,0 +1,263 @@
+//! Everything measured in one run.
+
+use crate::baseline::Memory;
+use crate::calls;
+use crate::peer::{Loaded, KINDS};
+use crate::scene::{Scene, Shape};
+use crate::timing::{measure, Rounds, Side};
+use ffi::Lent;
+
+/// Offers in the table, and steps held.
+pub const OFFERS: [usize; 3] = [1, 1000, 8000];
+pub const HELD: [usize; 3] = [0, 8, 64];
+/// Words lent: the longest table and the longest journal.
+pub const TABLE: usize = 8000;
+pub const JOURNAL: usize = 4096;
+/// Words of a step.
+const STEP: usize = 64;
+/// Words lent for the plot; table and journal share them as the longest ones do.
+const LENT: [usize; 9] = [64, 128, 256, 512, 1024, 2048, 4096, 8192, TABLE + JOURNAL];
+
+/// The nanoseconds of a call of the unit and of the baseline, and their ratio.
+#[derive(Clone, Copy, Debug)]
+pub struct Figure {
+    pub unit: f64,
+    pub rust: f64,
+    pub ratio: f64,
+}
+
+impl Figure {
+    fn of(rounds: &Rounds) -> Figure {
+        Figure { unit: rounds.time(0), rust: rounds.time(1), ratio: rounds.ratio(0, 1) }
+    }
+}
+
+/// A call with so many steps held, for each of [`OFFERS`].
+pub struct Row {
+    pub call: &'static str,
+    pub held: usize,
+    pub figures: Vec<Figure>,
+}
+
+/// The test of a store.
+pub struct Soundness {
+    pub offers: usize,
+    pub held: usize,
+    pub figure: Figure,
+    /// The baseline in the form that can be vectorised, and the plain pass.
+    pub without_exits: f64,
+    pub pass: f64,
+    /// How many times as long as the plain pass the unit takes, the baseline, and its other form.
+    pub to_pass: [f64; 3],
+}
+
+/// A call of the unit and of the peers, where they are installed.
+pub struct Beside {
+    pub call: &'static str,
+    pub offers: usize,
+    pub figure: Figure,
+    pub peers: Vec<Option<f64>>,
+}
+
+/// The times of a call against the words lent.
+pub struct Line {
+    pub call: &'static str,
+    pub points: Vec<Point>,
+}
+
+/// Words lent, and the nanoseconds of the unit and of the baseline; a plain pass has only one time, twice.
+#[derive(Clone, Copy, Debug)]
+pub struct Point {
+    pub words: usize,
+    pub unit: f64,
+    pub rust: f64,
+    /// How many times as long the unit takes with the most words.
+    pub to_last: f64,
+}
+
+/// All results.
+pub struct Results {
+    pub rows: Vec<Row>,
+    /// Batches of so many orders.
+    pub batches: Vec<(usize, Figure)>,
+    pub soundness: Vec<Soundness>,
+    pub beside: Vec<Beside>,
+    pub lines: Vec<Line>,
+}
+
+/// What a call is measured on.
+#[derive(Clone, Copy, PartialEq)]
+enum Stage {
+    /// A store with all steps above its checkpoint.
+    Steps,
+    /// The same with room for one more step.
+    Room,
+    /// A store with an early read, half of whose steps are flushed.
+    Early,
+    /// A store that holds 64 steps.
+    Full,
+    /// A store without steps: the call does not look at them.
+    Any,
+}
+
+type Make = for<'a> fn(&'a Scene) -> Side<'a>;
+
+/// A call of the table, and its sides.
+struct Call {
+    name: &'static str,
+    stage: Stage,
+    sides: [Make; 2],
+}
+
+macro_rules! call {
+    ($name:literal, $stage:ident, $call:ident) => {
+        Call {
+            name: $name,
+            stage: Stage::$stage,
+            sides: [calls::$call::<Lent> as Make, calls::$call::<Memory> as Make],
+        }
+    };
+}
+
+const CALLS: [Call; 15] = [
+    call!("clear", Any, clear),
+    call!("load", Any, load),
+    call!("write_image", Steps, write_image),
+    call!("restart", Steps, restart),
+    call!("commit of 64", Room, commit_64),
+    call!("commit of 1", Room, commit_1),
+    call!("commit, refused by 13", Full, refused_commit),
+    call!("roll_back of all steps", Steps, roll_back),
+    call!("flush of all steps", Steps, flush),
+    call!("look_up, present", Steps, look_up_present),
+    call!("look_up, absent", Steps, look_up_absent),
+    call!("issue of 64", Steps, issue),
+    call!("forward of 64", Early, forward),
+    call!("release", Early, release),
+    call!("release, refused by 3", Steps, soundness),
+];
+
+impl Call {
+    /// The steps held at which the call is measured, where it is for so many.
+    fn held(&self, held: usize) -> Option<usize> {
+        match self.stage {
+            Stage::Room => Some(held.min(63)),
+            Stage::Full => (held == 64).then_some(held),
+            Stage::Any => (held == 0).then_some(held),
+            Stage::Steps | Stage::Early => Some(held),
+        }
+    }
+
+    fn measured(&self, shape: Shape) -> Figure {
+        let scene = match self.stage {
+            Stage::Early => Scene::with_early_read(shape),
+            _ => Scene::new(shape),
+        };
+        Figure::of(&measure(self.sides.map(|side| side(&scene)).into()))
+    }
+
+    fn row(&self, held: usize) -> Option<Row> {
+        let held = self.held(held)?;
+        let figures = OFFERS.map(|offers| self.measured(shape(offers, held)));
+        Some(Row { call: self.name, held, figures: figures.into() })
+    }
+}
+
+fn shape(offers: usize, held: usize) -> Shape {
+    Shape { table: TABLE, journal: JOURNAL, offers, held, step: STEP }
+}
+
+/// Measures everything; `tell` is told what comes next.
+pub fn measure_all(mut tell: impl FnMut(&str)) -> Results {
+    let mut rows = Vec::new();
+    for call in &CALLS {
+        tell(call.name);
+        rows.extend(HELD.iter().filter_map(|&held| call.row(held)));
+    }
+    tell("price_batch");
+    let batches = [1, 64].map(|orders| (orders, Figure::of(&batch(orders)))).into();
+    tell("soundness");
+    let cases = OFFERS.iter().flat_map(|&offers| HELD.map(|held| (offers, held)));
+    let soundness = cases.map(|(offers, held)| soundness(offers, held)).collect();
+    tell("peers");
+    let beside = OFFERS.iter().flat_map(|&offers| beside(offers)).collect();
+    tell("words lent");
+    Results { rows, batches, soundness, beside, lines: lines() }
+}
+
+fn batch(orders: usize) -> Rounds {
+    measure(vec![calls::price_batch::<Lent>(orders), calls::price_batch::<Memory>(orders)])
+}
+
+fn soundness(offers: usize, held: usize) -> Soundness {
+    let scene = Scene::new(shape(offers, held));
+    let rounds = measure(vec![
+        calls::soundness::<Lent>(&scene),
+        calls::soundness::<Memory>(&scene),
+        calls::soundness_without_exits(&scene),
+        calls::plain_pass(&scene),
+    ]);
+    Soundness {
+        offers,
+        held,
+        figure: Figure::of(&rounds),
+        without_exits: rounds.time(2),
+        pass: rounds.time(3),
+        to_pass: [0, 1, 2].map(|side| rounds.ratio(side, 3)),
+    }
+}
+
+/// Lookups and commits beside the peers, with 8 steps held.
+fn beside(offers: usize) -> [Beside; 2] {
+    let scene = Scene::new(shape(offers, 8));
+    let loaded: Vec<Option<Loaded>> = KINDS.iter().map(|kind| kind.load(&scene)).collect();
+    let row = |call, unit: [Side; 2], of_peer: &dyn for<'a> Fn(&'a Loaded) -> Side<'a>| {
+        let peers = loaded.iter().flatten().map(of_peer);
+        let rounds = measure(unit.into_iter().chain(peers).collect());
+        let mut sides = 2..;
+        let time =
+            |peer: &Option<Loaded>| peer.as_ref().and_then(|_| sides.next()).map(|side| rounds.time(side));
+        Beside { call, offers, figure: Figure::of(&rounds), peers: loaded.iter().map(time).collect() }
+    };
+    let look_ups = [calls::look_up_present::<Lent>(&scene), calls::look_up_present::<Memory>(&scene)];
+    let commits = [calls::commit_64::<Lent>(&scene), calls::commit_64::<Memory>(&scene)];
+    [
+        row("look_up, present", look_ups, &|peer| peer.look_up(&scene)),
+        row("commit of 64", commits, &|peer| peer.commit(&scene)),
+    ]
+}
+
+/// The calls of the plot, on stores whose tables are full and whose journals are half full.
+fn lines() -> Vec<Line> {
+    let scenes: Vec<Scene> = LENT.into_iter().map(half_full).collect();
+    let line = |call, sides: fn(&Scene) -> [Side; 2]| {
+        let rounds = measure(scenes.iter().flat_map(sides).collect());
+        let last = 2 * (scenes.len() - 1);
+        let points = LENT.iter().zip((0..).step_by(2)).map(|(&words, unit)| Point {
+            words,
+            unit: rounds.time(unit),
+            rust: rounds.time(unit + 1),
+            to_last: rounds.ratio(last, unit),
+        });
+        Line { call, points: points.collect() }
+    };
+    vec![
+        line("look_up", |scene| {
+            [calls::look_up_present::<Lent>(scene), calls::look_up_present::<Memory>(scene)]
+        }),
+        line("commit", |scene| {
+            let step = scene.shape.step;
+            [calls::commit::<Lent>(scene, step), calls::commit::<Memory>(scene, step)]
+        }),
+        line("flush", |scene| [calls::flush::<Lent>(scene), calls::flush::<Memory>(scene)]),
+        line("plain pass", |scene| [calls::plain_pass(scene), calls::plain_pass(scene)]),
+    ]
+}
+
+fn half_full(words: usize) -> Scene {
+    let table = words * TABLE / (TABLE + JOURNAL);
+    let journal = words - table;
+    let step = (journal / 64).max(1);
+    let held = (journal / step / 2).min(32);
+    Scene::new(Shape { table, journal, offers: table, held, step })
+}

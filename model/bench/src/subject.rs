@@ -1,0 +1,169 @@
+//! What is measured: a store of the unit, or of the baseline, with the calls by the same names and codes.
+
+use crate::baseline::{self, Memory, Refusal};
+use crate::scene::{Scene, Variant};
+use ffi::Lent;
+
+/// A store whose calls answer the codes of the C interface.
+pub trait Subject: 'static {
+    /// The first store of a scene.
+    fn of(scene: &Scene) -> Self;
+    fn table(&mut self) -> &mut [u64];
+    fn journal(&mut self) -> &mut [u64];
+    fn set_head(&mut self, variant: &Variant);
+
+    fn clear(&mut self) -> u64;
+    fn load(&mut self, bytes: &mut [u8]) -> u64;
+    fn write_image(&mut self, bytes: &mut [u8]) -> u64;
+    fn restart(&mut self, bytes: &mut [u8]) -> u64;
+    fn commit(&mut self, list: &mut [u64]) -> u64;
+    fn roll_back(&mut self, state: u32) -> u64;
+    fn flush(&mut self, state: u32) -> u64;
+    fn look_up(&mut self, offer: u32, state: u32) -> u64;
+    fn issue(&mut self, slot: usize, list: &mut [u64]) -> u64;
+    fn forward(&mut self, slot: usize, state: u32, reads: &mut [u64]) -> u64;
+    fn release(&mut self, slot: usize) -> u64;
+    fn price_batch(reads: &[u64], orders: &[u64], out: &mut [u64]) -> u64;
+}
+
+impl Subject for Lent {
+    fn of(scene: &Scene) -> Lent {
+        let Variant { journal, words, .. } = scene.variant(0);
+        Lent { table: scene.table.clone(), journal: journal.clone(), head: words.clone(), tally: vec![0; 3] }
+    }
+
+    fn table(&mut self) -> &mut [u64] {
+        &mut self.table
+    }
+
+    fn journal(&mut self) -> &mut [u64] {
+        &mut self.journal
+    }
+
+    fn set_head(&mut self, variant: &Variant) {
+        self.head.copy_from_slice(&variant.words);
+    }
+
+    fn clear(&mut self) -> u64 {
+        Lent::clear(self)
+    }
+
+    fn load(&mut self, bytes: &mut [u8]) -> u64 {
+        Lent::load(self, bytes)
+    }
+
+    fn write_image(&mut self, bytes: &mut [u8]) -> u64 {
+        Lent::write_image(self, bytes, &mut 0)
+    }
+
+    fn restart(&mut self, bytes: &mut [u8]) -> u64 {
+        Lent::restart(self, bytes)
+    }
+
+    fn commit(&mut self, list: &mut [u64]) -> u64 {
+        Lent::commit(self, list)
+    }
+
+    fn roll_back(&mut self, state: u32) -> u64 {
+        Lent::roll_back(self, state)
+    }
+
+    fn flush(&mut self, state: u32) -> u64 {
+        Lent::flush(self, state)
+    }
+
+    fn look_up(&mut self, offer: u32, state: u32) -> u64 {
+        Lent::look_up(self, offer, state, &mut 0)
+    }
+
+    fn issue(&mut self, slot: usize, list: &mut [u64]) -> u64 {
+        Lent::issue(self, slot, list)
+    }
+
+    fn forward(&mut self, slot: usize, state: u32, reads: &mut [u64]) -> u64 {
+        Lent::forward(self, slot, state, reads)
+    }
+
+    fn release(&mut self, slot: usize) -> u64 {
+        Lent::release(self, slot)
+    }
+
+    fn price_batch(reads: &[u64], orders: &[u64], out: &mut [u64]) -> u64 {
+        ffi::price_batch(reads, orders, out, &mut 0)
+    }
+}
+
+fn code<T>(answer: Result<T, Refusal>) -> u64 {
+    answer.map_or_else(Refusal::number, |_| 0)
+}
+
+impl Subject for Memory {
+    fn of(scene: &Scene) -> Memory {
+        let Variant { journal, head, .. } = scene.variant(0);
+        let (table, journal) = (scene.table.clone(), journal.clone());
+        Memory { table, journal, head: head.clone(), tally: Default::default() }
+    }
+
+    fn table(&mut self) -> &mut [u64] {
+        &mut self.table
+    }
+
+    fn journal(&mut self) -> &mut [u64] {
+        &mut self.journal
+    }
+
+    fn set_head(&mut self, variant: &Variant) {
+        self.head.clone_from(&variant.head);
+    }
+
+    fn clear(&mut self) -> u64 {
+        code(self.lend().clear())
+    }
+
+    fn load(&mut self, bytes: &mut [u8]) -> u64 {
+        code(self.lend().load(bytes))
+    }
+
+    fn write_image(&mut self, bytes: &mut [u8]) -> u64 {
+        code(self.lend().write_image(bytes))
+    }
+
+    fn restart(&mut self, bytes: &mut [u8]) -> u64 {
+        code(self.lend().restart(bytes))
+    }
+
+    fn commit(&mut self, list: &mut [u64]) -> u64 {
+        code(self.lend().commit(list))
+    }
+
+    fn roll_back(&mut self, state: u32) -> u64 {
+        code(self.lend().roll_back(state))
+    }
+
+    fn flush(&mut self, state: u32) -> u64 {
+        code(self.lend().flush(state))
+    }
+
+    fn look_up(&mut self, offer: u32, state: u32) -> u64 {
+        match self.lend().look_up(offer, state) {
+            Ok(None) => ffi::NO_PRICE,
+            answer => code(answer),
+        }
+    }
+
+    fn issue(&mut self, slot: usize, list: &mut [u64]) -> u64 {
+        code(self.lend().issue(slot, list))
+    }
+
+    fn forward(&mut self, slot: usize, state: u32, reads: &mut [u64]) -> u64 {
+        code(self.lend().forward(slot, state, reads))
+    }
+
+    fn release(&mut self, slot: usize) -> u64 {
+        code(self.lend().release(slot))
+    }
+
+    fn price_batch(reads: &[u64], orders: &[u64], out: &mut [u64]) -> u64 {
+        code(baseline::price_batch(reads, orders, out))
+    }
+}
