@@ -1,5 +1,4 @@
 // The composition of two lists.
-use changes::merge::Side;
 use entry::Entry;
 use words::copy;
 ghost use mathlib.Core.Bool.{cond};
@@ -9,25 +8,7 @@ ghost use Prim.Native.Nat.{_+_, _*_, _^_, _<_, _≤_};
 ghost use lib.Dec.{ltb};
 ghost use lib.ListN.{length, drop};
 ghost use Rattle.entry.specs.Word.{offerOf};
-ghost use Rattle.changes.specs.Calculus.{sideOf, compose as composed};
-
-// Where the offer at a place of the words lies, seen from a word's offer; past the end it lies above all.
-pub fn side_at(words: &[u64], at: usize, word: u64) -> Side
-    ensures { λ r. ⌜ r ≡ sideOf (drop at (now (words .entry))) word ⌝ }
-{
-    if words.len() <= at {
-        return Side::Above;
-    }
-    let there = Entry::offer_of(words[at]);
-    let here = Entry::offer_of(word);
-    if there < here {
-        return Side::Below;
-    }
-    if here < there {
-        return Side::Above;
-    }
-    Side::Same
-}
+ghost use Rattle.changes.specs.Calculus.{compose as composed};
 
 // The offer of a word at its place in the word, all other bits zero: a single mask, and words compare by it as
 // by their offers.
