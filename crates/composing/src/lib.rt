@@ -4,26 +4,18 @@ use words::copy;
 ghost use mathlib.Core.Bool.{cond};
 ghost use mathlib.Core.Path.{_≡_};
 ghost use mathlib.Core.List.{_++_};
-ghost use Prim.Native.Nat.{_+_, _*_, _^_, _<_, _≤_};
+ghost use Prim.Native.Nat.{_+_, _^_, _<_, _≤_};
 ghost use lib.Dec.{ltb};
 ghost use lib.ListN.{length, drop};
 ghost use Rattle.entry.specs.Word.{offerOf};
 ghost use Rattle.changes.specs.Calculus.{compose as composed};
-
-// The offer of a word at its place in the word, all other bits zero: a single mask, and words compare by it as
-// by their offers.
-pub fn offer_field(word: u64) -> u64
-    ensures { λ r. ⌜ r ≡ offerOf word * 2 ^ 32 ⌝ }
-{
-    (Entry::offer_of(word) as u64) * 4294967296
-}
 
 // The word of an earlier and a later list that a merge takes next: that at the lower offer, and the later one
 // where the offers are equal. The choice is a conditional move, not a branch.
 fn next_word(earlier: u64, later: u64) -> u64
     ensures { λ r. ⌜ r ≡ cond (ltb (offerOf earlier) (offerOf later)) earlier later ⌝ }
 {
-    if offer_field(earlier) < offer_field(later) {
+    if Entry::offer_field(earlier) < Entry::offer_field(later) {
         return earlier;
     }
     later
@@ -34,7 +26,7 @@ fn past(at: usize, word: u64, other: u64) -> usize
     requires { ⌜ at + 1 < 2 ^ 64 ⌝ }
     ensures { λ r. ⌜ r ≡ cond (ltb (offerOf other) (offerOf word)) at (at + 1) ⌝ }
 {
-    if offer_field(other) < offer_field(word) {
+    if Entry::offer_field(other) < Entry::offer_field(word) {
         return at;
     }
     at + 1

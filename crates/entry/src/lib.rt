@@ -3,7 +3,7 @@
 // a read set; kind 0 removes it, or shows that there is none, and its price field is 0.
 use std::num::wrapping_sub_u64;
 ghost use mathlib.Core.Path.{_≡_};
-ghost use Prim.Native.Nat.{_%_, _^_, _<_};
+ghost use Prim.Native.Nat.{_*_, _%_, _^_, _<_};
 ghost use lib.Dec.{ltb};
 ghost use Rattle.entry.specs.Word.{kindOf, offerOf, priceOf, keyOf, putOf, noneOf, validB, riseOf, markOf};
 
@@ -76,6 +76,13 @@ impl Entry {
     {
         Entry::none(offer) | (price as u64) | ((Entry::PUT as u64) << Entry::KIND_AT)
     }
+    // The offer at its place in the word, all other bits zero: a single mask, and words compare by it as by their offers.
+    pub fn offer_field(word: u64) -> u64
+        ensures { λ r. ⌜ r ≡ offerOf word * 2 ^ 32 ⌝ }
+    {
+        word & Entry::OFFER_FIELD
+    }
+
     // A number whose kind bit says whether the offer of a word lies above that of the word before it. A scan joins
     // such numbers by `&` and tests the bit at its end, so that no turn of it branches.
     pub fn rise(before: u64, word: u64) -> u64

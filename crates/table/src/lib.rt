@@ -1,7 +1,6 @@
 // Changes applied to a table in place. What will stay and what will be added is known before any store: the
 // words at new offers are put aside first. Then a forward pass overwrites words and closes the gaps, and a
 // backward pass weaves the new words in, so that each word is stored at most twice.
-use composing::offer_field;
 use entry::Entry;
 use words::clear;
 use words::copy;
@@ -29,7 +28,7 @@ fn run_from(word: u64, limit: u64, behind: usize) -> usize
     requires { ⌜ behind < 4 ⌝ }
     ensures { λ r. ⌜ r ≡ cond (ltb (offerOf word) (offerOf limit)) (behind + 1) 0 ⌝ }
 {
-    if offer_field(word) < offer_field(limit) {
+    if Entry::offer_field(word) < Entry::offer_field(limit) {
         return behind + 1;
     }
     0
@@ -55,7 +54,7 @@ fn first_not_below(words: &[u64], from: usize, limit: u64) -> usize
     let mut at = from;
     while at < words.len() {
         if words.len() - at < 4 {
-            if offer_field(limit) <= offer_field(words[at]) {
+            if Entry::offer_field(limit) <= Entry::offer_field(words[at]) {
                 return at;
             }
             at += 1;
@@ -77,7 +76,7 @@ fn found_at(words: &[u64], at: usize, word: u64) -> usize
     if words.len() <= at {
         return 0;
     }
-    if offer_field(words[at]) == offer_field(word) {
+    if Entry::offer_field(words[at]) == Entry::offer_field(word) {
         return 1;
     }
     0
@@ -140,7 +139,7 @@ fn keep_below(words: &mut [u64], from: usize, to: usize, limit: u64) -> usize
     let mut k = to;
     while i < words.len() {
         let word = words[i];
-        if offer_field(limit) <= offer_field(word) {
+        if Entry::offer_field(limit) <= Entry::offer_field(word) {
             return i;
         }
         words[k] = word;
@@ -191,7 +190,7 @@ fn four_above(words: &[u64], place: usize, word: u64) -> usize
     if place < 4 {
         return 0;
     }
-    if offer_field(word) < offer_field(words[place - 4]) {
+    if Entry::offer_field(word) < Entry::offer_field(words[place - 4]) {
         return 1;
     }
     0
@@ -219,7 +218,7 @@ fn weave(table: &mut [u64], kept: usize, added: &[u64])
             i -= 4;
         } else {
             let v = table[i - 1];
-            if offer_field(w) < offer_field(v) {
+            if Entry::offer_field(w) < Entry::offer_field(v) {
                 table[i + j - 1] = v;
                 i -= 1;
             } else {
