@@ -3,7 +3,7 @@
 use mathlib.Core.Path.{_≡_, refl, sym, _∙_, ap}
 use mathlib.Core.Bool.{Bool, true, false, _&&_}
 use mathlib.Core.List.{List, [], _∷_}
-use Prim.Native.Nat.{ℕ, zero, suc, _+_, _≤_, _<_}
+use Prim.Native.Nat.{ℕ, _+_, _≤_, _<_}
 use native.Mathlib.Omega.{arith}
 use lib.ListN.{length, getD, drop, drop-of-length-le}
 use Rattle.words.proofs.Parts.{next}
@@ -33,11 +33,6 @@ module _ (test : ℕ → Bool) where
 
   pub all-rest : (o : ℕ) (os : List ℕ) → allB test (o ∷ os) ≡ true → allB test os ≡ true
   all-rest o os e = sym (all-more o os (all-first o os e)) ∙ e
-
-  pub all-at : (os : List ℕ) → allB test os ≡ true → (i : ℕ) → i < length os → test (getD os i 0) ≡ true
-  all-at [] e i b = absurd (omega arith)
-  all-at (o ∷ os) e zero b = all-first o os e
-  all-at (o ∷ os) e (suc i) b = all-at os (all-rest o os e) i (omega arith)
 
 -- a loop over the orders: what is left passes exactly when all do
 pub record Left (test : ℕ → Bool) (orders : List ℕ) (k : ℕ) : Type 0 where

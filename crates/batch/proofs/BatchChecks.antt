@@ -5,11 +5,11 @@ use mathlib.Core.Bool.{Bool, true, false, _&&_, cond}
 use mathlib.Core.List.{List, _∷_, _++_, append-nil}
 use Prim.Native.Nat.{ℕ, zero, suc, _≤_, _<_}
 use native.Mathlib.Omega.{arith}
-use borrow.Author.Tests.{le-leb, lt-leb}
+use borrow.Author.Tests.{le-leb, lt-leb, leb-true}
 use lib.Dec.{leb}
 use lib.ListN.{length, take, drop, replicate, length-append, drop-of-length-le}
 use lib.Seq.{take-at}
-use Rattle.changes.specs.Lists.{listB}
+use Rattle.changes.specs.Lists.{listB, From}
 use Rattle.changes.proofs.ListTest.{list-facts}
 use Rattle.grounds.specs.declared.Refusal.the-variants.{BadList, BadOrder, OfferNotRead, OutputShort}
 use Rattle.grounds.specs.declared.Refusal.{Refusal}
@@ -20,7 +20,7 @@ use Rattle.orders.specs.Orders.{allowedB}
 use Rattle.batch.specs.Tests.{allB, readB}
 use Rattle.batch.specs.Running.{Ran, done, fails, priced}
 use Rattle.batch.specs.Batches.{after, checked, fitting, batch, answer, output}
-use Rattle.batch.specs.Working.{Accepted}
+use Rattle.batch.specs.Working.{Accepted, Placed, Ready, Room}
 
 module _ (reads orders : List ℕ) where
   pub stop-list : listB reads ≡ false → checked reads orders ≡ Stops BadList
@@ -46,20 +46,36 @@ module _ (reads orders : List ℕ) where
         unfolding checked
         passes e = rw (list, le-leb (length orders) 64 few, allowed, e)
 
--- a batch that passes
-tests : (a b c d : Bool) → cond (a && b) (cond c (cond d Passed (Stops OfferNotRead)) (Stops BadOrder)) (Stops BadList) ≡ Passed → (a ≡ true) × (d ≡ true)
-tests true true true true e = (refl, refl)
+-- what is known of a batch that passes
+tests : (a b c d : Bool) → cond (a && b) (cond c (cond d Passed (Stops OfferNotRead)) (Stops BadOrder)) (Stops BadList) ≡ Passed → (a ≡ true) × (b ≡ true) × (d ≡ true)
+tests true true true true e = (refl, refl, refl)
 tests true true true false e = absurd (let z : _≡_ {A = ℕ} 0 1 = cc in omega arith)
 tests true true false d e = absurd (let z : _≡_ {A = ℕ} 0 1 = cc in omega arith)
 tests true false c d e = absurd (let z : _≡_ {A = ℕ} 0 1 = cc in omega arith)
 tests false b c d e = absurd (let z : _≡_ {A = ℕ} 0 1 = cc in omega arith)
 
-pub passed : (reads orders : List ℕ) → checked reads orders ≡ Passed → Accepted reads orders
+pub record Passing (reads orders : List ℕ) : Type 0 where
+  pub short : length reads ≤ 64
+  pub rises : From 0 reads
+  pub few : length orders ≤ 64
+  pub named : allB (readB reads) orders ≡ true
+
+pub passed : (reads orders : List ℕ) → checked reads orders ≡ Passed → Passing reads orders
 unfolding checked
 passed reads orders e =
-    let both = tests (listB reads) (leb (length orders) 64) (allB allowedB orders) (allB (readB reads) orders) e in
-    let facts = list-facts reads (both .0) in
-    record { short = facts .0; rises = facts .1; named = both .1 }
+    let all = tests (listB reads) (leb (length orders) 64) (allB allowedB orders) (allB (readB reads) orders) e in
+    let facts = list-facts reads (all .0) in
+    record { short = facts .0; rises = facts .1; few = leb-true (length orders) 64 (all .1); named = all .2 }
+
+-- and what its run relies on, the orders' places noted
+pub accepted-at : (reads orders places : List ℕ) → checked reads orders ≡ Passed → length places ≡ 64 → Placed reads orders places (length orders) → Accepted reads orders places
+accepted-at reads orders places e s p =
+    let facts = passed reads orders e in
+    record { short = facts .short; rises = facts .rises; enough = omega (arith, facts .few); placed = p }
+
+-- a ground stops a batch, so that it does not pass
+pub not-passed : {ground : Refusal} {P : Type 0} → Stops ground ≡ Passed → P
+not-passed e = absurd (let z : _≡_ {A = ℕ} 0 1 = cc in omega arith)
 
 -- the output's length
 pub fits : (room : ℕ) (d : List ℕ) → length d ≤ room → fitting room (done d) ≡ done d
@@ -97,6 +113,12 @@ pub whole-copy : (reads words₀ : List ℕ) {words : List ℕ} → length words
 whole-copy reads words₀ s e =
     let all : length words₀ ≤ length reads = omega arith in
     e ∙ ap (_++_ reads) (drop-of-length-le words₀ all) ∙ append-nil reads
+
+-- the orders' places in a read set are their places in its copy
+pub ready : {reads orders places words₀ words : List ℕ} {marks : List Bool} {list : List ℕ} → Room reads orders places words₀ marks list → words ≡ reads → Ready words orders places marks
+ready room e =
+    let batch = room .accepted-batch in
+    rw e (record { rises = batch .rises; enough = batch .enough; placed = batch .placed; unmarked = room .unmarked })
 
 -- what an answer and the memory say of a run
 pub told-fails : (ran : Ran) (n : ℕ) → refused n ≡ answer ran → ran ≡ fails n

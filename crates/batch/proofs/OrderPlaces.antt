@@ -1,71 +1,67 @@
--- The place of an offer in words whose offers rise.
+-- The places of the orders in a read set, found one after another.
 -- Assumes nothing.
-use mathlib.Core.Path.{_≡_, refl, sym, _∙_, ap}
-use mathlib.Core.Bool.{true}
-use mathlib.Core.List.{List, [], _∷_}
-use Prim.Native.Nat.{ℕ, zero, suc, _+_, _≤_, _<_}
+use mathlib.Core.Path.{_≡_, sym, _∙_, ap}
+use mathlib.Core.Bool.{true, false}
+use mathlib.Core.List.{List}
+use Prim.Native.Nat.{ℕ, _+_, _≤_, _<_}
 use native.Mathlib.Decide.{ℕ-discrete}
 use native.Mathlib.Omega.{arith}
-use borrow.Author.Tests.{eq-eqb, ne-eqb}
-use lib.ListN.{length, getD}
+use lib.ListN.{length, getD, set, length-set}
+use lib.Seq.{getD-set-same, getD-set-other}
 use Rattle.entry.specs.Word.{offerOf}
 use Rattle.changes.specs.declared.search.Found.{Found}
 use Rattle.changes.specs.declared.search.Found.the-variants.{Nothing}
 use Rattle.changes.specs.Calculus.{find}
 use Rattle.changes.specs.Lists.{From}
-use Rattle.changes.proofs.Find.{find-empty, find-head, find-past, least-at}
-use Rattle.changes.proofs.Rising.{from-tail}
+use Rattle.changes.proofs.Find.{found-at}
 use Rattle.orders.specs.Orders.{orderOffer}
-use Rattle.batch.specs.Tests.{foundB, readB}
-use Rattle.batch.specs.Working.{placeOf}
-
-pub place-none : (k : ℕ) → placeOf k [] ≡ 0
-unfolding placeOf
-place-none k = refl
-
-module _ (k w : ℕ) (l : List ℕ) where
-  pub place-head : offerOf w ≡ k → placeOf k (w ∷ l) ≡ 0
-  unfolding placeOf
-  place-head e = rw (eq-eqb (offerOf w) k e)
-
-  pub place-past : (offerOf w ≡ k → ⊥) → placeOf k (w ∷ l) ≡ suc (placeOf k l)
-  unfolding placeOf
-  place-past n = rw (ne-eqb (offerOf w) k n)
-
--- a place with the offer is the offer's place
-pub place-at : (n : ℕ) (l : List ℕ) → From n l → (i : ℕ) → i < length l → (k : ℕ) → offerOf (getD l i 0) ≡ k → placeOf k l ≡ i
-place-at n [] f i b k e = absurd (omega arith)
-place-at n (w ∷ l) f zero b k e = place-head k w l e
-place-at n (w ∷ l) f (suc i) b k e =
-    let rest : From (offerOf w + 1) l = from-tail n w l f in
-    let there : offerOf w + 1 ≤ offerOf (getD l i 0) = least-at (offerOf w + 1) l rest i (omega arith) in
-    place-past k w l (λ z. omega arith) ∙ ap suc (place-at (offerOf w + 1) l rest i (omega arith) k e)
-
--- where nothing is found, there is no place
-pub place-nothing : (k : ℕ) (l : List ℕ) → find k l ≡ Nothing → placeOf k l ≡ length l
-place-nothing k [] e = place-none k
-place-nothing k (w ∷ l) e = go (place-nothing k l) (ℕ-discrete (offerOf w) k)
-  where
-    go : (find k l ≡ Nothing → placeOf k l ≡ length l) → Dec (offerOf w ≡ k) → placeOf k (w ∷ l) ≡ length (w ∷ l)
-    go i (yes o) = absurd (let z : _≡_ {A = ℕ} 0 1 = cc (find-head k w l o) in omega arith)
-    go i (no o) = place-past k w l o ∙ ap suc (i (sym (find-past k w l o) ∙ e))
-
--- what is found stands at its place
-pub record At (k : ℕ) (l : List ℕ) (i : ℕ) : Type 0 where
-  pub inside : i < length l
-  pub offer : offerOf (getD l i 0) ≡ k
-
-pub found-place : (k : ℕ) (l : List ℕ) → foundB (find k l) ≡ true → At k l (placeOf k l)
-found-place k [] e = absurd (let z : _≡_ {A = ℕ} 0 1 = cc (ap foundB (find-empty k)) in omega arith)
-found-place k (w ∷ l) e = go (found-place k l) (ℕ-discrete (offerOf w) k)
-  where
-    go : (foundB (find k l) ≡ true → At k l (placeOf k l)) → Dec (offerOf w ≡ k) → At k (w ∷ l) (placeOf k (w ∷ l))
-    go i (yes o) = rw (place-head k w l o) (record { inside = omega arith; offer = o })
-    go i (no o) =
-        let rest = i (ap foundB (sym (find-past k w l o)) ∙ e) in
-        rw (place-past k w l o) (record { inside = omega (arith, rest .inside); offer = rest .offer })
+use Rattle.batch.specs.Tests.{allB, foundB, readB}
+use Rattle.batch.specs.Working.{At, Placed}
+use Rattle.batch.proofs.AllOrders.{Left, left-all, left-end, left-stop, left-next}
 
 -- whether an order's offer is in a read set, from what was found there
-pub read-as : (reads : List ℕ) (o k : ℕ) → k ≡ orderOffer o → {found : Found} → find k reads ≡ found → readB reads o ≡ foundB found
+read-as : (reads : List ℕ) (o k : ℕ) → k ≡ orderOffer o → {found : Found} → find k reads ≡ found → readB reads o ≡ foundB found
 unfolding readB
 read-as reads o k e i = ap (λ (n : ℕ). foundB (find n reads)) (sym e) ∙ ap foundB i
+
+-- noting the place of one order more
+placed-next : (reads orders places : List ℕ) (k : ℕ) → Placed reads orders places k → k < length places
+    → (place : ℕ) → At (orderOffer (getD orders k 0)) reads place → Placed reads orders (set places k place) (k + 1)
+placed-next reads orders places k p b place a i h = go (ℕ-discrete i k)
+  where
+    go : Dec (i ≡ k) → At (orderOffer (getD orders i 0)) reads (getD (set places k place) i 0)
+    go (yes e) = rw (e, getD-set-same places k place 0 b) a
+    go (no n) = rw (getD-set-other places k i place 0 n) (p i (omega (arith, n)))
+
+-- a read set that lacks an offer says nothing of places
+pub not-found : {P : Type 0} → false ≡ true → P
+not-found e = absurd (let z : _≡_ {A = ℕ} 0 1 = cc in omega arith)
+
+-- k orders have been found
+pub record Finding (reads orders places places₀ : List ℕ) (k : ℕ) : Type 0 where
+  pub left : Left (readB reads) orders k
+  pub same : length places ≡ length places₀
+  pub so-far : Placed reads orders places k
+
+pub finding : (reads orders places : List ℕ) → Finding reads orders places places 0
+finding reads orders places =
+    record { left = left-all (readB reads) orders; same = omega arith; so-far = λ i b. absurd (omega arith) }
+
+module _ {reads orders places places₀ : List ℕ} {k : ℕ} (f : Finding reads orders places places₀ k) where
+  pub finding-end : length orders ≤ k → (true ≡ allB (readB reads) orders) × Placed reads orders places (length orders)
+  finding-end h = (sym (left-end (f .left) h), λ i b. f .so-far i (omega arith))
+
+  module _ (b : k < length orders) {offer : ℕ} (o : offer ≡ orderOffer (getD orders k 0)) where
+    pub finding-stops : find offer reads ≡ Nothing → false ≡ allB (readB reads) orders
+    finding-stops e = sym (left-stop (f .left) b (read-as reads (getD orders k 0) offer o e))
+
+    pub finding-goes : From 0 reads → length orders ≤ length places₀
+        → (place : ℕ) → place < length reads → offerOf (getD reads place 0) ≡ offer
+        → Finding reads orders (set places k place) places₀ (k + 1)
+    finding-goes rises room place inside e =
+        record {
+          left = left-next (f .left) b (read-as reads (getD orders k 0) offer o (found-at reads rises place inside offer e));
+          same = length-set places k place ∙ f .same;
+          so-far =
+              placed-next reads orders places k (f .so-far) (omega (arith, f .same)) place (record { inside = inside; named = e ∙ o });
+        }

@@ -1,7 +1,7 @@
 -- A turn of the run: the copy of the read set shows what the order sees, its word is stored at the offer's place and marked, and the
 -- marked words are the changes so far.
 -- Assumes nothing.
-use mathlib.Core.Path.{_≡_, refl, sym, _∙_, ap, ap₂}
+use mathlib.Core.Path.{_≡_, refl, sym, _∙_, ap}
 use mathlib.Core.Bool.{Bool, true, false}
 use mathlib.Core.List.{List, [], _∷_}
 use Prim.Native.Nat.{ℕ, _+_, _≤_, _<_}
@@ -24,14 +24,11 @@ use Rattle.grounds.specs.declared.Refusal.{Refusal}
 use Rattle.orders.specs.declared.effects.Effect.{Effect}
 use Rattle.orders.specs.declared.effects.Effect.the-variants.{Change, Fails}
 use Rattle.orders.specs.Orders.{orderOffer}
-use Rattle.batch.specs.Tests.{allB, readB}
 use Rattle.orders.specs.Effects.{effect}
 use Rattle.batch.specs.Running.{done, fails, next, run, priced}
-use Rattle.batch.specs.Working.{placeOf, marked, Ready}
-use Rattle.batch.proofs.AllOrders.{all-at}
+use Rattle.batch.specs.Working.{At, marked, Ready}
 use Rattle.batch.proofs.Marks.{marked-set, unmarked}
 use Rattle.orders.proofs.OneOrder.{effect-names}
-use Rattle.batch.proofs.OrderPlaces.{At, found-place}
 
 -- what an order on a read set sees after changes
 abbrev pub seen : List ℕ → List ℕ → ℕ → Found
@@ -50,12 +47,6 @@ pub priced-is : (reads orders : List ℕ) → priced reads orders ≡ run (seen 
 unfolding priced
 priced-is reads orders = refl
 
--- an order of a batch has its place in the read set
-pub order-place : (reads orders : List ℕ) → allB (readB reads) orders ≡ true → (k : ℕ) → k < length orders → (p : ℕ) → p ≡ placeOf (orderOffer (getD orders k 0)) reads → At (orderOffer (getD orders k 0)) reads p
-unfolding readB
-order-place reads orders named k b p e =
-    rw e (found-place (orderOffer (getD orders k 0)) reads (all-at (readB reads) orders named k b))
-
 -- k orders have run
 pub record Turning (reads orders words : List ℕ) (marks : List Bool) (k : ℕ) : Type 0 where
   pub inside : k ≤ length orders
@@ -64,14 +55,14 @@ pub record Turning (reads orders words : List ℕ) (marks : List Bool) (k : ℕ)
   pub shown : words ≡ over reads (marked words marks)
   pub left : run (seen reads) (marked words marks) (drop k orders) ≡ priced reads orders
 
-pub turning : {reads orders words : List ℕ} {marks : List Bool} → Ready reads orders words marks → Turning reads orders words marks 0
-turning {reads} {orders} {words} {marks} r =
-    let none : marked words marks ≡ [] = ap₂ marked (r .copied) (r .unmarked) ∙ unmarked reads in
+pub turning : {reads orders places : List ℕ} {marks : List Bool} → Ready reads orders places marks → Turning reads orders reads marks 0
+turning {reads} {orders} {places} {marks} r =
+    let none : marked reads marks ≡ [] = ap (marked reads) (r .unmarked) ∙ unmarked reads in
     record {
       inside = omega arith;
-      same-words = ap length (r .copied);
+      same-words = refl;
       same-marks = ap length (r .unmarked) ∙ length-replicate (length reads) false;
-      shown = r .copied ∙ sym (ap (over reads) none ∙ over-zero reads);
+      shown = sym (ap (over reads) none ∙ over-zero reads);
       left = ap (λ (d : List ℕ). run (seen reads) d orders) none ∙ sym (priced-is reads orders);
     }
 
@@ -94,7 +85,7 @@ module _ {reads orders words : List ℕ} {marks : List Bool} {k : ℕ} (t : Turn
         sym (List·getD-map offerOf words p 0)
         ∙ ap (λ (l : List ℕ). getD l p (offerOf 0)) offers
         ∙ List·getD-map offerOf reads p 0
-        ∙ a .offer
+        ∙ a .named
 
     inside-words : p < length words
     inside-words = omega (arith, a .inside, t .same-words)

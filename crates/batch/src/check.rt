@@ -1,15 +1,16 @@
 // What turns a batch away before any order runs (document 01, grounds 6 to 8).
-use changes::search::Found;
+use crate::places::find_places;
 use grounds::Refusal;
 use lists::rules::is_list;
-use lists::search::find;
-use orders::Order;
 use orders::is_allowed;
 ghost use mathlib.Core.Path.{_≡_};
-ghost use Rattle.changes.specs.Lists.{From};
+ghost use Prim.Native.Nat.{_≤_};
+ghost use lib.ListN.{length};
 ghost use Rattle.orders.specs.Orders.{allowedB};
-ghost use Rattle.batch.specs.Tests.{allB, readB};
+ghost use Rattle.batch.specs.Tests.{allB};
 ghost use Rattle.batch.specs.Batches.{checked};
+ghost use Rattle.batch.specs.declared.check.Check.the-variants.{Passed};
+ghost use Rattle.batch.specs.Working.{Placed};
 
 // The most orders of a batch.
 pub const BATCH_ORDERS: usize = 64;
@@ -33,24 +34,11 @@ fn all_allowed(orders: &[u64]) -> bool
     true
 }
 
-// Whether the read set has the offer of every order.
-fn all_read(reads: &[u64], orders: &[u64]) -> bool
-    requires { ⌜ From 0 (now reads) ⌝ }
-    ensures { λ r. ⌜ r ≡ allB (readB (now (reads .entry))) (now (orders .entry)) ⌝ }
-{
-    let mut k = 0;
-    while k < orders.len() {
-        match find(reads, Order::offer_of(orders[k])) {
-            Found::Word(_) => k += 1,
-            Found::Nothing => return false,
-        }
-    }
-    true
-}
-
-// The first ground that turns the batch away, if there is one.
-pub fn check_batch(reads: &[u64], orders: &[u64]) -> Check
-    ensures { λ r. ⌜ r ≡ checked (now (reads .entry)) (now (orders .entry)) ⌝ }
+// The first ground that turns the batch away, if there is one. Where there is none, the first places are then those of the
+// orders' offers in the read set.
+pub fn check_batch(reads: &[u64], orders: &[u64], places: &mut [usize]) -> Check
+    requires { ⌜ 64 ≤ length (now places) ⌝ }
+    ensures { λ r. ⌜ (r ≡ checked (now (reads .entry)) (now (orders .entry))) × (r ≡ Passed → Placed (now (reads .entry)) (now (orders .entry)) (now (places .exit)) (length (now (orders .entry)))) ⌝ }
 {
     if !is_list(reads) {
         return Check::Stops(Refusal::BadList);
@@ -61,7 +49,7 @@ pub fn check_batch(reads: &[u64], orders: &[u64]) -> Check
     if !all_allowed(orders) {
         return Check::Stops(Refusal::BadOrder);
     }
-    if !all_read(reads, orders) {
+    if !find_places(reads, orders, places) {
         return Check::Stops(Refusal::OfferNotRead);
     }
     Check::Passed

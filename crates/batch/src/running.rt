@@ -1,46 +1,26 @@
-// The run of a batch's orders, in turn, over a copy of the read set. Its offers never change, so an order's place is
-// found by halving; a mark at each place says whether an order named its offer.
+// The run of a batch's orders, in turn, over a copy of the read set. Its offers never change, so an order's place in it stays the one
+// that was found; a mark at each place says whether an order named its offer.
 use crate::check::Check;
-use entry::Entry;
-use lists::search::place;
-use orders::Order;
 use orders::effects::Effect;
 use orders::effects::effect_of;
 ghost use mathlib.Core.Path.{_≡_};
 ghost use mathlib.Core.List.{_++_};
 ghost use Prim.Native.Nat.{_≤_};
 ghost use lib.ListN.{length, drop};
-ghost use Rattle.changes.specs.Lists.{From};
 ghost use Rattle.batch.specs.Running.{done, priced};
 ghost use Rattle.batch.specs.Batches.{after};
-ghost use Rattle.batch.specs.Working.{placeOf, marked, Ready};
+ghost use Rattle.batch.specs.Working.{marked, Ready};
 
-// The place of the word at an offer, or the length where there is none.
-pub fn place_of(words: &[u64], offer: u32) -> usize
-    requires { ⌜ From 0 (now words) ⌝ }
-    ensures { λ r. ⌜ r ≡ placeOf offer (now (words .entry)) ⌝ }
-{
-    let at = place(words, offer);
-    if words.len() <= at {
-        return words.len();
-    }
-    if Entry::offer_of(words[at]) != offer {
-        return words.len();
-    }
-    at
-}
-
-// Runs the orders over a copy of the read set, and marks the offers that they name. The marked words are then the
-// changes; where an order fails, what the copy and the marks hold is left to chance.
-pub fn run(reads: &[u64], orders: &[u64], words: &mut [u64], marks: &mut [bool]) -> Check
-    requires { ⌜ Ready (now reads) (now orders) (now words) (now marks) ⌝ }
-    ensures { λ r. ⌜ after r (done (marked (now (words .exit)) (now (marks .exit)))) ≡ priced (now (reads .entry)) (now (orders .entry)) ⌝ }
+// Runs the orders over a read set, each at its place, and marks the places. The marked words are then the changes; where an
+// order fails, what the words and the marks hold is left to chance.
+pub fn run(orders: &[u64], places: &[usize], words: &mut [u64], marks: &mut [bool]) -> Check
+    requires { ⌜ Ready (now words) (now orders) (now places) (now marks) ⌝ }
+    ensures { λ r. ⌜ after r (done (marked (now (words .exit)) (now (marks .exit)))) ≡ priced (now (words .entry)) (now (orders .entry)) ⌝ }
 {
     let mut k = 0;
     while k < orders.len() {
-        let order = orders[k];
-        let place = place_of(reads, Order::offer_of(order));
-        match effect_of(order, words[place]) {
+        let place = places[k];
+        match effect_of(orders[k], words[place]) {
             Effect::Change(w) => {
                 words[place] = w;
                 marks[place] = true;

@@ -4,7 +4,7 @@ use mathlib.Core.Path.{sym, _∙_}
 use borrow.Author.Tests.{not-true, not-false}
 use native.Mathlib.Omega.{arith}
 use Rattle.changes.proofs.ListTest.{list-facts}
-use Rattle.batch.proofs.BatchChecks.{stop-list, stop-many, stop-order, stop-read, passes}
+use Rattle.batch.proofs.BatchChecks.{stop-list, stop-many, stop-order, stop-read, passes, not-passed}
 use borrow.Author.Needs.{needs}
 use Rattle.batch.proofs.check.check_batch.Statement.{statement}
 use Rattle.batch.proofs.check.check_batch.Tie as tie
@@ -13,25 +13,31 @@ is-list-requires : tie.Need-is-list-requires
 is-list-requires c κs = search needs
 
 returns : tie.Need-returns
-returns c = sym (stop-list _ _ (sym (c .before .is-list .ensures) ∙ not-true _ (c .if1 .taken)))
+returns c = (sym (stop-list _ _ (sym (c .before .is-list .ensures) ∙ not-true _ (c .if1 .taken))), not-passed)
 
 returns-2 : tie.Need-returns-2
-returns-2 c = sym (stop-many _ _ (sym (c .before .before .is-list .ensures) ∙ not-false _ (c .before .if1 .left)) (omega arith))
+returns-2 c = (sym (stop-many _ _ (sym (c .before .before .is-list .ensures) ∙ not-false _ (c .before .if1 .left)) (omega arith)), not-passed)
 
 all-allowed-requires : tie.Need-all-allowed-requires
 all-allowed-requires c κs = search needs
 
 returns-3 : tie.Need-returns-3
-returns-3 c = sym (stop-order _ _ (sym (c .before .before .before .before .is-list .ensures) ∙ not-false _ (c .before .before .before .if1 .left)) (omega arith) (sym (c .before .all-allowed .ensures) ∙ not-true _ (c .if3 .taken)))
+returns-3 c = (sym (stop-order _ _ (sym (c .before .before .before .before .is-list .ensures) ∙ not-false _ (c .before .before .before .if1 .left)) (omega arith) (sym (c .before .all-allowed .ensures) ∙ not-true _ (c .if3 .taken))), not-passed)
 
-all-read-requires : tie.Need-all-read-requires
-all-read-requires c κs = list-facts _ (sym (c .before .before .before .before .is-list .ensures) ∙ not-false _ (c .before .before .before .if1 .left)) .1
+find-places-requires : tie.Need-find-places-requires
+find-places-requires c κs = (list-facts _ (sym (c .before .before .before .before .before .is-list .ensures) ∙ not-false _ (c .before .before .before .before .if1 .left)) .1, omega arith)
+
+same-length : tie.Need-same-length
+same-length c = search needs
 
 returns-4 : tie.Need-returns-4
-returns-4 c = sym (stop-read _ _ (sym (c .before .before .before .before .before .before .is-list .ensures) ∙ not-false _ (c .before .before .before .before .before .if1 .left)) (omega arith) (sym (c .before .before .before .all-allowed .ensures) ∙ not-false _ (c .before .before .if3 .left)) (sym (c .before .all-read .ensures) ∙ not-true _ (c .if4 .taken)))
+returns-4 c = (sym (stop-read _ _ (sym (c .before .before .before .before .before .before .before .before .before .is-list .ensures) ∙ not-false _ (c .before .before .before .before .before .before .before .before .if1 .left)) (omega arith) (sym (c .before .before .before .before .before .before .all-allowed .ensures) ∙ not-false _ (c .before .before .before .before .before .if3 .left)) (sym (c .before .before .before .find-places .ensures .0) ∙ not-true _ (c .if4 .taken))), not-passed)
+
+same-length-2 : tie.Need-same-length-2
+same-length-2 c = search needs
 
 returns-5 : tie.Need-returns-5
-returns-5 c = sym (passes _ _ (sym (c .before .before .before .before .before .before .is-list .ensures) ∙ not-false _ (c .before .before .before .before .before .if1 .left)) (omega arith) (sym (c .before .before .before .all-allowed .ensures) ∙ not-false _ (c .before .before .if3 .left)) (sym (c .before .all-read .ensures) ∙ not-false _ (c .if4 .left)))
+returns-5 c = (sym (passes _ _ (sym (c .before .before .before .before .before .before .before .before .before .is-list .ensures) ∙ not-false _ (c .before .before .before .before .before .before .before .before .if1 .left)) (omega arith) (sym (c .before .before .before .before .before .before .all-allowed .ensures) ∙ not-false _ (c .before .before .before .before .before .if3 .left)) (sym (c .before .before .before .find-places .ensures .0) ∙ not-false _ (c .if4 .left))), λ e. (c .before .before .before .find-places .ensures .1) (not-false _ (c .if4 .left)))
 
 pub check-batch-spec : {M : Type 1} → statement M
 check-batch-spec =
@@ -42,6 +48,8 @@ check-batch-spec =
     returns-2
     all-allowed-requires
     returns-3
-    all-read-requires
+    find-places-requires
+    same-length
     returns-4
+    same-length-2
     returns-5)

@@ -1,51 +1,42 @@
--- `running::run` meets its contract. The loop's invariant: the copy shows the read set with the marked words applied, and these are the
+-- `running::run` meets its contract. The loop's invariant: the words show the read set with the marked words applied, and these are the
 -- changes of the orders so far.
 -- Assumes nothing.
 use mathlib.Core.Path.{sym, _∙_, ap}
-use Prim.Native.Nat.{ℕ, _-_}
+use mathlib.Core.Bool.{false}
+use Prim.Native.Nat.{_-_}
 use borrow.Author.Needs.{needs}
 use native.Mathlib.Omega.{arith}
-use lib.ListN.{length, getD, length-replicate}
-use mathlib.Core.Bool.{false}
-use Rattle.orders.specs.Orders.{orderOffer}
-use Rattle.batch.specs.Working.{placeOf}
-use Rattle.batch.proofs.OrderPlaces.{At}
-use Rattle.batch.proofs.Turns.{Turning, turning, turned, order-place, turn-fails, turn-goes}
+use lib.ListN.{length, length-replicate}
+use Rattle.batch.proofs.Turns.{Turning, turning, turned, turn-fails, turn-goes}
 use Rattle.batch.proofs.running.run.Statement.{statement}
 use Rattle.batch.proofs.running.run.Tie as tie
 
 abbrev Inv-loop : tie.InvT-loop
-Inv-loop reads orders words₀ marks₀ k₀ words marks k = Turning reads orders words marks k
+Inv-loop orders places words₀ marks₀ k₀ words marks k = Turning words₀ orders words marks k
 
 abbrev μ-loop : tie.MeasureT-loop
-μ-loop reads orders words₀ marks₀ k₀ words marks k = length orders - k
-
--- the order's place, where it was found
-place : (c : tie.After-place-of Inv-loop μ-loop) → At (orderOffer (getD (c .before .before .before .before .before .before .before .before .before .args .orders .now) (c .before .before .before .before .loop .k) 0)) (c .before .before .before .before .before .before .before .before .before .args .reads .now) (c .place-of .result)
-place c =
-    order-place _ _ (c .before .before .before .before .before .before .before .before .before .pre .named) _ (omega arith) _
-    (c .place-of .ensures ∙ ap (λ (n : ℕ). placeOf n (c .before .before .before .before .before .before .before .before .before .args .reads .now)) (c .before .offer-of .ensures))
+μ-loop orders places words₀ marks₀ k₀ words marks k = length orders - k
 
 loop-holds : tie.Need-loop-holds Inv-loop μ-loop
 loop-holds c = turning (c .before .before .before .before .pre)
 
-mul-order : tie.Need-mul-order Inv-loop μ-loop
-mul-order c = omega arith
+mul-place : tie.Need-mul-place Inv-loop μ-loop
+mul-place c = omega (arith, (c .before .before .before .before .before .before .pre .enough))
 
-shared-slice-read-order : tie.Need-shared-slice-read-order Inv-loop μ-loop
-shared-slice-read-order c = omega arith
-
-offer-of-requires : tie.Need-offer-of-requires Inv-loop μ-loop
-offer-of-requires c κs = search needs
-
-place-of-requires : tie.Need-place-of-requires Inv-loop μ-loop
-place-of-requires c κs = (c .before .before .before .before .before .before .before .before .pre .rises)
+shared-slice-read-place : tie.Need-shared-slice-read-place Inv-loop μ-loop
+shared-slice-read-place c = omega (arith, (c .before .before .before .before .before .before .before .pre .enough))
 
 mul-effect-of : tie.Need-mul-effect-of Inv-loop μ-loop
-mul-effect-of c = omega (arith, place c .inside)
+mul-effect-of c = omega arith
+
+shared-slice-read-effect-of : tie.Need-shared-slice-read-effect-of Inv-loop μ-loop
+shared-slice-read-effect-of c = omega arith
+
+mul-effect-of-2 : tie.Need-mul-effect-of-2 Inv-loop μ-loop
+mul-effect-of-2 c = omega (arith, ((c .before .before .before .before .before .before .before .before .pre .placed) (c .before .before .before .loop .k) (omega arith)) .inside)
 
 slice-read-effect-of : tie.Need-slice-read-effect-of Inv-loop μ-loop
-slice-read-effect-of c = omega (arith, place (c .before) .inside)
+slice-read-effect-of c = omega (arith, ((c .before .before .before .before .before .before .before .before .before .pre .placed) (c .before .before .before .before .loop .k) (omega arith)) .inside, (c .before .before .before .before .loop .inv .same-words))
 
 effect-of-requires : tie.Need-effect-of-requires Inv-loop μ-loop
 effect-of-requires c κs = search needs
@@ -54,13 +45,13 @@ enum-known-w : tie.Need-enum-known-w Inv-loop μ-loop
 enum-known-w c = search needs
 
 mul-words : tie.Need-mul-words Inv-loop μ-loop
-mul-words c = omega (arith, place (c .before .before .before .before .before) .inside)
+mul-words c = omega (arith, ((c .before .before .before .before .before .before .before .before .before .before .before .before .before .pre .placed) (c .before .before .before .before .before .before .before .before .loop .k) (omega arith)) .inside, (c .before .before .before .before .before .before .before .before .loop .inv .same-words))
 
 slice-write-words : tie.Need-slice-write-words Inv-loop μ-loop
-slice-write-words c = omega (arith, place (c .before .before .before .before .before) .inside)
+slice-write-words c = omega (arith, ((c .before .before .before .before .before .before .before .before .before .before .before .before .before .pre .placed) (c .before .before .before .before .before .before .before .before .loop .k) (omega arith)) .inside, (c .before .before .before .before .before .before .before .before .loop .inv .same-words))
 
 slice-write-marks : tie.Need-slice-write-marks Inv-loop μ-loop
-slice-write-marks c = omega (arith, place (c .before .before .before .before .before) .inside)
+slice-write-marks c = omega (arith, ((c .before .before .before .before .before .before .before .before .before .before .before .before .before .pre .placed) (c .before .before .before .before .before .before .before .before .loop .k) (omega arith)) .inside, (c .before .before .before .before .before .before .before .before .loop .inv .same-marks))
 
 add-k : tie.Need-add-k Inv-loop μ-loop
 add-k c = omega arith
@@ -69,7 +60,7 @@ loop-less : tie.Need-loop-less Inv-loop μ-loop
 loop-less c = omega arith
 
 loop-again : tie.Need-loop-again Inv-loop μ-loop
-loop-again c = turn-goes (c .before .before .before .before .before .before .before .before .before .loop .inv) (c .before .before .before .before .before .before .before .before .before .before .before .before .before .before .pre .rises) (omega arith) (place (c .before .before .before .before .before)) (sym (c .before .before .before .effect-of .ensures) ∙ c .before .w .given .1)
+loop-again c = turn-goes (c .before .before .before .before .before .before .before .before .loop .inv) (c .before .before .before .before .before .before .before .before .before .before .before .before .before .pre .rises) (omega arith) ((c .before .before .before .before .before .before .before .before .before .before .before .before .before .pre .placed) (c .before .before .before .before .before .before .before .before .loop .k) (omega arith)) (sym (c .before .before .before .effect-of .ensures) ∙ (c .before .w .given .1))
 
 enum-known-ground : tie.Need-enum-known-ground Inv-loop μ-loop
 enum-known-ground c = search needs
@@ -78,10 +69,10 @@ same-length : tie.Need-same-length Inv-loop μ-loop
 same-length c = search needs
 
 same-length-2 : tie.Need-same-length-2 Inv-loop μ-loop
-same-length-2 c = (c .before .before .before .before .before .before .before .before .before .loop .inv .same-marks) ∙ sym (ap length (c .before .before .before .before .before .before .before .before .before .before .before .before .before .before .pre .unmarked) ∙ length-replicate _ false)
+same-length-2 c = (c .before .before .before .before .before .before .before .before .loop .inv .same-marks) ∙ sym (ap length (c .before .before .before .before .before .before .before .before .before .before .before .before .before .pre .unmarked) ∙ length-replicate _ false)
 
 returns : tie.Need-returns Inv-loop μ-loop
-returns c = turn-fails (c .before .before .before .before .before .before .before .before .before .loop .inv) (c .before .before .before .before .before .before .before .before .before .before .before .before .before .before .pre .rises) (omega arith) (place (c .before .before .before .before .before)) (sym (c .before .before .before .effect-of .ensures) ∙ c .before .ground .given .1)
+returns c = turn-fails (c .before .before .before .before .before .before .before .before .loop .inv) (c .before .before .before .before .before .before .before .before .before .before .before .before .before .pre .rises) (omega arith) ((c .before .before .before .before .before .before .before .before .before .before .before .before .before .pre .placed) (c .before .before .before .before .before .before .before .before .loop .k) (omega arith)) (sym (c .before .before .before .effect-of .ensures) ∙ (c .before .ground .given .1))
 
 same-length-3 : tie.Need-same-length-3 Inv-loop μ-loop
 same-length-3 c = search needs
@@ -99,11 +90,11 @@ run-spec =
     Inv-loop
     μ-loop
     loop-holds
-    mul-order
-    shared-slice-read-order
-    offer-of-requires
-    place-of-requires
+    mul-place
+    shared-slice-read-place
     mul-effect-of
+    shared-slice-read-effect-of
+    mul-effect-of-2
     slice-read-effect-of
     effect-of-requires
     enum-known-w
