@@ -1,1 +1,4 @@
+pub mod Calls
 pub mod Lists
+pub mod Settings
+pub mod Shows

@@ -11,7 +11,7 @@ before-comment-requires : tie.Need-before-comment-requires
 before-comment-requires c κs = search needs
 
 slice-aggregate-is-last : tie.Need-slice-aggregate-is-last
-slice-aggregate-is-last c = sym (length-take-le (c .before .before-comment .result) (c .before .before .before .before .args .line .now) (c .before .before-comment .ensures))
+slice-aggregate-is-last c = sym (length-take-le (c .before .before-comment .result) (c .before .before .before .before .args .line .now) (c .before .before-comment .ensures .0))
 
 is-last-requires : tie.Need-is-last-requires
 is-last-requires c κs = search needs
@@ -23,7 +23,7 @@ returns : tie.Need-returns
 returns c = search needs
 
 slice-aggregate-parse : tie.Need-slice-aggregate-parse
-slice-aggregate-parse c = sym (length-take-le (c .before .before .before .before .before-comment .result) (c .before .before .before .before .before .before .before .args .line .now) (c .before .before .before .before .before-comment .ensures))
+slice-aggregate-parse c = sym (length-take-le (c .before .before .before .before .before-comment .result) (c .before .before .before .before .before .before .before .args .line .now) (c .before .before .before .before .before-comment .ensures .0))
 
 parse-requires : tie.Need-parse-requires
 parse-requires c κs = search needs
