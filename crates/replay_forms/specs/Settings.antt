@@ -5,7 +5,6 @@ use mathlib.Core.Bool.{Bool, true, false, cond, _&&_}
 use mathlib.Core.List.{List}
 use Prim.Native.Nat.{ℕ}
 use Rattle.listing_text.specs.Codes.{codes}
-use Rattle.replay_text.specs.declared.reading.Number.{Number}
 use Rattle.replay_text.specs.Items.{hexFirst, isValue, valueOf}
 use Rattle.replay_text.specs.Tokens.{rest, noneB, namedB}
 use Rattle.replay_forms.specs.declared.command.Command.{Command}

@@ -11,7 +11,7 @@ use Rattle.replay_text.specs.declared.reading.Number.{Number}
 use Rattle.replay_text.specs.declared.reading.Number.the-variants.{Value, Bad}
 use Rattle.replay_text.specs.declared.tokens.Span.{Span}
 use Rattle.replay_text.specs.Reading.{decimalIn, wordIn, byteIn}
-use Rattle.replay_text.specs.Tokens.{tokensFrom, first, Token}
+use Rattle.replay_text.specs.Tokens.{tokensFrom, Token}
 use Rattle.replay_text.specs.Items.{upTo, numberFirst, hexFirst, isValue, valueOf, Took}
 
 module _ {line : List ℕ} {at : ℕ} {s : Span} (t : Token line at s) where

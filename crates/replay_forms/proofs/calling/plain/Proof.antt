@@ -1,10 +1,9 @@
 -- `calling::plain` meets its contract: no token follows.
 -- Assumes nothing.
 use borrow.Author.Needs.{needs}
-use mathlib.Core.Path.{ap, ap₂, sym, _∙_}
+use mathlib.Core.Path.{refl}
 use Rattle.replay_forms.proofs.Forms.{has, has-not}
 use Rattle.replay_forms.specs.Calls.{plainForm}
-use mathlib.Core.Path.{refl}
 use Rattle.replay_forms.proofs.calling.plain.Statement.{statement}
 use Rattle.replay_forms.proofs.calling.plain.Tie as tie
 

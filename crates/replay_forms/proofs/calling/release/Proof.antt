@@ -1,7 +1,7 @@
 -- `calling::release` meets its contract: one number, and no token more.
 -- Assumes nothing.
 use borrow.Author.Needs.{needs}
-use mathlib.Core.Path.{ap, ap₂, sym, _∙_}
+use mathlib.Core.Path.{ap, ap₂, _∙_}
 use mathlib.Core.Bool.{_&&_}
 use Prim.Native.Nat.{ℕ}
 use Rattle.calls.specs.declared.call.Call.the-variants.{Release}

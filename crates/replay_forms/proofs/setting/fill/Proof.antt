@@ -1,10 +1,9 @@
 -- `setting::fill` meets its contract: a memory, two numbers and two words.
 -- Assumes nothing.
 use borrow.Author.Needs.{needs}
-use mathlib.Core.Path.{ap, ap₂, sym, _∙_}
-use mathlib.Core.Bool.{_&&_}
+use mathlib.Core.Path.{ap, ap₂, _∙_, _≡_}
+use mathlib.Core.Bool.{_&&_, false}
 use Prim.Native.Nat.{ℕ}
-use mathlib.Core.Path.{_≡_}
 use Rattle.replay_text.specs.Tokens.{noneB}
 use Rattle.replay_text.proofs.Taken.{onto}
 use Rattle.replay_forms.specs.declared.command.Command.the-variants.{Set}
@@ -13,7 +12,6 @@ use Rattle.replay_forms.specs.declared.command.Command.{Command}
 use Rattle.replay_forms.specs.declared.command.Setting.the-variants.{Fill}
 use Rattle.replay_forms.specs.Calls.{anyIn}
 use Rattle.replay_forms.specs.Settings.{fillForm}
-use mathlib.Core.Bool.{false}
 use Rattle.replay_text.specs.Items.{hexFirst}
 use Rattle.replay_forms.proofs.Forms.{has, has-not}
 use Rattle.replay_forms.proofs.setting.fill.Statement.{statement}

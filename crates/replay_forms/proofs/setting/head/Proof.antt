@@ -1,10 +1,9 @@
 -- `setting::head` meets its contract: a field, an index where it has one, and a number.
 -- Assumes nothing.
 use borrow.Author.Needs.{needs}
-use mathlib.Core.Path.{ap, ap₂, sym, _∙_}
+use mathlib.Core.Path.{ap, ap₂, sym, _∙_, _≡_}
 use mathlib.Core.Bool.{_&&_}
 use Prim.Native.Nat.{ℕ}
-use mathlib.Core.Path.{_≡_}
 use Rattle.replay_text.specs.Tokens.{noneB}
 use Rattle.replay_text.proofs.Taken.{onto}
 use Rattle.replay_forms.specs.declared.command.Command.the-variants.{Set}

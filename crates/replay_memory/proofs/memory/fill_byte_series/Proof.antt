@@ -4,7 +4,7 @@ use borrow.Author.Needs.{needs}
 use native.Mathlib.Omega.{arith}
 use Prim.Native.Nat.{ℕ, _+_, _-_, _*_, _≤_}
 use native.Mathlib.Nat.{sub-zero}
-use lib.ListN.{length, take, drop}
+use lib.ListN.{take, drop}
 use mathlib.Core.List.{_++_}
 use Rattle.words.proofs.Writing.{Writing, start, unwritten}
 use Rattle.words.proofs.Pieces.{wrote-piece, completed}

@@ -3,9 +3,9 @@
 use borrow.Author.Needs.{needs}
 use native.Mathlib.Omega.{arith}
 use mathlib.Core.Path.{_≡_, refl, sym, _∙_}
-use Prim.Native.Nat.{_-_, _≤_}
+use Prim.Native.Nat.{_-_}
 use lib.ListN.{length}
-use Rattle.replay_text.specs.Tokens.{tokensFrom, Starts}
+use Rattle.replay_text.specs.Tokens.{tokensFrom}
 use Rattle.replay_text.proofs.Split.{skip, no-tokens}
 use Rattle.replay_text.proofs.tokens.token_start.Statement.{statement}
 use Rattle.replay_text.proofs.tokens.token_start.Tie as tie
