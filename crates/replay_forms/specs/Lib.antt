@@ -1,1 +1,5 @@
+pub mod Calls
+pub mod Lines
 pub mod Lists
+pub mod Settings
+pub mod Shows

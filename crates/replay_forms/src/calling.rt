@@ -2,21 +2,25 @@
 use crate::command::Command;
 use crate::command::Parsed;
 use crate::command::alone;
-use crate::items::LARGEST;
-use crate::items::LARGEST_32;
-use crate::items::behind;
-use crate::items::is_named;
-use crate::items::list_at;
-use crate::items::number_at;
 use crate::setting::with_list;
 use calls::call::Call;
+use replay_text::items::LARGEST;
+use replay_text::items::LARGEST_32;
+use replay_text::items::behind;
+use replay_text::items::is_named;
+use replay_text::items::list_at;
+use replay_text::items::number_at;
 use replay_text::tokens::is_last;
 ghost use mathlib.Core.Path.{_≡_};
 ghost use lib.ListN.{length};
+ghost use Rattle.replay_text.specs.Tokens.{tokensFrom};
+ghost use Rattle.replay_forms.specs.Calls.{plainForm, rollBackForm, flushForm, lookUpForm, releaseForm};
 ghost use Rattle.replay_forms.specs.Lists.{Few};
 
 // A call without numbers.
-pub fn plain(line: &[u8], at: usize, call: Call) -> Command {
+pub fn plain(line: &[u8], at: usize, call: Call) -> Command
+    ensures { λ r. ⌜ r ≡ plainForm call (tokensFrom (now (line .entry)) at) ⌝ }
+{
     if is_last(line, at) {
         return Command::Serve(call);
     }
@@ -24,7 +28,9 @@ pub fn plain(line: &[u8], at: usize, call: Call) -> Command {
 }
 
 // roll_back STATE
-pub fn roll_back(line: &[u8], at: usize) -> Command {
+pub fn roll_back(line: &[u8], at: usize) -> Command
+    ensures { λ r. ⌜ r ≡ rollBackForm (tokensFrom (now (line .entry)) at) ⌝ }
+{
     let state = number_at(line, at, LARGEST_32);
     if state.ok & is_last(line, state.next) {
         return Command::Serve(Call::RollBack(state.value as u32));
@@ -33,7 +39,9 @@ pub fn roll_back(line: &[u8], at: usize) -> Command {
 }
 
 // flush STATE
-pub fn flush(line: &[u8], at: usize) -> Command {
+pub fn flush(line: &[u8], at: usize) -> Command
+    ensures { λ r. ⌜ r ≡ flushForm (tokensFrom (now (line .entry)) at) ⌝ }
+{
     let state = number_at(line, at, LARGEST_32);
     if state.ok & is_last(line, state.next) {
         return Command::Serve(Call::Flush(state.value as u32));
@@ -42,7 +50,9 @@ pub fn flush(line: &[u8], at: usize) -> Command {
 }
 
 // look_up OFFER STATE
-pub fn look_up(line: &[u8], at: usize) -> Command {
+pub fn look_up(line: &[u8], at: usize) -> Command
+    ensures { λ r. ⌜ r ≡ lookUpForm (tokensFrom (now (line .entry)) at) ⌝ }
+{
     let offer = number_at(line, at, LARGEST_32);
     let state = number_at(line, offer.next, LARGEST_32);
     if offer.ok & state.ok & is_last(line, state.next) {
@@ -52,7 +62,9 @@ pub fn look_up(line: &[u8], at: usize) -> Command {
 }
 
 // release SLOT
-pub fn release(line: &[u8], at: usize) -> Command {
+pub fn release(line: &[u8], at: usize) -> Command
+    ensures { λ r. ⌜ r ≡ releaseForm (tokensFrom (now (line .entry)) at) ⌝ }
+{
     let slot = number_at(line, at, LARGEST);
     if slot.ok & is_last(line, slot.next) {
         return Command::Serve(Call::Release(slot.value as usize));

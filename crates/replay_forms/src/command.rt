@@ -73,7 +73,7 @@ pub struct Parsed {
 
 // A command without lists.
 pub fn alone(command: Command) -> Parsed
-    ensures { λ r. ⌜ Few r ⌝ }
+    ensures { λ r. ⌜ Few r × (r .command ≡ command) ⌝ }
 {
     Parsed {
         command,

@@ -11,8 +11,6 @@ use crate::calling::roll_back;
 use crate::command::Command;
 use crate::command::Parsed;
 use crate::command::alone;
-use crate::items::behind;
-use crate::items::is_named;
 use crate::setting::fill;
 use crate::setting::head;
 use crate::setting::lend;
@@ -20,14 +18,21 @@ use crate::setting::poke;
 use crate::setting::tally;
 use crate::showing::show;
 use calls::call::Call;
+use replay_text::items::behind;
+use replay_text::items::is_named;
 use replay_text::tokens::before_comment;
 use replay_text::tokens::is_last;
 ghost use mathlib.Core.Path.{_≡_};
+ghost use mathlib.Core.Bool.{false};
 ghost use lib.ListN.{length};
+ghost use Rattle.replay_text.specs.Tokens.{split, uncommented, tokensFrom, rest};
+ghost use Rattle.replay_forms.specs.Lines.{callForm, unlistedForm, listedB, Says};
 ghost use Rattle.replay_forms.specs.Lists.{Few};
 
 // A call whose form has no list.
-fn short_call(line: &[u8], at: usize) -> Command {
+fn short_call(line: &[u8], at: usize) -> Command
+    ensures { λ r. ⌜ r ≡ callForm (tokensFrom (now (line .entry)) 0) (tokensFrom (now (line .entry)) at) ⌝ }
+{
     if is_named(line, 0, b"clear") {
         return plain(line, at, Call::Clear);
     }
@@ -56,7 +61,9 @@ fn short_call(line: &[u8], at: usize) -> Command {
 }
 
 // What the form has no list of: it sets, shows or calls.
-fn without_list(line: &[u8], at: usize) -> Command {
+fn without_list(line: &[u8], at: usize) -> Command
+    ensures { λ r. ⌜ r ≡ unlistedForm (tokensFrom (now (line .entry)) 0) (tokensFrom (now (line .entry)) at) ⌝ }
+{
     if is_named(line, 0, b"lend") {
         return lend(line, at);
     }
@@ -78,7 +85,7 @@ fn without_list(line: &[u8], at: usize) -> Command {
 // A line of which no comment is left.
 fn parse(line: &[u8], words: &mut [u64]) -> Parsed
     requires { ⌜ length (now words) ≡ 240 ⌝ }
-    ensures { λ r. ⌜ Few r ⌝ }
+    ensures { λ r. ⌜ Few r × (listedB (tokensFrom (now (line .entry)) 0) ≡ false → r .command ≡ unlistedForm (tokensFrom (now (line .entry)) 0) (rest (tokensFrom (now (line .entry)) 0))) ⌝ }
 {
     let at = behind(line, 0);
     if is_named(line, 0, b"poke") {
@@ -102,7 +109,7 @@ fn parse(line: &[u8], words: &mut [u64]) -> Parsed
 // What a line says. Its lists go into the words lent, 80 for each.
 pub fn parse_line(line: &[u8], words: &mut [u64]) -> Parsed
     requires { ⌜ length (now words) ≡ 240 ⌝ }
-    ensures { λ r. ⌜ Few r ⌝ }
+    ensures { λ r. ⌜ Few r × Says (split false (uncommented (now (line .entry)))) r ⌝ }
 {
     let said = before_comment(line);
     if is_last(&line[..said], 0) {

@@ -6,18 +6,22 @@ use crate::command::Memory;
 use crate::command::Parsed;
 use crate::command::Setting;
 use crate::command::alone;
-use crate::items::LARGEST;
-use crate::items::behind;
-use crate::items::hex_at;
-use crate::items::is_named;
-use crate::items::list_at;
-use crate::items::number_at;
+use replay_text::items::LARGEST;
+use replay_text::items::behind;
+use replay_text::items::hex_at;
+use replay_text::items::is_named;
+use replay_text::items::list_at;
+use replay_text::items::number_at;
 use replay_text::tokens::is_last;
 ghost use mathlib.Core.Path.{_≡_};
 ghost use lib.ListN.{length};
+ghost use Rattle.replay_text.specs.Tokens.{tokensFrom};
 ghost use Rattle.replay_forms.specs.Lists.{Few};
+ghost use Rattle.replay_forms.specs.Settings.{memoryIn, fieldIn, countIn, indexedB, lendForm, fillForm, headForm, tallyForm};
 
-pub fn memory_at(line: &[u8], at: usize) -> Memory {
+pub fn memory_at(line: &[u8], at: usize) -> Memory
+    ensures { λ r. ⌜ r ≡ memoryIn (tokensFrom (now (line .entry)) at) ⌝ }
+{
     if is_named(line, at, b"table") {
         return Memory::Table;
     }
@@ -40,7 +44,9 @@ fn is_bytes(memory: Memory) -> bool {
 }
 
 // lend MEMORY N
-pub fn lend(line: &[u8], at: usize) -> Command {
+pub fn lend(line: &[u8], at: usize) -> Command
+    ensures { λ r. ⌜ r ≡ lendForm (tokensFrom (now (line .entry)) at) ⌝ }
+{
     let memory = memory_at(line, at);
     let n = number_at(line, behind(line, at), LARGEST);
     if n.ok & is_last(line, n.next) {
@@ -90,7 +96,9 @@ pub fn poke(line: &[u8], at: usize, words: &mut [u64]) -> Parsed
 }
 
 // fill MEMORY I N W W
-pub fn fill(line: &[u8], at: usize) -> Command {
+pub fn fill(line: &[u8], at: usize) -> Command
+    ensures { λ r. ⌜ r ≡ fillForm (tokensFrom (now (line .entry)) at) ⌝ }
+{
     let memory = memory_at(line, at);
     let i = number_at(line, behind(line, at), LARGEST);
     let n = number_at(line, i.next, LARGEST);
@@ -102,7 +110,9 @@ pub fn fill(line: &[u8], at: usize) -> Command {
     Command::NoCall
 }
 
-fn field_at(line: &[u8], at: usize) -> Field {
+fn field_at(line: &[u8], at: usize) -> Field
+    ensures { λ r. ⌜ r ≡ fieldIn (tokensFrom (now (line .entry)) at) ⌝ }
+{
     if is_named(line, at, b"used") {
         return Field::Used;
     }
@@ -128,7 +138,9 @@ fn field_at(line: &[u8], at: usize) -> Field {
 }
 
 // Whether a field has an index in front of its value.
-fn is_indexed(field: Field) -> bool {
+fn is_indexed(field: Field) -> bool
+    ensures { λ r. ⌜ r ≡ indexedB field ⌝ }
+{
     match field {
         Field::Used => false,
         Field::Oldest => false,
@@ -142,7 +154,9 @@ fn is_indexed(field: Field) -> bool {
 }
 
 // head FIELD N, head FIELD K N
-pub fn head(line: &[u8], at: usize) -> Command {
+pub fn head(line: &[u8], at: usize) -> Command
+    ensures { λ r. ⌜ r ≡ headForm (tokensFrom (now (line .entry)) at) ⌝ }
+{
     let field = field_at(line, at);
     let k = number_at(line, behind(line, at), LARGEST);
     if is_indexed(field) {
@@ -158,7 +172,9 @@ pub fn head(line: &[u8], at: usize) -> Command {
     Command::NoCall
 }
 
-fn count_at(line: &[u8], at: usize) -> Count {
+fn count_at(line: &[u8], at: usize) -> Count
+    ensures { λ r. ⌜ r ≡ countIn (tokensFrom (now (line .entry)) at) ⌝ }
+{
     if is_named(line, at, b"committed") {
         return Count::Committed;
     }
@@ -172,7 +188,9 @@ fn count_at(line: &[u8], at: usize) -> Count {
 }
 
 // tally COUNT N
-pub fn tally(line: &[u8], at: usize) -> Command {
+pub fn tally(line: &[u8], at: usize) -> Command
+    ensures { λ r. ⌜ r ≡ tallyForm (tokensFrom (now (line .entry)) at) ⌝ }
+{
     let count = count_at(line, at);
     let n = number_at(line, behind(line, at), LARGEST);
     if n.ok & is_last(line, n.next) {

@@ -1,3 +1,5 @@
 pub mod Crcs
 pub mod Digits
 pub mod Hexes
+pub mod Split
+pub mod Taken

@@ -1,4 +1,5 @@
 pub mod Crc
 pub mod Hex
+pub mod Items
 pub mod Reading
-pub mod Spans
+pub mod Tokens

@@ -1,0 +1,42 @@
+-- `showing::part` meets its contract: two numbers, and no token more.
+-- Assumes nothing.
+use borrow.Author.Needs.{needs}
+use mathlib.Core.Path.{ap, ap₂, _∙_}
+use mathlib.Core.Bool.{_&&_}
+use Prim.Native.Nat.{ℕ}
+use Rattle.replay_text.specs.Tokens.{noneB}
+use Rattle.replay_text.proofs.Taken.{onto}
+use Rattle.replay_forms.specs.declared.command.Command.the-variants.{Show}
+use Rattle.replay_forms.specs.declared.command.Show.the-variants.{Part}
+use Rattle.replay_forms.specs.Calls.{anyIn}
+use Rattle.replay_forms.specs.Shows.{partForm}
+use Rattle.replay_forms.proofs.Forms.{has, has-not}
+use Rattle.replay_forms.proofs.showing.part.Statement.{statement}
+use Rattle.replay_forms.proofs.showing.part.Tie as tie
+
+number-at-requires : tie.Need-number-at-requires
+number-at-requires c κs = search needs
+
+number-at-requires-2 : tie.Need-number-at-requires-2
+number-at-requires-2 c κs = search needs
+
+is-last-requires : tie.Need-is-last-requires
+is-last-requires c κs = search needs
+
+returns : tie.Need-returns
+unfolding partForm
+returns c =
+    let a = (c .before .before .before .before .before .number-at .ensures) .0 in
+    let b = onto anyIn (a .onward) ((c .before .before .before .before .number-at2 .ensures) .0) in
+    has (c .if1 .taken) (ap₂ _&&_ (ap₂ _&&_ (a .sound) (b .sound)) ((c .before .is-last .ensures) ∙ ap noneB (b .onward))) (ap₂ (λ (v w : ℕ). Show (Part (c .before .before .before .before .before .before .before .args .memory) v w)) (a .number) (b .number))
+
+returns-2 : tie.Need-returns-2
+unfolding partForm
+returns-2 c =
+    let a = (c .before .before .before .before .before .number-at .ensures) .0 in
+    let b = onto anyIn (a .onward) ((c .before .before .before .before .number-at2 .ensures) .0) in
+    has-not _ (c .if1 .left) (ap₂ _&&_ (ap₂ _&&_ (a .sound) (b .sound)) ((c .before .is-last .ensures) ∙ ap noneB (b .onward)))
+
+pub part-spec : {M : Type 1} → statement M
+part-spec =
+    tie.close (tie.spec number-at-requires number-at-requires-2 is-last-requires returns returns-2)

@@ -1,0 +1,2 @@
+// A script's line carried out (docs/REPLAY.md).
+pub mod step;
