@@ -1,5 +1,10 @@
 // The last change of an offer among some steps of the journal, and a read set brought forward by the last changes of its
 // offers.
+pub mod filter;
+
+use crate::filter::PLACES;
+use crate::filter::filter_place;
+use crate::filter::note_offers;
 use changes::search::Found;
 use entry::Entry;
 use layout::sound::end_of;
@@ -11,6 +16,7 @@ ghost use Rattle.changes.specs.Calculus.{find as found, composeAll};
 ghost use Rattle.changes.specs.Lists.{From};
 ghost use Rattle.changes.specs.ReadSets.{foundOr, over};
 ghost use Rattle.changes.specs.Runs.{stepOf, runOf, Marked};
+ghost use Rattle.last_changes.specs.Filter.{Noted};
 ghost use Rattle.last_changes.specs.Steps.{Rising};
 
 // The word of one step at the offer.
@@ -40,14 +46,44 @@ pub fn last_change(journal: &[u64], ends: &[usize], from: usize, to: usize, offe
     Found::Nothing
 }
 
-// The last change of the word's offer among the steps, or the word itself.
-fn word_after(word: u64, journal: &[u64], ends: &[usize], from: usize, to: usize) -> u64
-    requires { ⌜ Rising (now journal) (now ends) from to ⌝ }
+// The last change of the word's offer among the steps, or the word itself. It is not sought where the filter shows that there
+// is none.
+fn word_after(
+    word: u64,
+    filter: &[bool],
+    journal: &[u64],
+    ends: &[usize],
+    from: usize,
+    to: usize,
+) -> u64
+    requires { ⌜ Rising (now journal) (now ends) from to × Noted (now filter) (now journal) (now ends) from to ⌝ }
     ensures { λ r. ⌜ r ≡ foundOr (found (offerOf word) (composeAll (runOf (now (journal .entry)) (now (ends .entry)) from (to - from)))) word ⌝ }
 {
+    if !filter[filter_place(word)] {
+        return word;
+    }
     match last_change(journal, ends, from, to, Entry::offer_of(word)) {
         Found::Word(later) => later,
         Found::Nothing => word,
+    }
+}
+
+// Applies the steps to the read set at its own offers, with a filter in which their words are noted.
+fn words_after(
+    words: &mut [u64],
+    filter: &[bool],
+    journal: &[u64],
+    ends: &[usize],
+    from: usize,
+    to: usize,
+)
+    requires { ⌜ Rising (now journal) (now ends) from to × Noted (now filter) (now journal) (now ends) from to ⌝ }
+    ensures { λ r. ⌜ now (words .exit) ≡ over (now (words .entry)) (composeAll (runOf (now (journal .entry)) (now (ends .entry)) from (to - from))) ⌝ }
+{
+    let mut i = 0;
+    while i < words.len() {
+        words[i] = word_after(words[i], filter, journal, ends, from, to);
+        i += 1;
     }
 }
 
@@ -56,9 +92,9 @@ pub fn bring_forward(words: &mut [u64], journal: &[u64], ends: &[usize], from: u
     requires { ⌜ Rising (now journal) (now ends) from to ⌝ }
     ensures { λ r. ⌜ now (words .exit) ≡ over (now (words .entry)) (composeAll (runOf (now (journal .entry)) (now (ends .entry)) from (to - from))) ⌝ }
 {
-    let mut i = 0;
-    while i < words.len() {
-        words[i] = word_after(words[i], journal, ends, from, to);
-        i += 1;
-    }
+    let start = end_of(ends, from);
+    let end = end_of(ends, to);
+    let mut filter = [false; PLACES];
+    note_offers(&journal[start..end], &mut filter);
+    words_after(words, &filter, journal, ends, from, to);
 }

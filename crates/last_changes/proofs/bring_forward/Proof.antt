@@ -1,80 +1,62 @@
--- `last_changes::bring_forward` meets its contract: the words changed so far and the change of those left make the change of all.
+-- `last_changes::bring_forward` meets its contract: the filter has the words of all steps noted.
 -- Assumes nothing.
-use mathlib.Core.Path.{_≡_, _∙_, sym, ap}
-use mathlib.Core.List.{_∷_}
-use Prim.Native.Nat.{_+_, _-_, _≤_}
-use lib.ListN.{length, drop}
-use Rattle.entry.specs.Word.{offerOf}
-use Rattle.changes.specs.Calculus.{find, composeAll}
-use Rattle.changes.specs.ReadSets.{foundOr, over}
-use Rattle.changes.specs.Runs.{runOf}
-use Rattle.changes.proofs.Reading.{over-at, over-end, over-length}
-use Rattle.words.proofs.Writing.{Writing, start, stored, filled, word-behind}
+use mathlib.Core.Bool.{Bool, false}
+use lib.ListN.{replicate, length-replicate}
 use borrow.Author.Needs.{needs}
 use native.Mathlib.Omega.{arith}
+use Rattle.last_changes.proofs.Filtering.{part-noted}
 use Rattle.last_changes.proofs.bring_forward.Statement.{statement}
 use Rattle.last_changes.proofs.bring_forward.Tie as tie
 
-abbrev Inv-loop : tie.InvT-loop
-Inv-loop words₀ journal ends from to i₀ words i = (i ≤ length words₀) × Writing words words₀ i (over (drop i words₀) (composeAll (runOf journal ends from (to - from)))) (over words₀ (composeAll (runOf journal ends from (to - from))))
+end-of-requires : tie.Need-end-of-requires
+end-of-requires c κs = search needs
 
-abbrev μ-loop : tie.MeasureT-loop
-μ-loop words₀ journal ends from to i₀ words i = length words₀ - i
+end-of-requires-2 : tie.Need-end-of-requires-2
+end-of-requires-2 c κs = search needs
 
-loop-holds : tie.Need-loop-holds Inv-loop μ-loop
-loop-holds c = (search needs, start _ _)
+mul-note-offers : tie.Need-mul-note-offers
+mul-note-offers c = omega (arith, (c .before .before .before .before .before .pre .marked .rises) (c .before .before .before .before .before .args .from) (c .before .before .before .before .before .args .to) (c .before .before .before .before .before .pre .order) (omega arith), (c .before .before .before .before .before .pre .marked .inside), (c .before .end-of .ensures), (c .end-of2 .ensures))
 
-mul-word-after : tie.Need-mul-word-after Inv-loop μ-loop
-mul-word-after c = search needs
+sub-note-offers : tie.Need-sub-note-offers
+sub-note-offers c = omega (arith, (c .before .before .before .before .before .pre .marked .rises) (c .before .before .before .before .before .args .from) (c .before .before .before .before .before .args .to) (c .before .before .before .before .before .pre .order) (omega arith), (c .before .before .before .before .before .pre .marked .inside), (c .before .end-of .ensures), (c .end-of2 .ensures))
 
-slice-read-word-after : tie.Need-slice-read-word-after Inv-loop μ-loop
-slice-read-word-after c = search needs
+part-note-offers-start : tie.Need-part-note-offers-start
+part-note-offers-start c = omega (arith, (c .before .before .before .before .before .pre .marked .rises) (c .before .before .before .before .before .args .from) (c .before .before .before .before .before .args .to) (c .before .before .before .before .before .pre .order) (omega arith), (c .before .before .before .before .before .pre .marked .inside), (c .before .end-of .ensures), (c .end-of2 .ensures))
 
-word-after-requires : tie.Need-word-after-requires Inv-loop μ-loop
-word-after-requires c κs = (c .before .before .before .before .before .before .pre)
+part-note-offers-end : tie.Need-part-note-offers-end
+part-note-offers-end c = omega (arith, (c .before .before .before .before .before .pre .marked .rises) (c .before .before .before .before .before .args .from) (c .before .before .before .before .before .args .to) (c .before .before .before .before .before .pre .order) (omega arith), (c .before .before .before .before .before .pre .marked .inside), (c .before .end-of .ensures), (c .end-of2 .ensures))
 
-mul-words : tie.Need-mul-words Inv-loop μ-loop
-mul-words c = search needs
+slice-aggregate-note-offers : tie.Need-slice-aggregate-note-offers
+slice-aggregate-note-offers c = search needs
 
-slice-write-words : tie.Need-slice-write-words Inv-loop μ-loop
-slice-write-words c = search needs
+note-offers-requires : tie.Need-note-offers-requires
+note-offers-requires c κs = search needs
 
-add-i : tie.Need-add-i Inv-loop μ-loop
-add-i c = search needs
+slice-aggregate-words-after : tie.Need-slice-aggregate-words-after
+slice-aggregate-words-after c = search needs
 
-loop-less : tie.Need-loop-less Inv-loop μ-loop
-loop-less c = search needs
+words-after-requires : tie.Need-words-after-requires
+words-after-requires c κs = ((c .before .before .before .before .before .before .before .before .before .before .before .pre), part-noted (c .before .before .before .before .before .before .before .before .before .before .before .pre) (replicate 16384 false) _ (length-replicate 16384 false) (c .before .before .before .before .before .before .before .end-of .result) (c .before .before .before .before .before .before .end-of2 .result) (c .before .before .before .before .before .before .before .end-of .ensures) (c .before .before .before .before .before .before .end-of2 .ensures) (c .before .before .before .note-offers .ensures))
 
-loop-again : tie.Need-loop-again Inv-loop μ-loop
-loop-again c =
-    let w = (c .before .before .before .loop .inv .1) in
-    let i = (c .before .before .before .loop .i) in
-    let rs = (c .before .before .before .before .before .before .before .args .words .now) in
-    let d = (composeAll (runOf ((c .before .before .before .before .before .before .before .args .journal .now)) ((c .before .before .before .before .before .before .before .args .ends .now)) (c .before .before .before .before .before .before .before .args .from) ((c .before .before .before .before .before .before .before .args .to) - (c .before .before .before .before .before .before .before .args .from)))) in
-    let here = word-behind w i (omega arith) in
-    let first = (c .word-after .ensures) ∙ ap (λ v. foundOr (find (offerOf v) d) v) here in
-    (omega arith, stored w (over-at rs d i (omega arith) ∙ ap (λ v. v ∷ over (drop (i + 1) rs) d) (sym first)) (omega arith))
-
-same-length : tie.Need-same-length Inv-loop μ-loop
+same-length : tie.Need-same-length
 same-length c = search needs
 
-returns : tie.Need-returns Inv-loop μ-loop
-returns c = filled (c .before .loop .inv .1) (over-end ((c .before .before .before .before .before .args .words .now)) (composeAll (runOf ((c .before .before .before .before .before .args .journal .now)) ((c .before .before .before .before .before .args .ends .now)) (c .before .before .before .before .before .args .from) ((c .before .before .before .before .before .args .to) - (c .before .before .before .before .before .args .from)))) (c .before .loop .i) (omega arith)) (over-length ((c .before .before .before .before .before .args .words .now)) (composeAll (runOf ((c .before .before .before .before .before .args .journal .now)) ((c .before .before .before .before .before .args .ends .now)) (c .before .before .before .before .before .args .from) ((c .before .before .before .before .before .args .to) - (c .before .before .before .before .before .args .from)))))
+returns : tie.Need-returns
+returns c = search needs
 
 pub bring-forward-spec : {M : Type 1} → statement M
 bring-forward-spec =
     tie.close
     (tie.spec
-    Inv-loop
-    μ-loop
-    loop-holds
-    mul-word-after
-    slice-read-word-after
-    word-after-requires
-    mul-words
-    slice-write-words
-    add-i
-    loop-less
-    loop-again
+    end-of-requires
+    end-of-requires-2
+    mul-note-offers
+    sub-note-offers
+    part-note-offers-start
+    part-note-offers-end
+    slice-aggregate-note-offers
+    note-offers-requires
+    slice-aggregate-words-after
+    words-after-requires
     same-length
     returns)

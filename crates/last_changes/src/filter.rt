@@ -1,0 +1,29 @@
+// A filter of offers: a place that is not set says that none of the words noted has an offer of that place. A read set is
+// brought forward over thousands of words of which few have its offers, so most of its searches need not be made.
+use entry::Entry;
+ghost use mathlib.Core.Path.{_≡_};
+ghost use lib.ListN.{length};
+ghost use Rattle.last_changes.specs.Filter.{placeOf, noted};
+
+// The places of a filter. Four times the words of a journal: then a word shares its place with few.
+pub const PLACES: usize = 16384;
+
+// The place of the word's offer.
+pub fn filter_place(word: u64) -> usize
+    ensures { λ r. ⌜ r ≡ placeOf word ⌝ }
+{
+    (Entry::offer_of(word) as usize) % PLACES
+}
+
+// Sets the places of the words' offers.
+pub fn note_offers(words: &[u64], filter: &mut [bool])
+    requires { ⌜ length (now filter) ≡ 16384 ⌝ }
+    ensures { λ r. ⌜ now (filter .exit) ≡ noted (now (filter .entry)) (now (words .entry)) ⌝ }
+{
+    let mut i = 0;
+    while i < words.len() {
+        let place = filter_place(words[i]);
+        filter[place] = true;
+        i += 1;
+    }
+}
