@@ -45,10 +45,10 @@ validB w = isPut w || eqb (kindOf w) 0 && eqb (priceOf w) 0
 abbrev pub Valid : ℕ → Type 0
 Valid w = (kindOf w ≤ 1) × (kindOf w ≡ 0 → priceOf w ≡ 0)
 
--- a number whose kind bit says that a test passed
+-- 1 where a test passes, else 0
 abbrev pub markOf : Bool → ℕ
 markOf b = cond b 1 0
 
--- a number whose kind bit is 1 exactly when the offer of w lies above that of v: the distance of their offers, from the largest offer on
+-- a number whose kind bit is 1 exactly when the offer of w lies above that of v: the distance of their offers, from the largest on
 abbrev pub riseOf : ℕ → ℕ → ℕ
 riseOf v w = (offerOf w + (2 ^ 31 - 1 - offerOf v)) * 2 ^ 32

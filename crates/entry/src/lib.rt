@@ -76,6 +76,7 @@ impl Entry {
     {
         Entry::none(offer) | (price as u64) | ((Entry::PUT as u64) << Entry::KIND_AT)
     }
+
     // The offer at its place in the word, all other bits zero: a single mask, and words compare by it as by their offers.
     pub fn offer_field(word: u64) -> u64
         ensures { λ r. ⌜ r ≡ offerOf word * 2 ^ 32 ⌝ }
