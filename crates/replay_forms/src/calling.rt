@@ -18,7 +18,7 @@ ghost use Rattle.replay_forms.specs.Calls.{plainForm, rollBackForm, flus
 ghost use Rattle.replay_forms.specs.Lists.{Few};
 
 // A call without numbers.
-pub fn plain(line: &[u8], at: usize, call: Call) -> Command
+pub(crate) fn plain(line: &[u8], at: usize, call: Call) -> Command
     ensures { λ r. ⌜ r ≡ plainForm call (tokensFrom (now (line .entry)) at) ⌝ }
 {
     if is_last(line, at) {
@@ -28,7 +28,7 @@ pub fn plain(line: &[u8], at: usize, call: Call) -> Command
 }
 
 // roll_back STATE
-pub fn roll_back(line: &[u8], at: usize) -> Command
+pub(crate) fn roll_back(line: &[u8], at: usize) -> Command
     ensures { λ r. ⌜ r ≡ rollBackForm (tokensFrom (now (line .entry)) at) ⌝ }
 {
     let state = number_at(line, at, LARGEST_32);
@@ -39,7 +39,7 @@ pub fn roll_back(line: &[u8], at: usize) -> Command
 }
 
 // flush STATE
-pub fn flush(line: &[u8], at: usize) -> Command
+pub(crate) fn flush(line: &[u8], at: usize) -> Command
     ensures { λ r. ⌜ r ≡ flushForm (tokensFrom (now (line .entry)) at) ⌝ }
 {
     let state = number_at(line, at, LARGEST_32);
@@ -50,7 +50,7 @@ pub fn flush(line: &[u8], at: usize) -> Command
 }
 
 // look_up OFFER STATE
-pub fn look_up(line: &[u8], at: usize) -> Command
+pub(crate) fn look_up(line: &[u8], at: usize) -> Command
     ensures { λ r. ⌜ r ≡ lookUpForm (tokensFrom (now (line .entry)) at) ⌝ }
 {
     let offer = number_at(line, at, LARGEST_32);
@@ -62,7 +62,7 @@ pub fn look_up(line: &[u8], at: usize) -> Command
 }
 
 // release SLOT
-pub fn release(line: &[u8], at: usize) -> Command
+pub(crate) fn release(line: &[u8], at: usize) -> Command
     ensures { λ r. ⌜ r ≡ releaseForm (tokensFrom (now (line .entry)) at) ⌝ }
 {
     let slot = number_at(line, at, LARGEST);
@@ -73,7 +73,7 @@ pub fn release(line: &[u8], at: usize) -> Command
 }
 
 // commit WORDS
-pub fn commit(line: &[u8], at: usize, words: &mut [u64]) -> Parsed
+pub(crate) fn commit(line: &[u8], at: usize, words: &mut [u64]) -> Parsed
     requires { ⌜ length (now words) ≡ 240 ⌝ }
     ensures { λ r. ⌜ Few r ⌝ }
 {
@@ -81,7 +81,7 @@ pub fn commit(line: &[u8], at: usize, words: &mut [u64]) -> Parsed
 }
 
 // issue SLOT WORDS
-pub fn issue(line: &[u8], at: usize, words: &mut [u64]) -> Parsed
+pub(crate) fn issue(line: &[u8], at: usize, words: &mut [u64]) -> Parsed
     requires { ⌜ length (now words) ≡ 240 ⌝ }
     ensures { λ r. ⌜ Few r ⌝ }
 {
@@ -94,7 +94,7 @@ pub fn issue(line: &[u8], at: usize, words: &mut [u64]) -> Parsed
 }
 
 // forward SLOT STATE, forward SLOT STATE with WORDS
-pub fn forward(line: &[u8], at: usize, words: &mut [u64]) -> Parsed
+pub(crate) fn forward(line: &[u8], at: usize, words: &mut [u64]) -> Parsed
     requires { ⌜ length (now words) ≡ 240 ⌝ }
     ensures { λ r. ⌜ Few r ⌝ }
 {
@@ -122,7 +122,7 @@ pub fn forward(line: &[u8], at: usize, words: &mut [u64]) -> Parsed
 }
 
 // price_batch WORDS / WORDS / WORDS
-pub fn price_batch(line: &[u8], at: usize, words: &mut [u64]) -> Parsed
+pub(crate) fn price_batch(line: &[u8], at: usize, words: &mut [u64]) -> Parsed
     requires { ⌜ length (now words) ≡ 240 ⌝ }
     ensures { λ r. ⌜ Few r ⌝ }
 {

@@ -72,7 +72,7 @@ pub struct Parsed {
 }
 
 // A command without lists.
-pub fn alone(command: Command) -> Parsed
+pub(crate) fn alone(command: Command) -> Parsed
     ensures { λ r. ⌜ Few r × (r .command ≡ command) ⌝ }
 {
     Parsed {

@@ -19,7 +19,7 @@ ghost use Rattle.replay_text.specs.Tokens.{tokensFrom};
 ghost use Rattle.replay_forms.specs.Lists.{Few};
 ghost use Rattle.replay_forms.specs.Settings.{memoryIn, fieldIn, countIn, indexedB, lendForm, fillForm, headForm, tallyForm};
 
-pub fn memory_at(line: &[u8], at: usize) -> Memory
+pub(crate) fn memory_at(line: &[u8], at: usize) -> Memory
     ensures { λ r. ⌜ r ≡ memoryIn (tokensFrom (now (line .entry)) at) ⌝ }
 {
     if is_named(line, at, b"table") {
@@ -44,7 +44,7 @@ fn is_bytes(memory: Memory) -> bool {
 }
 
 // lend MEMORY N
-pub fn lend(line: &[u8], at: usize) -> Command
+pub(crate) fn lend(line: &[u8], at: usize) -> Command
     ensures { λ r. ⌜ r ≡ lendForm (tokensFrom (now (line .entry)) at) ⌝ }
 {
     let memory = memory_at(line, at);
@@ -56,7 +56,7 @@ pub fn lend(line: &[u8], at: usize) -> Command
 }
 
 // A command whose first list takes the rest of the line, with at least so many values.
-pub fn with_list(
+pub(crate) fn with_list(
     command: Command,
     line: &[u8],
     at: usize,
@@ -81,7 +81,7 @@ pub fn with_list(
 }
 
 // poke MEMORY I VALUES
-pub fn poke(line: &[u8], at: usize, words: &mut [u64]) -> Parsed
+pub(crate) fn poke(line: &[u8], at: usize, words: &mut [u64]) -> Parsed
     requires { ⌜ length (now words) ≡ 240 ⌝ }
     ensures { λ r. ⌜ Few r ⌝ }
 {
@@ -96,7 +96,7 @@ pub fn poke(line: &[u8], at: usize, words: &mut [u64]) -> Parsed
 }
 
 // fill MEMORY I N W W
-pub fn fill(line: &[u8], at: usize) -> Command
+pub(crate) fn fill(line: &[u8], at: usize) -> Command
     ensures { λ r. ⌜ r ≡ fillForm (tokensFrom (now (line .entry)) at) ⌝ }
 {
     let memory = memory_at(line, at);
@@ -154,7 +154,7 @@ fn is_indexed(field: Field) -> bool
 }
 
 // head FIELD N, head FIELD K N
-pub fn head(line: &[u8], at: usize) -> Command
+pub(crate) fn head(line: &[u8], at: usize) -> Command
     ensures { λ r. ⌜ r ≡ headForm (tokensFrom (now (line .entry)) at) ⌝ }
 {
     let field = field_at(line, at);
@@ -188,7 +188,7 @@ fn count_at(line: &[u8], at: usize) -> Count
 }
 
 // tally COUNT N
-pub fn tally(line: &[u8], at: usize) -> Command
+pub(crate) fn tally(line: &[u8], at: usize) -> Command
     ensures { λ r. ⌜ r ≡ tallyForm (tokensFrom (now (line .entry)) at) ⌝ }
 {
     let count = count_at(line, at);

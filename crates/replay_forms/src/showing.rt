@@ -25,7 +25,7 @@ fn part(line: &[u8], at: usize, memory: Memory) -> Command
 }
 
 // show WHAT, show MEMORY I N
-pub fn show(line: &[u8], at: usize) -> Command
+pub(crate) fn show(line: &[u8], at: usize) -> Command
     ensures { λ r. ⌜ r ≡ showForm (tokensFrom (now (line .entry)) at) ⌝ }
 {
     let next = behind(line, at);

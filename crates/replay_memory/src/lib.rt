@@ -1,4 +1,4 @@
 // What a script holds (docs/REPLAY.md), and the lines that set it, on memory that the caller lends.
-pub mod memory;
+mod memory;
 pub mod setting;
 pub mod state;

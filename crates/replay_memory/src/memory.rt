@@ -9,7 +9,7 @@ ghost use Rattle.image.specs.Image.{wordBytes};
 ghost use Rattle.replay_memory.specs.Placing.{fitsB, putAt, lowBytes, series};
 
 // Sets every byte to zero.
-pub fn clear_bytes(bytes: &mut [u8])
+pub(crate) fn clear_bytes(bytes: &mut [u8])
     ensures { λ r. ⌜ now (bytes .exit) ≡ replicate (length (now (bytes .entry))) 0 ⌝ }
 {
     let mut i = 0;
@@ -20,7 +20,7 @@ pub fn clear_bytes(bytes: &mut [u8])
 }
 
 // Puts words from an index on.
-pub fn put_words(list: &[u64], memory: &mut [u64], at: u64) -> bool
+pub(crate) fn put_words(list: &[u64], memory: &mut [u64], at: u64) -> bool
     ensures { λ r. ⌜ (r ≡ fitsB (now (memory .entry)) at (length (now (list .entry)))) × (now (memory .exit) ≡ putAt (now (memory .entry)) at (now (list .entry))) ⌝ }
 {
     let i = at as usize;
@@ -47,7 +47,7 @@ fn copy_bytes(list: &[u64], target: &mut [u8])
 }
 
 // Puts bytes from an index on.
-pub fn put_bytes(list: &[u64], memory: &mut [u8], at: u64) -> bool
+pub(crate) fn put_bytes(list: &[u64], memory: &mut [u8], at: u64) -> bool
     ensures { λ r. ⌜ (r ≡ fitsB (now (memory .entry)) at (length (now (list .entry)))) × (now (memory .exit) ≡ putAt (now (memory .entry)) at (lowBytes (now (list .entry)))) ⌝ }
 {
     let i = at as usize;
@@ -75,7 +75,7 @@ fn fill_series(target: &mut [u64], first: u64, rise: u64)
 }
 
 // Puts such words, so many, from an index on.
-pub fn fill_words(memory: &mut [u64], at: u64, count: u64, first: u64, rise: u64) -> bool
+pub(crate) fn fill_words(memory: &mut [u64], at: u64, count: u64, first: u64, rise: u64) -> bool
     ensures { λ r. ⌜ (r ≡ fitsB (now (memory .entry)) at count) × (now (memory .exit) ≡ putAt (now (memory .entry)) at (series count first rise)) ⌝ }
 {
     let i = at as usize;
@@ -121,7 +121,7 @@ fn fill_byte_series(target: &mut [u8], count: usize, first: u64, rise: u64)
 }
 
 // Puts such words from a byte on.
-pub fn fill_bytes(memory: &mut [u8], at: u64, count: u64, first: u64, rise: u64) -> bool
+pub(crate) fn fill_bytes(memory: &mut [u8], at: u64, count: u64, first: u64, rise: u64) -> bool
     ensures { λ r. ⌜ (r ≡ fitsB (now (memory .entry)) at (8 * count)) × (now (memory .exit) ≡ putAt (now (memory .entry)) at (wordBytes (series count first rise))) ⌝ }
 {
     let i = at as usize;

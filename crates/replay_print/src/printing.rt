@@ -67,7 +67,7 @@ fn put_byte(byte: u8, out: &mut [u8], at: usize) -> usize
 }
 
 // Each byte, after a space.
-pub fn put_bytes(bytes: &[u8], out: &mut [u8], at: usize) -> usize
+pub(crate) fn put_bytes(bytes: &[u8], out: &mut [u8], at: usize) -> usize
     requires { ⌜ at + 3 * length (now bytes) ≤ length (now out) ⌝ }
     ensures { λ r. ⌜ r ≡ at + 3 * length (now (bytes .entry)) ⌝ }
 {

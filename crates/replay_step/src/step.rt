@@ -30,9 +30,6 @@ ghost use lib.ListN.{length};
 ghost use Rattle.replay_memory.specs.Bounds.{Lent, Room, Working};
 ghost use Rattle.replay_forms.specs.Lists.{Few};
 
-// The most bytes that a line of a script prints.
-pub const STEP_BYTES: usize = 2200;
-
 // A line that is no call.
 pub fn no_call(number: u64, out: &mut [u8], at: usize) -> usize
     requires { ⌜ at + 2200 ≤ length (now out) ⌝ }

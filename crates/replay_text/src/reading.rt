@@ -84,21 +84,21 @@ fn read_number(token: &[u8], base: u64, least: usize, most: usize) -> Number
 }
 
 // A decimal number of 1 to 20 digits.
-pub fn read_decimal(token: &[u8]) -> Number
+pub(crate) fn read_decimal(token: &[u8]) -> Number
     ensures { λ r. ⌜ r ≡ decimalIn (now (token .entry)) ⌝ }
 {
     read_number(token, 10, 1, 20)
 }
 
 // A word of 16 hexadecimal digits.
-pub fn read_word(token: &[u8]) -> Number
+pub(crate) fn read_word(token: &[u8]) -> Number
     ensures { λ r. ⌜ r ≡ wordIn (now (token .entry)) ⌝ }
 {
     read_number(token, 16, 16, 16)
 }
 
 // A byte of 2 hexadecimal digits.
-pub fn read_byte(token: &[u8]) -> Number
+pub(crate) fn read_byte(token: &[u8]) -> Number
     ensures { λ r. ⌜ r ≡ byteIn (now (token .entry)) ⌝ }
 {
     read_number(token, 16, 2, 2)

@@ -39,7 +39,7 @@ fn bytes_before(text: &[u8], code: u8) -> usize
 }
 
 // The next token from a place on.
-pub fn next_token(line: &[u8], at: usize) -> Span
+pub(crate) fn next_token(line: &[u8], at: usize) -> Span
     ensures { λ r. ⌜ Token (now (line .entry)) at r ⌝ }
 {
     let start = token_start(line, at);
