@@ -14,8 +14,8 @@ use Rattle.changes.proofs.ListTest.{list-facts}
 use Rattle.grounds.specs.declared.Refusal.the-variants.{BadList, BadOrder, OfferNotRead, OutputShort}
 use Rattle.grounds.specs.declared.Refusal.{Refusal}
 use Rattle.grounds.specs.Numbers.{numberOf, accepted, refused}
-use Rattle.batch.specs.declared.check.Check.{Check}
-use Rattle.batch.specs.declared.check.Check.the-variants.{Passed, Stops}
+use Rattle.batch.specs.declared.checking.Check.{Check}
+use Rattle.batch.specs.declared.checking.Check.the-variants.{Passed, Stops}
 use Rattle.orders.specs.Orders.{allowedB}
 use Rattle.batch.specs.Tests.{allB, readB}
 use Rattle.batch.specs.Running.{Ran, done, fails, priced}

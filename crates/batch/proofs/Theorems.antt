@@ -15,8 +15,8 @@ use Rattle.changes.proofs.Find.{find-empty}
 use Rattle.changes.proofs.Laws.{apply-zero}
 use Rattle.changes.proofs.ReadWords.{prices-map, prices-shown}
 use Rattle.changes.proofs.Single.{changes-none}
-use Rattle.batch.specs.declared.check.Check.{Check}
-use Rattle.batch.specs.declared.check.Check.the-variants.{Passed, Stops}
+use Rattle.batch.specs.declared.checking.Check.{Check}
+use Rattle.batch.specs.declared.checking.Check.the-variants.{Passed, Stops}
 use Rattle.batch.specs.Tests.{allB, readB, foundB}
 use Rattle.batch.specs.Running.{Ran, done, fails, priced}
 use Rattle.batch.specs.OnMaps.{difference, runOnMap, onDone, Agrees, namedB}

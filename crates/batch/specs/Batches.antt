@@ -8,8 +8,8 @@ use lib.ListN.{length, drop}
 use Rattle.changes.specs.Lists.{listB}
 use Rattle.grounds.specs.declared.Refusal.the-variants.{BadList, BadOrder, OfferNotRead, OutputShort}
 use Rattle.grounds.specs.Numbers.{numberOf, Answer, accepted, refused}
-use Rattle.batch.specs.declared.check.Check.{Check}
-use Rattle.batch.specs.declared.check.Check.the-variants.{Passed, Stops}
+use Rattle.batch.specs.declared.checking.Check.{Check}
+use Rattle.batch.specs.declared.checking.Check.the-variants.{Passed, Stops}
 use Rattle.orders.specs.Orders.{allowedB}
 use Rattle.batch.specs.Tests.{readB, allB}
 use Rattle.batch.specs.Running.{Ran, done, fails, priced}

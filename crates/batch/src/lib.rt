@@ -1,5 +1,5 @@
 // Pricing a batch of orders on a read set (document 01, "Batches").
-pub mod check;
+pub mod checking;
 mod places;
 pub mod pricing;
 mod running;

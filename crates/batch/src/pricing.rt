@@ -1,7 +1,7 @@
 // Pricing a batch: the refusals, the run, and the output.
-use crate::check::BATCH_ORDERS;
-use crate::check::Check;
-use crate::check::check_batch;
+use crate::checking::BATCH_ORDERS;
+use crate::checking::Check;
+use crate::checking::check_batch;
 use crate::running::gather;
 use crate::running::run;
 use grounds::Refusal;

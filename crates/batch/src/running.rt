@@ -1,6 +1,6 @@
 // The run of a batch's orders, in turn, over a copy of the read set. Its offers never change, so an order's place in it stays the one
 // that was found; a mark at each place says whether an order named its offer.
-use crate::check::Check;
+use crate::checking::Check;
 use orders::effects::Effect;
 use orders::effects::effect_of;
 ghost use mathlib.Core.Path.{_≡_};

@@ -7,7 +7,7 @@ use layout::head::SLOTS;
 use layout::head::Stored;
 use layout::sound::is_sound;
 use layout::sound::lengths_fit;
-use lists::reads::apply_to_reads;
+use lists::read_sets::apply_to_reads;
 use lists::rules::is_list;
 use slots::open_slot;
 ghost use mathlib.Core.Path.{_≡_};

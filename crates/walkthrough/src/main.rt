@@ -3,7 +3,7 @@
 use composing::compose;
 use entry::Entry;
 use libc::STDOUT_FILENO;
-use lists::reads::apply_to_reads;
+use lists::read_sets::apply_to_reads;
 use lists::rules::is_list;
 
 // Writes a word in hexadecimal, its offer, and its price or `none`, as one line.

@@ -1,4 +1,4 @@
--- `check::all_allowed` meets its contract. The loop's invariant: what is left passes exactly when all orders do.
+-- `checking::all_allowed` meets its contract. The loop's invariant: what is left passes exactly when all orders do.
 -- Assumes nothing.
 use mathlib.Core.Path.{sym, _∙_}
 use Prim.Native.Nat.{_-_}
@@ -8,8 +8,8 @@ use native.Mathlib.Omega.{arith}
 use lib.ListN.{length}
 use Rattle.orders.specs.Orders.{allowedB}
 use Rattle.batch.proofs.AllOrders.{Left, left-all, left-end, left-stop, left-next}
-use Rattle.batch.proofs.check.all_allowed.Statement.{statement}
-use Rattle.batch.proofs.check.all_allowed.Tie as tie
+use Rattle.batch.proofs.checking.all_allowed.Statement.{statement}
+use Rattle.batch.proofs.checking.all_allowed.Tie as tie
 
 abbrev Inv-loop : tie.InvT-loop
 Inv-loop orders k₀ k = Left allowedB orders k

@@ -1,4 +1,4 @@
--- `reads::apply_to_reads` meets its contract: the words changed so far and the change of those left make the change of all.
+-- `read_sets::apply_to_reads` meets its contract: the words changed so far and the change of those left make the change of all.
 -- Assumes nothing.
 use mathlib.Core.Path.{_∙_, sym, ap}
 use Prim.Native.Nat.{_+_, _-_, _≤_}
@@ -11,8 +11,8 @@ use Rattle.changes.proofs.Reading.{over-at, over-end, over-length}
 use Rattle.words.proofs.Writing.{Writing, start, stored, filled, word-behind}
 use borrow.Author.Needs.{needs}
 use native.Mathlib.Omega.{arith}
-use Rattle.lists.proofs.reads.apply_to_reads.Statement.{statement}
-use Rattle.lists.proofs.reads.apply_to_reads.Tie as tie
+use Rattle.lists.proofs.read_sets.apply_to_reads.Statement.{statement}
+use Rattle.lists.proofs.read_sets.apply_to_reads.Tie as tie
 
 abbrev Inv-loop : tie.InvT-loop
 Inv-loop reads₀ changes i₀ reads i = (i ≤ length reads₀) × Writing reads reads₀ i (over (drop i reads₀) changes) (over reads₀ changes)

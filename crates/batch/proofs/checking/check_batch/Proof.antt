@@ -1,4 +1,4 @@
--- `check::check_batch` meets its contract: each return is the first ground that holds.
+-- `checking::check_batch` meets its contract: each return is the first ground that holds.
 -- Assumes nothing.
 use mathlib.Core.Path.{sym, _∙_}
 use borrow.Author.Tests.{not-true, not-false}
@@ -6,8 +6,8 @@ use native.Mathlib.Omega.{arith}
 use Rattle.changes.proofs.ListTest.{list-facts}
 use Rattle.batch.proofs.BatchChecks.{stop-list, stop-many, stop-order, stop-read, passes, not-passed}
 use borrow.Author.Needs.{needs}
-use Rattle.batch.proofs.check.check_batch.Statement.{statement}
-use Rattle.batch.proofs.check.check_batch.Tie as tie
+use Rattle.batch.proofs.checking.check_batch.Statement.{statement}
+use Rattle.batch.proofs.checking.check_batch.Tie as tie
 
 is-list-requires : tie.Need-is-list-requires
 is-list-requires c κs = search needs

@@ -1,11 +1,11 @@
--- `reads::changed` meets its contract.
+-- `read_sets::changed` meets its contract.
 -- Assumes nothing.
 use mathlib.Core.Path.{_∙_, sym, ap}
 use Rattle.changes.specs.Calculus.{find}
 use Rattle.changes.specs.ReadSets.{foundOr}
 use borrow.Author.Needs.{needs}
-use Rattle.lists.proofs.reads.changed.Statement.{statement}
-use Rattle.lists.proofs.reads.changed.Tie as tie
+use Rattle.lists.proofs.read_sets.changed.Statement.{statement}
+use Rattle.lists.proofs.read_sets.changed.Tie as tie
 
 offer-of-requires : tie.Need-offer-of-requires
 offer-of-requires c κs = search needs

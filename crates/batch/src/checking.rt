@@ -9,7 +9,7 @@ ghost use lib.ListN.{length};
 ghost use Rattle.orders.specs.Orders.{allowedB};
 ghost use Rattle.batch.specs.Tests.{allB};
 ghost use Rattle.batch.specs.Batches.{checked};
-ghost use Rattle.batch.specs.declared.check.Check.the-variants.{Passed};
+ghost use Rattle.batch.specs.declared.checking.Check.the-variants.{Passed};
 ghost use Rattle.batch.specs.Working.{Placed};
 
 // The most orders of a batch.
