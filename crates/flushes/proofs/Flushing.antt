@@ -1,4 +1,4 @@
--- What a flush knows of its memory when it is planned and when it is accepted, and what it leaves.
+-- What a flush knows of its memory when the map is worked out and when it is accepted, and what it leaves.
 -- Assumes nothing.
 use mathlib.Core.Path.{_≡_, refl, sym, ap, _∙_}
 use mathlib.Core.Bool.{true, false}
@@ -6,10 +6,12 @@ use mathlib.Core.List.{List, [], _∷_, _++_, append-assoc}
 use Prim.Native.Nat.{ℕ, _+_, _-_, _≤_, _<_, max}
 use native.Mathlib.Omega.{arith}
 use borrow.Author.Tests.{ltb-false, lt-ltb, le-ltb, not-false}
-use lib.ListN.{length, take, drop, replicate, length-drop, replicate-append-replicate}
-use lib.Seq.{length-take-le, drop-drop}
-use Rattle.changes.specs.Calculus.{apply}
-use Rattle.table.specs.InPlace.{Planned}
+use lib.ListN.{length, take, drop, replicate, length-drop, replicate-append-replicate, take-append-drop}
+use lib.Seq.{drop-drop}
+use Rattle.changes.specs.Calculus.{composeAll, apply}
+use Rattle.changes.specs.Runs.{runOf}
+use Rattle.changes.proofs.Laws.{apply-zero}
+use Rattle.changes.proofs.Running.{run-none}
 use Rattle.words.proofs.Parts.{zeros-from}
 use Rattle.grounds.specs.declared.Outcome.{Outcome}
 use Rattle.grounds.specs.declared.Outcome.the-variants.{Done, Refused}
@@ -19,19 +21,18 @@ use Rattle.grounds.specs.First.{Ground, met, first}
 use Rattle.grounds.specs.Numbers.{Gives}
 use Rattle.grounds.proofs.Firsts.{done-not, first-met, first-not, none-met, gives, if-refused, if-done}
 use Rattle.layout.specs.declared.head.Head.{Head}
-use Rattle.views.specs.States.{mapHere}
 use Rattle.layout.specs.Tests.{zerosB}
+use Rattle.layout.proofs.HeadTests.{InRange, lengths-facts}
+use Rattle.layout.proofs.WordTests.{zeros-fact}
+use Rattle.views.specs.States.{stepIndex, mapHere}
 use Rattle.views.specs.Trim.{Trimmable, trimmedHead, trimmedJournal}
 use Rattle.views.specs.View.{padded, Shaped}
-use Rattle.layout.proofs.HeadTests.{InRange, lengths-facts}
 use Rattle.views.proofs.SlotLists.{least-up-to, least-later}
-use Rattle.views.proofs.SoundFacts.{shaped}
+use Rattle.views.proofs.SoundFacts.{shaped, used-long}
 use Rattle.views.proofs.Sounds.{Sound, sound-facts, sound-marked}
-use Rattle.views.proofs.States.{since-rises}
-use Rattle.layout.proofs.WordTests.{zeros-fact}
-use Rattle.flush_plans.specs.Plan.{earlyCheck, FlushPlan}
-use Rattle.flush_plans.proofs.Planning.{EarlyOk, early-ok}
-use Rattle.flushes.specs.Flush.{flushCheck, flushHead, flushTable, flushJournal, flushedHead}
+use Rattle.state_maps.specs.Held.{HeldState}
+use Rattle.state_maps.proofs.Working.{StateFacts}
+use Rattle.flushes.specs.Flush.{earlyCheck, flushCheck, tableAt, flushHead, flushTable, flushJournal, flushedHead}
 
 -- the first ground among some, with others behind them
 refused-before : (gs hs : List Ground) (r : Refusal) → first gs ≡ Refused r → first (gs ++ hs) ≡ Refused r
@@ -60,12 +61,27 @@ module _ (table journal : List ℕ) (head : Head) (state : ℕ) where
 pub record FlushStart (table journal : List ℕ) (head : Head) (state : ℕ) : Type 0 where
   pub shape : Shaped head
   pub passed : earlyCheck table journal head state ≡ Done
-  pub ok : EarlyOk table journal head state
+  pub held : HeldState table journal head state
 
 module _ (table journal : List ℕ) (head : Head) (state : ℕ) where
+  held-state : earlyCheck table journal head state ≡ Done → HeldState table journal head state
+  held-state e =
+      let a = done-not _ _ _ e in
+      let b = done-not _ _ _ (a .1) in
+      let c = done-not _ _ _ (b .1) in
+      let d = done-not _ _ _ (c .1) in
+      record { lengths = not-false _ (a .0); sound = not-false _ (b .0); low = ltb-false state (head .checkpoint) (c .0); high = ltb-false (head .tip) state (d .0) }
+
   pub flush-start : {r : Outcome} → r ≡ earlyCheck table journal head state → r ≡ Done → length (head .held) ≡ 8 → length (head .issued) ≡ 8 → length (head .ends) ≡ 64
       → FlushStart table journal head state
-  flush-start e d a b c = record { shape = shaped head a b c; passed = sym e ∙ d; ok = early-ok table journal head state (sym e ∙ d) }
+  flush-start e d a b c = record { shape = shaped head a b c; passed = sym e ∙ d; held = held-state (sym e ∙ d) }
+
+  -- the map at the state has no room in the table, or has it
+  pub table-stays : length table < length (mapHere table journal head state) → table ≡ tableAt table journal head state
+  table-stays h = rw (lt-ltb (length table) (length (mapHere table journal head state)) h)
+
+  pub table-moves : length (mapHere table journal head state) ≤ length table → tableAt table journal head state ≡ padded (length table) (mapHere table journal head state)
+  table-moves h = rw (le-ltb (length table) (length (mapHere table journal head state)) h)
 
   -- what a flush gives back: where it is turned away all as it came, where it is accepted what it made
   pub flush-refused : {r : Outcome} {why : Refusal} → r ≡ earlyCheck table journal head state → r ≡ Refused why
@@ -74,19 +90,21 @@ module _ (table journal : List ℕ) (head : Head) (state : ℕ) where
       let f = early-refused table journal head state why (sym e ∙ d) in
       (gives (d ∙ sym f), if-refused f _ _, if-refused f _ _, if-refused f _ _)
 
-  pub flush-full : FlushStart table journal head state → length table < length (mapHere table journal head state)
-      → Gives (Refused TableFull) (flushCheck table journal head state) × (head ≡ flushHead table journal head state) × (table ≡ flushTable table journal head state) × (journal ≡ flushJournal table journal head state)
-  flush-full k h =
-      let e = full-refused table journal head state (k .passed) h in
-      (gives (sym e), if-refused e _ _, if-refused e _ _, if-refused e _ _)
+  module _ (k : FlushStart table journal head state) {size : ℕ} {made : List ℕ} (es : size ≡ length (mapHere table journal head state)) (em : made ≡ tableAt table journal head state) where
+    pub flush-full : length table < size
+        → Gives (Refused TableFull) (flushCheck table journal head state) × (head ≡ flushHead table journal head state) × (made ≡ flushTable table journal head state) × (journal ≡ flushJournal table journal head state)
+    flush-full h =
+        let full : length table < length (mapHere table journal head state) = omega arith in
+        let e = full-refused table journal head state (k .passed) full in
+        (gives (sym e), if-refused e _ _, em ∙ sym (table-stays full) ∙ if-refused e _ _, if-refused e _ _)
 
-  pub flush-done : FlushStart table journal head state → length (mapHere table journal head state) ≤ length table → {next end : Head} {made left : List ℕ}
-      → next ≡ flushedHead head (length (mapHere table journal head state)) state → end ≡ trimmedHead next
-      → made ≡ padded (length table) (mapHere table journal head state) → left ≡ trimmedJournal next journal
-      → Gives Done (flushCheck table journal head state) × (end ≡ flushHead table journal head state) × (made ≡ flushTable table journal head state) × (left ≡ flushJournal table journal head state)
-  flush-done k h n t m l =
-      let e = room-done table journal head state (k .passed) h in
-      (gives (sym e), if-done e _ _ (t ∙ ap trimmedHead n), if-done e _ _ m, if-done e _ _ (l ∙ ap (λ (x : Head). trimmedJournal x journal) n))
+    pub flush-done : size ≤ length table → {next end : Head} {left : List ℕ} → next ≡ flushedHead head size state → end ≡ trimmedHead next → left ≡ trimmedJournal next journal
+        → Gives Done (flushCheck table journal head state) × (end ≡ flushHead table journal head state) × (made ≡ flushTable table journal head state) × (left ≡ flushJournal table journal head state)
+    flush-done h n t l =
+        let fits : length (mapHere table journal head state) ≤ length table = omega arith in
+        let e = room-done table journal head state (k .passed) fits in
+        let is = n ∙ ap (λ (u : ℕ). flushedHead head u state) es in
+        (gives (sym e), if-done e _ _ (t ∙ ap trimmedHead is), if-done e _ _ (em ∙ table-moves fits), if-done e _ _ (l ∙ ap (λ (x : Head). trimmedJournal x journal) is))
 
 -- a flush
 pub record FlushOk (table journal : List ℕ) (head : Head) (state : ℕ) : Type 0 where
@@ -131,45 +149,48 @@ zeros-join l used m n e h z =
     ∙ append-assoc m (replicate (used - n) 0) (replicate (length l - max used n) 0)
     ∙ ap (λ (r : List ℕ). m ++ r) (replicate-append-replicate (used - n) (length l - max used n) 0 ∙ ap (λ (k : ℕ). replicate k 0) zeros)
 
--- a plan
-module _ {table journal : List ℕ} {head : Head} {state : ℕ} {changes aside : List ℕ} {n a size : ℕ} (f : FlushPlan table journal head state changes aside n a size) where
-  pub changes-in : n ≡ length (take n changes)
-  changes-in = sym (length-take-le n changes (f .count-in))
+module _ {table journal : List ℕ} {head : Head} {state : ℕ} (ok : StateFacts table journal head state) where
+  -- the map at the state, written to the table
+  module _ {size : ℕ} (map : List ℕ) (es : size ≡ length (mapHere table journal head state)) (em : take size map ≡ mapHere table journal head state) where
+    pub map-long : size ≡ length (take size map)
+    map-long = es ∙ ap length (sym em)
 
-  pub new-in : a ≡ length (take a aside)
-  new-in = sym (length-take-le a aside (f .new-in))
-
-  pub plan-full : length table < size → length table < length (mapHere table journal head state)
-  plan-full h = omega (arith, f .size-is)
-
-  pub plan-fits : size ≤ length table → length (mapHere table journal head state) ≤ length table
-  plan-fits h = omega (arith, f .size-is)
-
-  pub head-is : (used : ℕ) (next : Head) → used ≡ length (apply (take (head .used) table) (take n changes)) → next ≡ flushedHead head used state
-      → next ≡ flushedHead head (length (mapHere table journal head state)) state
-  head-is used next eu en = en ∙ ap (λ (u : ℕ). flushedHead head u state) (eu ∙ ap (λ (d : List ℕ). length (apply (take (head .used) table) d)) (f .changes-are))
-
-module _ {table journal : List ℕ} {head : Head} {state : ℕ} (p : Shaped head) (ok : EarlyOk table journal head state) where
-  -- the plan carried out
-  module _ {changes aside : List ℕ} {n a size : ℕ} (f : FlushPlan table journal head state changes aside n a size) (h : size ≤ length table) where
-    pub can-apply : Planned table (head .used) (take n changes) (take a aside)
-    can-apply =
-        record {
-          inside = ok .sound .used-in;
-          map = ok .sound .map;
-          rises = rw (f .changes-are) (since-rises table journal head (ok .sound) state (ok .low) (ok .high) p);
-          aside = rw (f .changes-are) (f .new-are);
-          fits = rw (f .changes-are) (plan-fits f h);
-        }
-
-    pub table-is : (used : ℕ) (last : List ℕ) → used ≡ length (apply (take (head .used) table) (take n changes))
-        → last ≡ apply (take (head .used) table) (take n changes) ++ replicate (head .used - used) 0 ++ drop (max (head .used) used) table
-        → last ≡ padded (length table) (mapHere table journal head state)
-    table-is used last eu el =
+    pub table-is : size ≤ length table → {last : List ℕ} → last ≡ take size map ++ replicate (head .used - length (take size map)) 0 ++ drop (max (head .used) (length (take size map))) table
+        → last ≡ tableAt table journal head state
+    table-is h el =
+        let fits : length (mapHere table journal head state) ≤ length table = omega arith in
         el
-        ∙ zeros-join table (head .used) (apply (take (head .used) table) (take n changes)) used eu (ok .sound .used-in, omega (arith, eu, can-apply .fits)) (ok .sound .table-zeros)
-        ∙ ap (λ (d : List ℕ). padded (length table) (apply (take (head .used) table) d)) (f .changes-are)
+        ∙ ap (λ (m : List ℕ). m ++ replicate (head .used - length m) 0 ++ drop (max (head .used) (length m)) table) em
+        ∙ zeros-join table (head .used) (mapHere table journal head state) (length (mapHere table journal head state)) refl (ok .sound .used-in, fits) (ok .sound .table-zeros)
+        ∙ sym (table-moves table journal head state fits)
 
+  -- at the checkpoint the table has that map already
+  module _ (e : state ≡ head .checkpoint) where
+    no-steps : apply (take (head .used) table) (composeAll []) ≡ take (head .used) table
+    unfolding composeAll
+    no-steps = apply-zero (take (head .used) table) (ok .sound .map)
+
+    map-here : mapHere table journal head state ≡ take (head .used) table
+    map-here =
+        let none : stepIndex head state - stepIndex head (head .checkpoint) ≡ 0 = omega arith in
+        ap (λ (n : ℕ). apply (take (head .used) table) (composeAll (runOf journal (head .ends) (stepIndex head (head .checkpoint)) n))) none
+        ∙ ap (λ (ds : List (List ℕ)). apply (take (head .used) table) (composeAll ds)) (run-none journal (head .ends) (stepIndex head (head .checkpoint)))
+        ∙ no-steps
+
+    pub size-here : head .used ≡ length (mapHere table journal head state)
+    size-here = sym (ap length map-here ∙ used-long (ok .sound))
+
+    pub table-here : table ≡ tableAt table journal head state
+    table-here =
+        let fits : length (mapHere table journal head state) ≤ length table = omega (arith, size-here, ok .sound .used-in) in
+        let zeros : replicate (length table - head .used) 0 ≡ drop (head .used) table = sym (zeros-on table (head .used) (head .used) (omega arith) (ok .sound .table-zeros)) in
+        sym (take-append-drop (head .used) table)
+        ∙ ap (λ (l : List ℕ). take (head .used) table ++ l) (sym zeros)
+        ∙ ap (λ (n : ℕ). take (head .used) table ++ replicate (length table - n) 0) (sym (used-long (ok .sound)))
+        ∙ ap (padded (length table)) (sym map-here)
+        ∙ sym (table-moves table journal head state fits)
+
+module _ {table journal : List ℕ} {head : Head} {state : ℕ} (p : Shaped head) (ok : StateFacts table journal head state) where
   -- the floor of the flushed head does not fall, and its steps can be trimmed
   pub flushed-trimmable : (used : ℕ) → Trimmable journal (flushedHead head used state)
   unfolding flushedHead

@@ -1,7 +1,7 @@
 -- Flush, on memory and head: "Flush to s makes the book the map at s, and s the anchor."
 -- "everything lent and the head keep their values" where a call is turned away.
 -- Assumes nothing.
-use mathlib.Core.Bool.{not}
+use mathlib.Core.Bool.{not, cond}
 use mathlib.Core.List.{List, [], _∷_}
 use Prim.Native.Nat.{ℕ}
 use lib.Dec.{ltb}
@@ -14,6 +14,16 @@ use Rattle.layout.specs.Sound.{lengthsB, soundB}
 use Rattle.views.specs.States.{mapHere}
 use Rattle.views.specs.Trim.{trimmedHead, trimmedJournal}
 use Rattle.views.specs.View.{padded}
+
+-- those of the grounds of a flush that are checked before the map is worked out
+abbrev pub earlyCheck : List ℕ → List ℕ → Head → ℕ → Outcome
+earlyCheck table journal head state =
+    first
+    (met (not (lengthsB (length table) (length journal))) Lengths
+    ∷ met (not (soundB table journal head)) Unsound
+    ∷ met (ltb state (head .checkpoint)) StateRange
+    ∷ met (ltb (head .tip) state) StateRange
+    ∷ [])
 
 -- grounds 1, 2, 11 ("below the anchor or above the tip"), 16 ("The map to be flushed or loaded has more offers than the book has
 -- words"): only the map at the state named counts, not those on the way to it
@@ -38,6 +48,11 @@ flushedHead head used state = record {
   issued = head .issued;
   ends = head .ends;
 }
+
+-- the map at a state in the table, if the table has room for it
+abbrev pub tableAt : List ℕ → List ℕ → Head → ℕ → List ℕ
+tableAt table journal head state =
+    cond (ltb (length table) (length (mapHere table journal head state))) table (padded (length table) (mapHere table journal head state))
 
 -- "makes the book the map at s"
 abbrev pub flushTable : List ℕ → List ℕ → Head → ℕ → List ℕ

@@ -11,6 +11,9 @@ pub const TABLE_WORDS: usize = 8000;
 
 pub const JOURNAL_WORDS: usize = 4096;
 
+// The most words that the map at a state has: those of the table, and one for each word of the journal.
+pub const MAP_WORDS: usize = TABLE_WORDS + JOURNAL_WORDS;
+
 pub struct Head {
     // How many words of the table are used.
     pub used: usize,

@@ -1,8 +1,7 @@
 -- `table::found_at` meets its contract.
 -- Assumes nothing.
-use mathlib.Core.Path.{ap, sym, _∙_}
-use lib.ListN.{getD}
-use Rattle.table.proofs.Runs.{none-past, found-here, other-here}
+use mathlib.Core.Path.{sym}
+use Rattle.table.proofs.Sides.{none-past, found-here, other-here}
 use borrow.Author.Needs.{needs}
 use native.Mathlib.Omega.{arith}
 use Rattle.table.proofs.found_at.Statement.{statement}

@@ -1,0 +1,64 @@
+-- What is known of a state that a store holds, and its map worked out.
+-- Assumes nothing.
+use mathlib.Core.Path.{_≡_, sym, ap, _∙_}
+use mathlib.Core.List.{List, _++_}
+use Prim.Native.Nat.{ℕ, _+_, _≤_}
+use native.Mathlib.Omega.{arith}
+use lib.ListN.{length, take, drop, length-take}
+use lib.Seq.{length-take-le, take-at}
+use Rattle.changes.specs.Calculus.{apply}
+use Rattle.changes.specs.Runs.{runWords}
+use Rattle.changes.proofs.Running.{marked-fewer}
+use Rattle.runs.specs.Composed.{RunRoom, Composed}
+use Rattle.layout.specs.declared.head.Head.{Head}
+use Rattle.layout.proofs.HeadTests.{InRange, lengths-facts}
+use Rattle.views.specs.States.{stepIndex, mapHere}
+use Rattle.views.specs.View.{Shaped}
+use Rattle.views.proofs.SoundFacts.{used-long as used-words}
+use Rattle.views.proofs.Sounds.{Sound, sound-facts, sound-marked}
+use Rattle.state_maps.specs.Held.{HeldState}
+
+-- the same facts of a held state, opened
+pub record StateFacts (table journal : List ℕ) (head : Head) (state : ℕ) : Type 0 where
+  pub range : InRange (length table) (length journal)
+  pub sound : Sound table journal head
+  pub low : head .checkpoint ≤ state
+  pub high : state ≤ head .tip
+
+pub state-facts : {table journal : List ℕ} {head : Head} {state : ℕ} → HeldState table journal head state → StateFacts table journal head state
+state-facts {table} {journal} {head} {state} h =
+    record { range = lengths-facts (length table) (length journal) (h .lengths); sound = sound-facts table journal head (h .sound); low = h .low; high = h .high }
+
+module _ {table journal : List ℕ} {head : Head} {state : ℕ} (p : Shaped head) (ok : StateFacts table journal head state) where
+  -- the used words of the table
+  pub used-long : head .used ≡ length (take (head .used) table)
+  used-long = sym (used-words (ok .sound))
+
+  -- the buffers have room for the steps
+  pub run-room : (out spare : ℕ) → out ≡ 4096 → spare ≡ 12096 → RunRoom journal (head .ends) (stepIndex head (head .checkpoint)) (stepIndex head state) out spare
+  run-room out spare a b =
+      let m = marked-fewer (sound-marked table journal head p (ok .sound)) (stepIndex head state) (omega (arith, ok .high)) in
+      let few : runWords (head .ends) (stepIndex head (head .checkpoint)) (stepIndex head state) ≤ 4096 = omega (arith, m .inside, ok .range .journal-most) in
+      record { marked = m; order = omega (arith, ok .low); out-room = omega arith; spare-room = omega arith }
+
+  -- the steps composed into a buffer
+  module _ {changes₀ spare₀ changes spare : List ℕ} {n : ℕ} (c : Composed journal (head .ends) (stepIndex head (head .checkpoint)) (stepIndex head state) changes₀ spare₀ changes spare n) where
+    pub count-in : n ≤ length changes
+    count-in = omega (arith, ap length (c .front), c .size, length-take n changes)
+
+    pub changes-long : n ≡ length (take n changes)
+    changes-long = sym (length-take-le n changes count-in)
+
+    pub map-room : length changes ≡ 4096 → length spare ≡ 12096 → length (take (head .used) table) + length (take n changes) ≤ length spare
+    map-room l m = omega (arith, used-long, changes-long, count-in, ok .sound .used-in, ok .range .table-most)
+
+    -- and the map after them
+    module _ (r : ℕ) (map : List ℕ) (er : r ≡ length (apply (take (head .used) table) (take n changes))) (em : map ≡ apply (take (head .used) table) (take n changes) ++ drop r spare) where
+      pub size-is : r ≡ length (mapHere table journal head state)
+      size-is = er ∙ ap (λ (d : List ℕ). length (apply (take (head .used) table) d)) (c .front)
+
+      pub map-is : take r map ≡ mapHere table journal head state
+      map-is =
+          ap (take r) em
+          ∙ take-at (apply (take (head .used) table) (take n changes)) (drop r spare) r (sym er)
+          ∙ ap (apply (take (head .used) table)) (c .front)
