@@ -2,7 +2,7 @@
 -- Assumes nothing.
 use mathlib.Core.Path.{_≡_, _∙_, refl, sym, ap, ap₂}
 use mathlib.Core.Bool.{Bool, true, false, _&&_, _||_}
-use Prim.Native.Nat.{ℕ, _+_, _-_, _*_, _/_, _%_, _^_, _≤_, _<_}
+use Prim.Native.Nat.{ℕ, _+_, _-_, _*_, _%_, _^_, _<_}
 use native.Mathlib.Decide.{ℕ-discrete, decLt}
 use native.Mathlib.Omega.{arith}
 use borrow.Author.Tests.{eq-eqb, ne-eqb, eqb-true, lt-ltb, le-ltb}
@@ -58,7 +58,7 @@ kind-mark w h = go (ℕ-discrete (kindOf w) 1)
         let bit : topOf (keyOf w) ≡ 0 = omega arith in
         bit ∙ rw (ne-eqb (kindOf w) 1 k)
 
--- a word of kind 1 or without a price is valid
+-- a word of kind 1 or with a price field of 0 is valid
 pub valid-parts : (w : ℕ) → w < 2 ^ 64 → isPut w || eqb (priceOf w) 0 ≡ validB w
 valid-parts w h = go (ℕ-discrete (kindOf w) 1)
   where

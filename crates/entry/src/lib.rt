@@ -92,17 +92,15 @@ impl Entry {
         (word >> Entry::OFFER_AT) as u32
     }
 
-    // What follows are marks: numbers of 32 bits whose top bit says whether a test passes. A scan joins them by `&` and looks at the
-    // bit of many at once, so that no word of it branches; of numbers of 32 bits the compiler takes four at a time.
-
-    // The bit of a mark.
+    // The bit of a mark. A mark is a number of 32 bits whose top bit says whether a test passes: a scan joins marks by `&` and looks at
+    // the bit of many at once, so that no word of it branches, and the compiler takes four of such numbers at a time.
     pub fn mark_bit(mark: u32) -> u32
         ensures { λ r. ⌜ r ≡ topOf mark ⌝ }
     {
         mark >> Entry::OFFER_BITS
     }
 
-    // The mark of a word without a price. It is a choice between two numbers because the compiler makes a comparison of lanes of that.
+    // The mark of a word whose price field is 0: a choice between two numbers, which the compiler makes for several words at a time.
     fn no_price_mark(word: u64) -> u32
         ensures { λ r. ⌜ topOf r ≡ markOf (eqb (priceOf word) 0) ⌝ }
     {
@@ -112,7 +110,7 @@ impl Entry {
         0
     }
 
-    // The mark of a valid word: of kind 1, or without a price.
+    // The mark of a valid word: of kind 1, or with a price field of 0.
     pub fn valid_mark(word: u64) -> u32
         ensures { λ r. ⌜ topOf r ≡ markOf (validB word) ⌝ }
     {

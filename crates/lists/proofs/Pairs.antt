@@ -89,7 +89,11 @@ module _ {passes : ℕ → Bool} {P : ℕ → Type 0} (t : Test passes P) (l : L
   abbrev pub Says : ℕ → ℕ → ℕ → Type 0
   Says a n r = P (getD l a 0) → topOf r ≡ markOf (pairsB passes l a n)
 
-  pub says-one : (a b r : ℕ) → b ≡ a + 1 → (P (getD l a 0) → topOf r ≡ markOf (pairB passes (getD l a 0) (getD l b 0))) → Says a 1 r
+  -- and of a pair
+  abbrev pub Marks : ℕ → ℕ → ℕ → Type 0
+  Marks a b r = P (getD l a 0) → topOf r ≡ markOf (pairB passes (getD l a 0) (getD l b 0))
+
+  pub says-one : (a b r : ℕ) → b ≡ a + 1 → Marks a b r → Says a 1 r
   says-one a b r e f p = f p ∙ ap markOf (pairs-one passes l a b e)
 
   pub says-join : (a n k r s : ℕ) → Says a n r → Says (a + n) k s → Says a (n + k) (bitAnd r s)
@@ -101,3 +105,8 @@ module _ {passes : ℕ → Bool} {P : ℕ → Type 0} (t : Test passes P) (l : L
   pub says-four : (a n q r s u : ℕ) → Says a n q → Says (a + n) n r → Says (a + (n + n)) n s → Says (a + (n + n + n)) n u → Says a (n + n + n + n) (bitAnd (bitAnd (bitAnd q r) s) u)
   says-four a n q r s u w x y z =
       says-join a (n + n + n) n (bitAnd (bitAnd q r) s) u (says-join a (n + n) n (bitAnd q r) s (says-join a n n q r w x) y) z
+
+  -- of four pairs
+  pub marks-four : (a q r s u : ℕ) → Marks a (a + 1) q → Marks (a + 1) (a + 2) r → Marks (a + 2) (a + 3) s → Marks (a + 3) (a + 4) u → Says a 4 (bitAnd (bitAnd (bitAnd q r) s) u)
+  marks-four a q r s u w x y z =
+      says-four a 1 q r s u (says-one a (a + 1) q (omega arith) w) (says-one (a + 1) (a + 2) r (omega arith) x) (says-one (a + 2) (a + 3) s (omega arith) y) (says-one (a + 3) (a + 4) u (omega arith) z)

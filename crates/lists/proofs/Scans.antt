@@ -2,16 +2,15 @@
 -- overlap.
 -- Assumes nothing.
 use mathlib.Core.Path.{_≡_, _∙_, refl, sym, ap, subst}
-use mathlib.Core.Bool.{Bool, true, false, _&&_}
+use mathlib.Core.Bool.{Bool, true, false}
 use mathlib.Core.List.{List}
-use Prim.Native.Nat.{ℕ, _+_, _-_, _^_, _≤_, _<_}
+use Prim.Native.Nat.{ℕ, _+_, _-_, _≤_, _<_}
 use native.Mathlib.Omega.{arith}
 use lib.Bits.{bitAnd}
 use lib.Dec.{eqb}
 use lib.ListN.{length, getD}
 use Rattle.entry.specs.Word.{markOf, topOf}
 use Rattle.entry.proofs.Marks.{mark-set, mark-unset, mark-test}
-use Rattle.changes.proofs.ListTest.{and-both}
 use Rattle.lists.specs.Pairs.{pairB, pairsB}
 use Rattle.lists.proofs.Pairs.{pairs-none, pairs-join, pairs-front, pairs-fail, Test, pairs-last, says-one, says-join}
 
@@ -27,8 +26,8 @@ pub record Passed (passes : ℕ → Bool) (l : List ℕ) (i : ℕ) : Type 0 wher
   pub passed : pairsB passes l 0 i ≡ true
 
 module _ {passes : ℕ → Bool} {P : ℕ → Type 0} (t : Test passes P) (l : List ℕ) where
-  pub none-joined : 0 < length l → Joined passes l (2 ^ 31) 1
-  none-joined h = record { some = omega arith; inside = omega arith; says = sym (ap markOf (pairs-none passes l 0)) }
+  pub none-joined : (good : ℕ) → topOf good ≡ 1 → 0 < length l → Joined passes l good 1
+  none-joined good e h = record { some = omega arith; inside = omega arith; says = e ∙ sym (ap markOf (pairs-none passes l 0)) }
 
   pub joined :
       (good i m : ℕ) → Joined passes l good i → i < length l → P (getD l 0 0)

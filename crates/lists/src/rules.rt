@@ -1,6 +1,6 @@
-// The rules of a list (document 01, "What the unit holds"). A scan joins the marks of its words and looks at them once in a block
-// of many, in straight-line code, so that the compiler takes several words at a time. Blocks may overlap: the last one ends with
-// the words, so that none of them is left over.
+// The rules of a list (document 01, "What the unit holds"). A scan joins the marks of its words and looks at the bit once for a block
+// of many: straight-line code, of which the compiler takes four words at a time. The last block starts early enough to end with the
+// words, so that none is left over; the pairs that it shares with the block before are tested twice.
 use entry::Entry;
 ghost use mathlib.Core.Path.{_≡_};
 ghost use Prim.Native.Nat.{_+_, _-_, _<_, min};

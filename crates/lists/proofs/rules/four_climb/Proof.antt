@@ -1,9 +1,7 @@
 -- `rules::four_climb` meets its contract: the marks of four pairs join to that of their run.
 -- Assumes nothing.
-use Prim.Native.Nat.{_+_}
 use borrow.Author.Needs.{needs}
-use native.Mathlib.Omega.{arith}
-use Rattle.lists.proofs.Pairs.{put, says-one, says-four}
+use Rattle.lists.proofs.Pairs.{put, marks-four}
 use Rattle.lists.proofs.rules.four_climb.Statement.{statement}
 use Rattle.lists.proofs.rules.four_climb.Tie as tie
 
@@ -90,11 +88,8 @@ climbs-requires-4 c κs = search needs
 
 returns : tie.Need-returns
 returns c =
-    says-four put (c .before .before .before .before .before .before .before .before .before .before .before .before .before .args .words .now) (c .before .before .before .before .before .before .before .before .before .before .before .before .before .args .from) 1 (c .before .before .before .before .before .before .before .before .before .climbs .result) (c .before .before .before .before .before .before .climbs2 .result) (c .before .before .before .climbs3 .result) (c .climbs4 .result)
-    (says-one put (c .before .before .before .before .before .before .before .before .before .before .before .before .before .args .words .now) (c .before .before .before .before .before .before .before .before .before .before .before .before .before .args .from) ((c .before .before .before .before .before .before .before .before .before .before .before .before .before .args .from) + 1) (c .before .before .before .before .before .before .before .before .before .climbs .result) (omega arith) (c .before .before .before .before .before .before .before .before .before .climbs .ensures))
-    (says-one put (c .before .before .before .before .before .before .before .before .before .before .before .before .before .args .words .now) ((c .before .before .before .before .before .before .before .before .before .before .before .before .before .args .from) + 1) ((c .before .before .before .before .before .before .before .before .before .before .before .before .before .args .from) + 2) (c .before .before .before .before .before .before .climbs2 .result) (omega arith) (c .before .before .before .before .before .before .climbs2 .ensures))
-    (says-one put (c .before .before .before .before .before .before .before .before .before .before .before .before .before .args .words .now) ((c .before .before .before .before .before .before .before .before .before .before .before .before .before .args .from) + 2) ((c .before .before .before .before .before .before .before .before .before .before .before .before .before .args .from) + 3) (c .before .before .before .climbs3 .result) (omega arith) (c .before .before .before .climbs3 .ensures))
-    (says-one put (c .before .before .before .before .before .before .before .before .before .before .before .before .before .args .words .now) ((c .before .before .before .before .before .before .before .before .before .before .before .before .before .args .from) + 3) ((c .before .before .before .before .before .before .before .before .before .before .before .before .before .args .from) + 4) (c .climbs4 .result) (omega arith) (c .climbs4 .ensures))
+    marks-four put (c .before .before .before .before .before .before .before .before .before .before .before .before .before .args .words .now) (c .before .before .before .before .before .before .before .before .before .before .before .before .before .args .from) (c .before .before .before .before .before .before .before .before .before .climbs .result) (c .before .before .before .before .before .before .climbs2 .result) (c .before .before .before .climbs3 .result) (c .climbs4 .result)
+    (c .before .before .before .before .before .before .before .before .before .climbs .ensures) (c .before .before .before .before .before .before .climbs2 .ensures) (c .before .before .before .climbs3 .ensures) (c .climbs4 .ensures)
 
 pub four-climb-spec : {M : Type 1} → statement M
 four-climb-spec =

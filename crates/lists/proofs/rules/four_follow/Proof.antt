@@ -1,9 +1,7 @@
 -- `rules::four_follow` meets its contract: the marks of four pairs join to that of their run.
 -- Assumes nothing.
-use Prim.Native.Nat.{_+_}
 use borrow.Author.Needs.{needs}
-use native.Mathlib.Omega.{arith}
-use Rattle.lists.proofs.Pairs.{valid, says-one, says-four}
+use Rattle.lists.proofs.Pairs.{valid, marks-four}
 use Rattle.lists.proofs.rules.four_follow.Statement.{statement}
 use Rattle.lists.proofs.rules.four_follow.Tie as tie
 
@@ -90,12 +88,8 @@ follows-requires-4 c κs = search needs
 
 returns : tie.Need-returns
 returns c =
-    says-four valid (c .before .before .before .before .before .before .before .before .before .before .before .before .before .args .words .now) (c .before .before .before .before .before .before .before .before .before .before .before .before .before .args .from) 1 (c .before .before .before .before .before .before .before .before .before .follows .result) (c .before .before .before .before .before .before .follows2 .result) (c .before .before .before .follows3 .result) (c .follows4 .result)
-    (says-one valid (c .before .before .before .before .before .before .before .before .before .before .before .before .before .args .words .now) (c .before .before .before .before .before .before .before .before .before .before .before .before .before .args .from) ((c .before .before .before .before .before .before .before .before .before .before .before .before .before .args .from) + 1) (c .before .before .before .before .before .before .before .before .before .follows .result) (omega arith) (λ u. (c .before .before .before .before .before .before .before .before .before .follows .ensures)))
-    (says-one valid (c .before .before .before .before .before .before .before .before .before .before .before .before .before .args .words .now) ((c .before .before .before .before .before .before .before .before .before .before .before .before .before .args .from) + 1) ((c .before .before .before .before .before .before .before .before .before .before .before .before .before .args .from) + 2) (c .before .before .before .before .before .before .follows2 .result) (omega arith) (λ u. (c .before .before .before .before .before .before .follows2 .ensures)))
-    (says-one valid (c .before .before .before .before .before .before .before .before .before .before .before .before .before .args .words .now) ((c .before .before .before .before .before .before .before .before .before .before .before .before .before .args .from) + 2) ((c .before .before .before .before .before .before .before .before .before .before .before .before .before .args .from) + 3) (c .before .before .before .follows3 .result) (omega arith) (λ u. (c .before .before .before .follows3 .ensures)))
-    (says-one valid (c .before .before .before .before .before .before .before .before .before .before .before .before .before .args .words .now) ((c .before .before .before .before .before .before .before .before .before .before .before .before .before .args .from) + 3) ((c .before .before .before .before .before .before .before .before .before .before .before .before .before .args .from) + 4) (c .follows4 .result) (omega arith) (λ u. (c .follows4 .ensures)))
-    tt
+    marks-four valid (c .before .before .before .before .before .before .before .before .before .before .before .before .before .args .words .now) (c .before .before .before .before .before .before .before .before .before .before .before .before .before .args .from) (c .before .before .before .before .before .before .before .before .before .follows .result) (c .before .before .before .before .before .before .follows2 .result) (c .before .before .before .follows3 .result) (c .follows4 .result)
+    (λ u. (c .before .before .before .before .before .before .before .before .before .follows .ensures)) (λ u. (c .before .before .before .before .before .before .follows2 .ensures)) (λ u. (c .before .before .before .follows3 .ensures)) (λ u. (c .follows4 .ensures)) tt
 
 pub four-follow-spec : {M : Type 1} → statement M
 four-follow-spec =
