@@ -1,74 +1,101 @@
--- Numbers whose kind bit says that a test passed, and their joins by `and`.
+-- Marks: numbers of 32 bits whose top bit says that a test passed, and their joins.
 -- Assumes nothing.
-use mathlib.Core.Path.{_≡_, _∙_, sym, ap, ap₂}
-use mathlib.Core.Bool.{true}
-use Prim.Native.Nat.{ℕ, _+_, _-_, _*_, _/_, _%_, _^_, _≤_, _<_}
+use mathlib.Core.Path.{_≡_, _∙_, refl, sym, ap, ap₂}
+use mathlib.Core.Bool.{Bool, true, false, _&&_, _||_}
+use Prim.Native.Nat.{ℕ, _+_, _-_, _*_, _%_, _^_, _<_}
 use native.Mathlib.Decide.{ℕ-discrete, decLt}
 use native.Mathlib.Omega.{arith}
-use borrow.Author.Tests.{eq-eqb, ne-eqb, lt-ltb, le-ltb}
-use lib.Dec.{ltb}
-use lib.Bits.{bitAnd, bitOr, and-mask, and-high, and-shr, or-shr, or-zero-l, or-zero-r, and-le-l, and-le-r}
-use Rattle.entry.specs.Word.{kindOf, offerOf, priceOf, validB, markOf, riseOf}
+use borrow.Author.Tests.{eq-eqb, ne-eqb, eqb-true, lt-ltb, le-ltb}
+use lib.Dec.{eqb, ltb}
+use lib.Bits.{bitAnd, bitOr, and-high, and-shr, or-shr, and-le-l}
+use Rattle.entry.specs.Word.{kindOf, offerOf, priceOf, keyOf, isPut, Put, validB, markOf, topOf}
 
 pub offer-field : (w : ℕ) → bitAnd w (2 ^ 63 - 2 ^ 32) ≡ offerOf w * 2 ^ 32
 offer-field w = and-high w 31 32
 
--- the kind bit of a difference
-pub climb-marks : (r last key : ℕ) → r < 2 ^ 64 → last < 2 ^ 32 → key < 2 ^ 32 → (r + key) % 2 ^ 64 ≡ last → kindOf r ≡ markOf (ltb last key)
-climb-marks r last key small l k e = go (decLt last key)
+-- what a bit says
+pub mark-set : (b : Bool) → (markOf b ≡ 0 → ⊥) → b ≡ true
+mark-set true n = refl
+mark-set false n = absurd (n refl)
+
+pub mark-unset : (b : Bool) → markOf b ≡ 0 → b ≡ false
+mark-unset true e = absurd (omega arith)
+mark-unset false e = refl
+
+pub mark-test : (b : Bool) → eqb (markOf b) 1 ≡ b
+mark-test true = refl
+mark-test false = refl
+
+-- marks joined by `and` say that both tests passed; the second counts only where the first passed
+module _ (a b : ℕ) where
+  pub and-marks : (p q : Bool) → topOf a ≡ markOf p → (p ≡ true → topOf b ≡ markOf q) → topOf (bitAnd a b) ≡ markOf (p && q)
+  and-marks true q e f = and-shr a b 31 ∙ ap₂ bitAnd e (f refl) ∙ both q
+    where
+      both : (q : Bool) → bitAnd 1 (markOf q) ≡ markOf q
+      both true = refl
+      both false = refl
+  and-marks false q e f = omega (arith, and-shr a b 31, and-le-l (topOf a) (topOf b))
+
+  -- and joined by `or` that one of them passed
+  pub or-marks : (p q : Bool) → topOf a ≡ markOf p → topOf b ≡ markOf q → topOf (bitOr a b) ≡ markOf (p || q)
+  or-marks p q e f = or-shr a b 31 ∙ ap₂ bitOr e f ∙ either p q
+    where
+      either : (p q : Bool) → bitOr (markOf p) (markOf q) ≡ markOf (p || q)
+      either true true = refl
+      either true false = refl
+      either false true = refl
+      either false false = refl
+
+-- the kind is the top bit of kind and offer
+pub kind-mark : (w : ℕ) → w < 2 ^ 64 → topOf (keyOf w) ≡ markOf (isPut w)
+kind-mark w h = go (ℕ-discrete (kindOf w) 1)
   where
-    go : Dec (last < key) → kindOf r ≡ markOf (ltb last key)
+    go : Dec (kindOf w ≡ 1) → topOf (keyOf w) ≡ markOf (isPut w)
+    go (yes k) =
+        let bit : topOf (keyOf w) ≡ 1 = omega arith in
+        bit ∙ rw (eq-eqb (kindOf w) 1 k)
+    go (no k) =
+        let bit : topOf (keyOf w) ≡ 0 = omega arith in
+        bit ∙ rw (ne-eqb (kindOf w) 1 k)
+
+-- a word of kind 1 or with a price field of 0 is valid
+pub valid-parts : (w : ℕ) → w < 2 ^ 64 → isPut w || eqb (priceOf w) 0 ≡ validB w
+valid-parts w h = go (ℕ-discrete (kindOf w) 1)
+  where
+    go : Dec (kindOf w ≡ 1) → isPut w || eqb (priceOf w) 0 ≡ validB w
+    go (yes k) = rw (eq-eqb (kindOf w) 1 k)
+    go (no k) =
+        let removes : kindOf w ≡ 0 = omega arith in
+        rw (ne-eqb (kindOf w) 1 k, eq-eqb (kindOf w) 0 removes)
+
+-- a difference of offers wraps where the second is the greater
+pub rise-mark : (r v w : ℕ) → r < 2 ^ 32 → v < 2 ^ 31 → w < 2 ^ 31 → (r + w) % 2 ^ 32 ≡ v → topOf r ≡ markOf (ltb v w)
+rise-mark r v w small hv hw e = go (decLt v w)
+  where
+    go : Dec (v < w) → topOf r ≡ markOf (ltb v w)
     go (yes h) =
-        let bit : kindOf r ≡ 1 = omega arith in
-        bit ∙ rw (lt-ltb last key h)
+        let bit : topOf r ≡ 1 = omega arith in
+        bit ∙ rw (lt-ltb v w h)
     go (no h) =
-        let bit : kindOf r ≡ 0 = omega arith in
-        bit ∙ rw (le-ltb last key (omega arith))
+        let bit : topOf r ≡ 0 = omega arith in
+        bit ∙ rw (le-ltb v w (omega arith))
 
--- the kind bit of a word joined with that of its price
-pub valid-joined : (w : ℕ) → w < 2 ^ 64 → kindOf (bitOr w (2 ^ 63 - bitAnd w (2 ^ 32 - 1))) ≡ markOf (validB w)
-valid-joined w h =
-    or-shr w (2 ^ 63 - bitAnd w (2 ^ 32 - 1)) 63
-    ∙ ap (λ (p : ℕ). bitOr (kindOf w) ((2 ^ 63 - p) / 2 ^ 63)) (and-mask w 32)
-    ∙ go (ℕ-discrete (kindOf w) 1) (ℕ-discrete (priceOf w) 0)
-  where
-    go : Dec (kindOf w ≡ 1) → Dec (priceOf w ≡ 0) → bitOr (kindOf w) ((2 ^ 63 - priceOf w) / 2 ^ 63) ≡ markOf (validB w)
-    go (yes k) (yes p) =
-        let bit : (2 ^ 63 - priceOf w) / 2 ^ 63 ≡ 1 = omega arith in
-        ap₂ bitOr k bit ∙ rw (eq-eqb (kindOf w) 1 k)
-    go (yes k) (no p) =
-        let bit : (2 ^ 63 - priceOf w) / 2 ^ 63 ≡ 0 = omega arith in
-        ap₂ bitOr k bit ∙ rw (eq-eqb (kindOf w) 1 k)
-    go (no k) (yes p) =
-        let bit : (2 ^ 63 - priceOf w) / 2 ^ 63 ≡ 1 = omega arith in
-        let removes : kindOf w ≡ 0 = omega arith in
-        ap₂ bitOr removes bit ∙ rw (ne-eqb (kindOf w) 1 k, eq-eqb (kindOf w) 0 removes, eq-eqb (priceOf w) 0 p)
-    go (no k) (no p) =
-        let bit : (2 ^ 63 - priceOf w) / 2 ^ 63 ≡ 0 = omega arith in
-        let removes : kindOf w ≡ 0 = omega arith in
-        ap₂ bitOr removes bit ∙ rw (ne-eqb (kindOf w) 1 k, eq-eqb (kindOf w) 0 removes, ne-eqb (priceOf w) 0 p)
+pub follow-mark : (a r v w : ℕ) → r < 2 ^ 32 → topOf a ≡ markOf (validB w) → (r + offerOf w) % 2 ^ 32 ≡ offerOf v → topOf (bitAnd a r) ≡ markOf (validB w && ltb (offerOf v) (offerOf w))
+follow-mark a r v w small m e = and-marks a r (validB w) (ltb (offerOf v) (offerOf w)) m (λ t. rise-mark r (offerOf v) (offerOf w) small (omega arith) (omega arith) e)
 
--- the kind bit of a rise
-module _ (v w : ℕ) where
-  pub rise-small : riseOf v w < 2 ^ 64
-  rise-small = omega arith
+-- among words of kind 1 the difference of kinds and offers is that of the offers
+same-kind : (r v w : ℕ) → r < 2 ^ 32 → v < 2 ^ 31 → w < 2 ^ 31 → (r + (2 ^ 31 + w)) % 2 ^ 32 ≡ 2 ^ 31 + v → (r + w) % 2 ^ 32 ≡ v
+same-kind r v w small hv hw e = omega arith
 
-  pub rise-marks : offerOf v < offerOf w → kindOf (riseOf v w) ≡ 1
-  rise-marks h = omega arith
+-- behind a word of kind 1 it wraps where the offer is the greater; a word of kind 0 fails by its kind
+module _ (r v w : ℕ) (small : r < 2 ^ 32) (hw : w < 2 ^ 64) (e : (r + keyOf w) % 2 ^ 32 ≡ keyOf v) (put : Put v) where
+  above : isPut w ≡ true → topOf r ≡ markOf (ltb (offerOf v) (offerOf w))
+  above t =
+      let k : kindOf w ≡ 1 = eqb-true (kindOf w) 1 t in
+      let kw : keyOf w ≡ 2 ^ 31 + offerOf w = omega arith in
+      let kv : keyOf v ≡ 2 ^ 31 + offerOf v = omega arith in
+      let s : (r + (2 ^ 31 + offerOf w)) % 2 ^ 32 ≡ 2 ^ 31 + offerOf v = sym (ap (λ (x : ℕ). (r + x) % 2 ^ 32) kw) ∙ e ∙ kv in
+      rise-mark r (offerOf v) (offerOf w) small (omega arith) (omega arith) (same-kind r (offerOf v) (offerOf w) small (omega arith) (omega arith) s)
 
-  pub rise-falls : offerOf w ≤ offerOf v → kindOf (riseOf v w) ≡ 0
-  rise-falls h = omega arith
-
--- the kind bit of numbers joined by `and` is 1 when both have it, else 0
-module _ (a b : ℕ) (ha : a < 2 ^ 64) (hb : b < 2 ^ 64) where
-  pub and-small : bitAnd a b < 2 ^ 64
-  and-small = omega (arith, and-le-l a b)
-
-  pub and-marks : kindOf a ≡ 1 → kindOf b ≡ 1 → kindOf (bitAnd a b) ≡ 1
-  and-marks p q = and-shr a b 63 ∙ ap₂ bitAnd p q
-
-  pub and-left : kindOf a ≡ 0 → kindOf (bitAnd a b) ≡ 0
-  and-left p = omega (arith, and-shr a b 63, and-le-l (kindOf a) (kindOf b))
-
-  pub and-right : kindOf b ≡ 0 → kindOf (bitAnd a b) ≡ 0
-  and-right p = omega (arith, and-shr a b 63, and-le-r (kindOf a) (kindOf b))
+  pub climb-mark : topOf (bitAnd (keyOf w) r) ≡ markOf (isPut w && ltb (offerOf v) (offerOf w))
+  climb-mark = and-marks (keyOf w) r (isPut w) (ltb (offerOf v) (offerOf w)) (kind-mark w hw) above

@@ -2,7 +2,7 @@
 -- Assumes nothing.
 use mathlib.Core.Path.{_≡_}
 use mathlib.Core.Bool.{Bool, cond, _&&_, _||_}
-use Prim.Native.Nat.{ℕ, _+_, _-_, _*_, _/_, _%_, _^_, _≤_}
+use Prim.Native.Nat.{ℕ, _+_, _*_, _/_, _%_, _^_, _≤_}
 use lib.Dec.{eqb}
 
 -- the fields of a word
@@ -49,6 +49,6 @@ Valid w = (kindOf w ≤ 1) × (kindOf w ≡ 0 → priceOf w ≡ 0)
 abbrev pub markOf : Bool → ℕ
 markOf b = cond b 1 0
 
--- a number whose kind bit is 1 exactly when the offer of w lies above that of v: the distance of their offers, from the largest on
-abbrev pub riseOf : ℕ → ℕ → ℕ
-riseOf v w = (offerOf w + (2 ^ 31 - 1 - offerOf v)) * 2 ^ 32
+-- the top bit of a number of 32 bits
+abbrev pub topOf : ℕ → ℕ
+topOf n = n / 2 ^ 31

@@ -1,11 +1,12 @@
 // The entry word (document 01, "What the unit holds"): 64 bits, most significant first a kind of
 // 1 bit, an offer of 31 bits and a price of 32 bits. Kind 1 puts the price, or shows it in a table or
 // a read set; kind 0 removes it, or shows that there is none, and its price field is 0.
-use std::num::wrapping_sub_u64;
+use std::num::wrapping_sub_u32;
 ghost use mathlib.Core.Path.{_≡_};
 ghost use Prim.Native.Nat.{_*_, _%_, _^_, _<_};
-ghost use lib.Dec.{ltb};
-ghost use Rattle.entry.specs.Word.{kindOf, offerOf, priceOf, keyOf, putOf, noneOf, validB, riseOf, markOf};
+ghost use mathlib.Core.Bool.{_&&_};
+ghost use lib.Dec.{eqb, ltb};
+ghost use Rattle.entry.specs.Word.{kindOf, offerOf, priceOf, keyOf, putOf, noneOf, isPut, Put, validB, markOf, topOf};
 
 pub struct Entry;
 
@@ -28,8 +29,8 @@ impl Entry {
 
     const PRICE_MASK: u64 = (1 << Entry::PRICE_BITS) - 1;
 
-    // The kind bit alone.
-    pub const PUT_BIT: u64 = 1 << Entry::KIND_AT;
+    // The mark of a test that passes: the top bit alone of a number of 32 bits.
+    pub const MARK: u32 = 1 << Entry::OFFER_BITS;
 
     // The largest key of a word of kind 0.
     pub const LAST_REMOVAL: u64 = Entry::OFFER_MASK;
@@ -84,26 +85,50 @@ impl Entry {
         word & Entry::OFFER_FIELD
     }
 
-    // A number whose kind bit says whether the offer of a word lies above that of the word before it. A scan joins
-    // such numbers by `&` and tests the bit at its end, so that no turn of it branches.
-    pub fn rise(before: u64, word: u64) -> u64
-        ensures { λ r. ⌜ r ≡ riseOf before word ⌝ }
+    // Kind and offer as a number of 32 bits, whose top bit is the kind.
+    fn upper_of(word: u64) -> u32
+        ensures { λ r. ⌜ r ≡ keyOf word ⌝ }
     {
-        (word & Entry::OFFER_FIELD) + (Entry::OFFER_FIELD - (before & Entry::OFFER_FIELD))
+        (word >> Entry::OFFER_AT) as u32
     }
 
-    // A number whose kind bit says whether a key lies above the last one.
-    pub fn climb(last: u64, key: u64) -> u64
-        requires { ⌜ (last < 2 ^ 32) × (key < 2 ^ 32) ⌝ }
-        ensures { λ r. ⌜ kindOf r ≡ markOf (ltb last key) ⌝ }
+    // The bit of a mark. A mark is a number of 32 bits whose top bit says whether a test passes: a scan joins marks by `&` and looks at
+    // the bit of many at once, so that no word of it branches, and the compiler takes four of such numbers at a time.
+    pub fn mark_bit(mark: u32) -> u32
+        ensures { λ r. ⌜ r ≡ topOf mark ⌝ }
     {
-        wrapping_sub_u64(last, key)
+        mark >> Entry::OFFER_BITS
     }
 
-    // A number whose kind bit says whether a word is valid: of kind 1, or of price 0.
-    pub fn valid_mark(word: u64) -> u64
-        ensures { λ r. ⌜ kindOf r ≡ markOf (validB word) ⌝ }
+    // The mark of a word whose price field is 0: a choice between two numbers, which the compiler makes for several words at a time.
+    fn no_price_mark(word: u64) -> u32
+        ensures { λ r. ⌜ topOf r ≡ markOf (eqb (priceOf word) 0) ⌝ }
     {
-        word | (Entry::PUT_BIT - (word & Entry::PRICE_MASK))
+        if Entry::price_of(word) == 0 {
+            return Entry::MARK;
+        }
+        0
+    }
+
+    // The mark of a valid word: of kind 1, or with a price field of 0.
+    pub fn valid_mark(word: u64) -> u32
+        ensures { λ r. ⌜ topOf r ≡ markOf (validB word) ⌝ }
+    {
+        Entry::upper_of(word) | Entry::no_price_mark(word)
+    }
+
+    // The mark of a valid word whose offer lies above that of the word before it: then the difference of the offers wraps.
+    pub fn follows(before: u64, word: u64) -> u32
+        ensures { λ r. ⌜ topOf r ≡ markOf (validB word && ltb (offerOf before) (offerOf word)) ⌝ }
+    {
+        Entry::valid_mark(word) & wrapping_sub_u32(Entry::offer_of(before), Entry::offer_of(word))
+    }
+
+    // The mark of a word of kind 1 whose offer lies above that of the word before it. Where the word before is of kind 0, it says
+    // nothing.
+    pub fn climbs(before: u64, word: u64) -> u32
+        ensures { λ r. ⌜ (Put before → topOf r ≡ markOf (isPut word && ltb (offerOf before) (offerOf word))) ⌝ }
+    {
+        Entry::upper_of(word) & wrapping_sub_u32(Entry::upper_of(before), Entry::upper_of(word))
     }
 }

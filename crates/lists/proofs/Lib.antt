@@ -1,3 +1,4 @@
-mod Climbing
 pub mod Halving
+mod Pairs
 mod Scans
+mod Turns

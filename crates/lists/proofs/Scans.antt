@@ -1,129 +1,75 @@
--- A scan that joins the marks of its words by `and` and tests the kind bit at its end decides what a test of the words one by
--- one decides.
+-- The two scans of neighbours: one joins the mark of each pair and looks at the end, the other looks at each block, and blocks may
+-- overlap.
 -- Assumes nothing.
-use mathlib.Core.Path.{_≡_, _∙_, refl, sym, ap}
+use mathlib.Core.Path.{_≡_, _∙_, refl, sym, ap, subst}
 use mathlib.Core.Bool.{Bool, true, false}
-use mathlib.Core.List.{List, [], _∷_}
-use Prim.Native.Nat.{ℕ, _+_, _-_, _^_, _≤_, _<_}
-use native.Mathlib.Decide.{ℕ-discrete, decLt}
+use mathlib.Core.List.{List}
+use Prim.Native.Nat.{ℕ, _+_, _-_, _≤_, _<_}
 use native.Mathlib.Omega.{arith}
-use borrow.Author.Tests.{eq-eqb, ne-eqb}
 use lib.Bits.{bitAnd}
 use lib.Dec.{eqb}
-use lib.ListN.{length, getD, drop, drop-of-length-le}
-use Rattle.entry.specs.Word.{kindOf, offerOf, validB, markOf, riseOf}
-use Rattle.entry.proofs.Laws.{kind-small}
-use Rattle.entry.proofs.Marks.{rise-small, rise-marks, rise-falls, and-small, and-marks, and-left, and-right}
-use Rattle.words.proofs.Parts.{next}
-use Rattle.changes.specs.Lists.{risingB}
-use Rattle.changes.proofs.ListTest.{rising-empty, rising-below, rising-invalid, rising-next}
+use lib.ListN.{length, getD}
+use Rattle.entry.specs.Word.{markOf, topOf}
+use Rattle.entry.proofs.Marks.{mark-set, mark-unset, mark-test}
+use Rattle.lists.specs.Pairs.{pairB, pairsB}
+use Rattle.lists.proofs.Pairs.{pairs-none, pairs-join, pairs-front, pairs-fail, Test, pairs-last, says-one, says-join}
 
--- a test of words in turn: each passes a test of its own, and its offer is at least a bound
-pub record Turns (rest : ℕ → List ℕ → Bool) (passes : ℕ → Bool) : Type 0 where
-  pub done : (b : ℕ) → rest b [] ≡ true
-  pub below : (b w : ℕ) (l : List ℕ) → offerOf w < b → rest b (w ∷ l) ≡ false
-  pub fails : (b w : ℕ) (l : List ℕ) → b ≤ offerOf w → passes w ≡ false → rest b (w ∷ l) ≡ false
-  pub goes-on : (b w : ℕ) (l : List ℕ) → b ≤ offerOf w → passes w ≡ true → rest b (w ∷ l) ≡ rest (offerOf w + 1) l
-
--- i words are joined, at least one: the bit is 1 where the rest decides, and 0 where the words have failed
-pub record Joined (rest : ℕ → List ℕ → Bool) (words : List ℕ) (good i : ℕ) : Type 0 where
+-- the pairs of the first i words are joined
+pub record Joined (passes : ℕ → Bool) (l : List ℕ) (good i : ℕ) : Type 0 where
   pub some : 1 ≤ i
-  pub inside : i ≤ length words
-  pub small : good < 2 ^ 64
-  pub on : kindOf good ≡ 1 → rest (offerOf (getD words (i - 1) 0) + 1) (drop i words) ≡ rest 0 words
-  pub off : kindOf good ≡ 0 → rest 0 words ≡ false
+  pub inside : i ≤ length l
+  pub says : topOf good ≡ markOf (pairsB passes l 0 (i - 1))
 
-mark-true : (b : Bool) → markOf b ≡ 1 → b ≡ true
-mark-true true e = refl
-mark-true false e = absurd (omega arith)
+-- the pairs of the first i + 1 words pass
+pub record Passed (passes : ℕ → Bool) (l : List ℕ) (i : ℕ) : Type 0 where
+  pub inside : i < length l
+  pub passed : pairsB passes l 0 i ≡ true
 
-mark-false : (b : Bool) → markOf b ≡ 0 → b ≡ false
-mark-false true e = absurd (omega arith)
-mark-false false e = refl
+module _ {passes : ℕ → Bool} {P : ℕ → Type 0} (t : Test passes P) (l : List ℕ) where
+  pub none-joined : (good : ℕ) → topOf good ≡ 1 → 0 < length l → Joined passes l good 1
+  none-joined good e h = record { some = omega arith; inside = omega arith; says = e ∙ sym (ap markOf (pairs-none passes l 0)) }
 
-module _ {rest : ℕ → List ℕ → Bool} {passes : ℕ → Bool} (t : Turns rest passes) (words : List ℕ) where
-  -- no word
-  pub none-joined : length words ≤ 0 → true ≡ rest 0 words
-  none-joined h = sym (t .done 0) ∙ ap (rest 0) (sym (drop-of-length-le words {i = 0} h))
+  pub joined :
+      (good i m : ℕ) → Joined passes l good i → i < length l → P (getD l 0 0)
+      → (P (getD l (i - 1) 0) → topOf m ≡ markOf (pairB passes (getD l (i - 1) 0) (getD l i 0))) → Joined passes l (bitAnd good m) (i + 1)
+  joined good i m j h p e =
+      let first : 0 + (i - 1) ≡ i - 1 = omega arith in
+      let next : i ≡ i - 1 + 1 = omega (arith, j .some) in
+      let all : i - 1 + 1 ≡ i + 1 - 1 = omega (arith, j .some) in
+      record {
+        some = omega arith;
+        inside = omega arith;
+        says = says-join t l 0 (i - 1) 1 good m (λ q. j .says) (rw first (says-one t l (i - 1) i m next e)) p ∙ ap (λ (n : ℕ). markOf (pairsB passes l 0 n)) all;
+      }
 
-  -- the first word
-  module _ (m : ℕ) (h : 0 < length words) (s : m < 2 ^ 64) (e : kindOf m ≡ markOf (passes (getD words 0 0))) where
-    whole : rest 0 words ≡ rest 0 (getD words 0 0 ∷ drop 1 words)
-    whole = ap (rest 0) (next words 0 h)
+  pub all-joined : (good i : ℕ) → Joined passes l good i → length l ≤ i → eqb (topOf good) 1 ≡ pairsB passes l 0 (length l - 1)
+  all-joined good i j h =
+      let end : i - 1 ≡ length l - 1 = omega (arith, j .inside) in
+      ap (λ (n : ℕ). eqb n 1) (j .says) ∙ mark-test (pairsB passes l 0 (i - 1)) ∙ ap (pairsB passes l 0) end
 
-    pub first : Joined rest words m 1
-    first =
-        record {
-          some = omega arith;
-          inside = omega arith;
-          small = s;
-          on = λ p. sym (t .goes-on 0 (getD words 0 0) (drop 1 words) (omega arith) (mark-true (passes (getD words 0 0)) (sym e ∙ p))) ∙ sym whole;
-          off = λ p. whole ∙ t .fails 0 (getD words 0 0) (drop 1 words) (omega arith) (mark-false (passes (getD words 0 0)) (sym e ∙ p));
-        }
+  pub none-passed : 0 < length l → Passed passes l 0
+  none-passed h = record { inside = h; passed = pairs-none passes l 0 }
 
-  -- one more word
-  module _ (good i m : ℕ) (j : Joined rest words good i) (h : i < length words) (s : m < 2 ^ 64) (e : kindOf m ≡ markOf (passes (getD words i 0))) where
-    abbrev v : ℕ
-    v = getD words (i - 1) 0
+  pub all-passed : (i : ℕ) → Passed passes l i → length l ≤ i + 1 → true ≡ pairsB passes l 0 (length l - 1)
+  all-passed i b h =
+      let end : i ≡ length l - 1 = omega (arith, b .inside) in
+      sym (b .passed) ∙ ap (pairsB passes l 0) end
 
-    abbrev w : ℕ
-    w = getD words i 0
+  -- a block of n pairs from a place on that is passed already, and its mark
+  module _ (i a n r : ℕ) (b : Passed passes l i) (h : a ≤ i) (room : a + n < length l) (p : P (getD l 0 0)) (e : P (getD l a 0) → topOf r ≡ markOf (pairsB passes l a n)) where
+    before : pairsB passes l 0 a ≡ true
+    before = pairs-front passes l 0 i a h (b .passed)
 
-    abbrev both : ℕ
-    both = bitAnd good m
+    mark : topOf r ≡ markOf (pairsB passes l a n)
+    mark =
+        let place : 0 + a ≡ a = omega arith in
+        e (subst (λ (k : ℕ). P (getD l k 0)) place (pairs-last t l 0 a p before))
 
-    abbrev all : ℕ
-    all = bitAnd both (riseOf v w)
+    pub block-passes : (topOf r ≡ 0 → ⊥) → Passed passes l (a + n)
+    block-passes m =
+        let place : 0 + a ≡ a = omega arith in
+        let here : pairsB passes l a n ≡ true = mark-set (pairsB passes l a n) (λ z. m (mark ∙ z)) in
+        record { inside = room; passed = sym (pairs-join passes l 0 a n) ∙ rw (before, place, here) refl }
 
-    small-both : both < 2 ^ 64
-    small-both = and-small good m (j .small) s
-
-    here : kindOf good ≡ 1 → rest (offerOf v + 1) (w ∷ drop (i + 1) words) ≡ rest 0 words
-    here p = ap (rest (offerOf v + 1)) (sym (next words i h)) ∙ j .on p
-
-    again-on : kindOf all ≡ 1 → rest (offerOf w + 1) (drop (i + 1) words) ≡ rest 0 words
-    again-on p = go (ℕ-discrete (kindOf good) 1) (ℕ-discrete (kindOf m) 1) (decLt (offerOf v) (offerOf w))
-      where
-        go : Dec (kindOf good ≡ 1) → Dec (kindOf m ≡ 1) → Dec (offerOf v < offerOf w) → rest (offerOf w + 1) (drop (i + 1) words) ≡ rest 0 words
-        go (yes g) (yes k) (yes l) = sym (t .goes-on (offerOf v + 1) w (drop (i + 1) words) (omega arith) (mark-true (passes w) (sym e ∙ k))) ∙ here g
-        go (no g) k l = absurd (omega (arith, p, and-left both (riseOf v w) small-both (rise-small v w) (and-left good m (j .small) s (omega (arith, kind-small good (j .small))))))
-        go (yes g) (no k) l = absurd (omega (arith, p, and-left both (riseOf v w) small-both (rise-small v w) (and-right good m (j .small) s (omega (arith, kind-small m s)))))
-        go (yes g) (yes k) (no l) = absurd (omega (arith, p, and-right both (riseOf v w) small-both (rise-small v w) (rise-falls v w (omega arith))))
-
-    again-off : kindOf all ≡ 0 → rest 0 words ≡ false
-    again-off p = go (ℕ-discrete (kindOf good) 1) (ℕ-discrete (kindOf m) 1) (decLt (offerOf v) (offerOf w))
-      where
-        go : Dec (kindOf good ≡ 1) → Dec (kindOf m ≡ 1) → Dec (offerOf v < offerOf w) → rest 0 words ≡ false
-        go (yes g) (yes k) (yes l) = absurd (omega (arith, p, and-marks both (riseOf v w) small-both (rise-small v w) (and-marks good m (j .small) s g k) (rise-marks v w l)))
-        go (no g) k l = j .off (omega (arith, kind-small good (j .small)))
-        go (yes g) k (no l) = sym (here g) ∙ t .below (offerOf v + 1) w (drop (i + 1) words) (omega arith)
-        go (yes g) (no k) (yes l) = sym (here g) ∙ t .fails (offerOf v + 1) w (drop (i + 1) words) (omega arith) (mark-false (passes w) (sym e ∙ omega (arith, kind-small m s)))
-
-    pub joined : Joined rest words all (i + 1)
-    joined =
-        let place : i + 1 - 1 ≡ i = omega arith in
-        record {
-          some = omega arith;
-          inside = omega arith;
-          small = and-small both (riseOf v w) small-both (rise-small v w);
-          on = λ p. ap (λ (n : ℕ). rest (offerOf (getD words n 0) + 1) (drop (i + 1) words)) place ∙ again-on p;
-          off = again-off;
-        }
-
-  -- all words
-  pub all-joined : (good i : ℕ) → Joined rest words good i → length words ≤ i → eqb (kindOf good) 1 ≡ rest 0 words
-  all-joined good i j h = go (ℕ-discrete (kindOf good) 1)
-    where
-      go : Dec (kindOf good ≡ 1) → eqb (kindOf good) 1 ≡ rest 0 words
-      go (yes g) = eq-eqb (kindOf good) 1 g ∙ sym (t .done _) ∙ ap (rest (offerOf (getD words (i - 1) 0) + 1)) (sym (drop-of-length-le words h)) ∙ j .on g
-      go (no g) = ne-eqb (kindOf good) 1 g ∙ sym (j .off (omega (arith, kind-small good (j .small))))
-
--- the words of a list, each valid
-pub lists : Turns risingB validB
-lists =
-    record {
-      done = rising-empty;
-      below = rising-below;
-      fails = rising-invalid;
-      goes-on = rising-next;
-    }
+    pub block-fails : topOf r ≡ 0 → false ≡ pairsB passes l 0 (length l - 1)
+    block-fails m = sym (pairs-fail passes l (length l - 1) a n (omega arith) (mark-unset (pairsB passes l a n) (sym mark ∙ m)))

@@ -1,16 +1,26 @@
 -- `Entry::valid_mark` meets its contract.
 -- Assumes nothing.
+use mathlib.Core.Path.{_∙_, ap}
+use borrow.Author.Needs.{needs}
 use native.Mathlib.Omega.{arith}
-use lib.Bits.{and-mask}
-use Rattle.entry.proofs.Marks.{valid-joined}
+use lib.Dec.{eqb}
+use Rattle.entry.specs.Word.{priceOf, isPut, markOf, topOf}
+use Rattle.entry.proofs.Marks.{or-marks, kind-mark, valid-parts}
 use Rattle.entry.proofs.Entry.valid_mark.Statement.{statement}
 use Rattle.entry.proofs.Entry.valid_mark.Tie as tie
 
-sub-result : tie.Need-sub-result
-sub-result c = omega (arith, and-mask (c .args .word) 32)
+upper-of-requires : tie.Need-upper-of-requires
+upper-of-requires c κs = search needs
+
+no-price-mark-requires : tie.Need-no-price-mark-requires
+no-price-mark-requires c κs = search needs
 
 returns : tie.Need-returns
-returns c = valid-joined (c .args .word) (omega arith)
+returns c =
+    or-marks (c .before .upper-of .result) (c .no-price-mark .result) (isPut (c .before .before .args .word)) (eqb (priceOf (c .before .before .args .word)) 0)
+    (ap topOf (c .before .upper-of .ensures) ∙ kind-mark (c .before .before .args .word) (omega arith))
+    (c .no-price-mark .ensures)
+    ∙ ap markOf (valid-parts (c .before .before .args .word) (omega arith))
 
 pub valid-mark-spec : {M : Type 1} → statement M
-valid-mark-spec = tie.close (tie.spec sub-result returns)
+valid-mark-spec = tie.close (tie.spec upper-of-requires no-price-mark-requires returns)

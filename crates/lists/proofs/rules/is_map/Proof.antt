@@ -1,65 +1,48 @@
--- `rules::is_map` meets its contract: the keys joined so far are marked exactly when the rest decides.
+-- `rules::is_map` meets its contract: the first word is of kind 1, and each other one climbs from the word before it.
 -- Assumes nothing.
-use mathlib.Core.Path.{_∙_, ap}
-use Prim.Native.Nat.{ℕ, _-_}
+use mathlib.Core.Path.{_∙_, sym}
 use borrow.Author.Needs.{needs}
 use native.Mathlib.Omega.{arith}
-use lib.Dec.{eqb, ltb}
-use lib.ListN.{length}
-use Rattle.entry.specs.Word.{markOf}
-use Rattle.lists.proofs.Climbing.{Climbing, climbing, climbs, climbed}
+use borrow.Author.Tests.{eq-eqb, ne-eqb}
+use lib.ListN.{getD}
+use Rattle.entry.specs.Word.{kindOf}
+use Rattle.lists.proofs.Turns.{no-words, first-fails, first-passes, maps}
 use Rattle.lists.proofs.rules.is_map.Statement.{statement}
 use Rattle.lists.proofs.rules.is_map.Tie as tie
 
-abbrev Inv-loop : tie.InvT-loop
-Inv-loop words good₀ last₀ i₀ good last i = Climbing words good last i
+returns : tie.Need-returns
+returns c = sym (no-words maps (c .before .before .args .words .now) (omega arith))
 
-abbrev μ-loop : tie.MeasureT-loop
-μ-loop words good₀ last₀ i₀ good last i = length words - i
+shared-slice-read-kind-of : tie.Need-shared-slice-read-kind-of
+shared-slice-read-kind-of c = search needs
 
-loop-holds : tie.Need-loop-holds Inv-loop μ-loop
-loop-holds c = climbing _
-
-mul-key-of : tie.Need-mul-key-of Inv-loop μ-loop
-mul-key-of c = omega arith
-
-shared-slice-read-key-of : tie.Need-shared-slice-read-key-of Inv-loop μ-loop
-shared-slice-read-key-of c = omega arith
-
-key-of-requires : tie.Need-key-of-requires Inv-loop μ-loop
-key-of-requires c κs = search needs
-
-climb-requires : tie.Need-climb-requires Inv-loop μ-loop
-climb-requires c κs = (c .before .before .before .loop .inv .most, c .key-of .ensures .1)
-
-add-i : tie.Need-add-i Inv-loop μ-loop
-add-i c = omega arith
-
-loop-less : tie.Need-loop-less Inv-loop μ-loop
-loop-less c = omega arith
-
-loop-again : tie.Need-loop-again Inv-loop μ-loop
-loop-again c = rw (c .before .key-of .ensures .0) (climbs (c .before .before .before .before .loop .inv) (omega arith) (omega arith) (c .climb .result) (omega arith) ((c .climb .ensures) ∙ ap (λ (k : ℕ). markOf (ltb (c .before .before .before .before .loop .last) k)) (c .before .key-of .ensures .0)))
-
-kind-of-requires : tie.Need-kind-of-requires Inv-loop μ-loop
+kind-of-requires : tie.Need-kind-of-requires
 kind-of-requires c κs = search needs
 
-returns : tie.Need-returns Inv-loop μ-loop
-returns c = ap (λ (k : ℕ). eqb k 1) (c .kind-of .ensures) ∙ climbed (c .before .before .loop .inv) (omega arith)
+returns-2 : tie.Need-returns-2
+returns-2 c = sym (first-fails maps (c .before .before .before .before .before .args .words .now) (omega arith) (ne-eqb (kindOf (getD (c .before .before .before .before .before .args .words .now) 0 0)) 1 (λ z. omega arith)))
+
+few-climb-requires : tie.Need-few-climb-requires
+few-climb-requires c κs = search needs
+
+returns-3 : tie.Need-returns-3
+returns-3 c = (c .few-climb .ensures) ∙ sym (first-passes maps (c .before .before .before .before .before .before .before .args .words .now) (omega arith) (eq-eqb (kindOf (getD (c .before .before .before .before .before .before .before .args .words .now) 0 0)) 1 (omega arith)))
+
+many-climb-requires : tie.Need-many-climb-requires
+many-climb-requires c κs = search needs
+
+returns-4 : tie.Need-returns-4
+returns-4 c = (c .many-climb .ensures) ∙ sym (first-passes maps (c .before .before .before .before .before .before .before .args .words .now) (omega arith) (eq-eqb (kindOf (getD (c .before .before .before .before .before .before .before .args .words .now) 0 0)) 1 (omega arith)))
 
 pub is-map-spec : {M : Type 1} → statement M
 is-map-spec =
     tie.close
     (tie.spec
-    Inv-loop
-    μ-loop
-    loop-holds
-    mul-key-of
-    shared-slice-read-key-of
-    key-of-requires
-    climb-requires
-    add-i
-    loop-less
-    loop-again
+    returns
+    shared-slice-read-kind-of
     kind-of-requires
-    returns)
+    returns-2
+    few-climb-requires
+    returns-3
+    many-climb-requires
+    returns-4)
