@@ -1,5 +1,7 @@
 pub mod AllOrders
+pub mod Allowed
 pub mod BatchChecks
+pub mod Gathering
 pub mod Marks
 pub mod OnMaps
 pub mod OrderPlaces
