@@ -1,5 +1,4 @@
 pub mod AllOrders
-pub mod Allowed
 pub mod BatchChecks
 pub mod Gathering
 pub mod Marks

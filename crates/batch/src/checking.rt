@@ -2,7 +2,7 @@
 use crate::places::find_places;
 use grounds::Refusal;
 use lists::rules::is_list;
-use orders::Order;
+use orders::is_allowed;
 ghost use mathlib.Core.Path.{_≡_};
 ghost use Prim.Native.Nat.{_≤_};
 ghost use lib.ListN.{length};
@@ -19,16 +19,6 @@ pub const BATCH_ORDERS: usize = 64;
 pub enum Check {
     Passed,
     Stops(Refusal),
-}
-
-// Whether an order may be in a batch: its kind is known, and a withdrawal's amount is 0. Orders of all kinds come mixed, so that a
-// branch on the kind could not be foreseen; the tests are joined without one.
-fn is_allowed(order: u64) -> bool
-    ensures { λ r. ⌜ r ≡ allowedB order ⌝ }
-{
-    let kind = Order::kind_of(order);
-    let amount = Order::amount_of(order);
-    ((kind < 4) & ((kind != 1) | (amount == 0))) | ((16 <= kind) & (kind <= 31))
 }
 
 fn all_allowed(orders: &[u64]) -> bool
