@@ -1,7 +1,7 @@
 -- A test of every order, by its clauses and as a loop meets it.
 -- Assumes nothing.
 use mathlib.Core.Path.{_≡_, refl, sym, _∙_, ap}
-use mathlib.Core.Bool.{Bool, true, false, _&&_}
+use mathlib.Core.Bool.{Bool, true, false, _&&_, and-true, and-assoc}
 use mathlib.Core.List.{List, [], _∷_}
 use Prim.Native.Nat.{ℕ, _+_, _≤_, _<_}
 use native.Mathlib.Omega.{arith}
@@ -13,6 +13,10 @@ module _ (test : ℕ → Bool) where
   pub all-none : allB test [] ≡ true
   unfolding allB
   all-none = refl
+
+  all-one : (o : ℕ) (os : List ℕ) → allB test (o ∷ os) ≡ (test o && allB test os)
+  unfolding allB
+  all-one o os = refl
 
   pub all-stop : (o : ℕ) (os : List ℕ) → test o ≡ false → allB test (o ∷ os) ≡ false
   unfolding allB
@@ -56,3 +60,26 @@ module _ {test : ℕ → Bool} {orders : List ℕ} {k : ℕ} (l : Left test orde
           inside = omega arith;
           rest = sym (ap (allB test) (next orders k b) ∙ all-more test _ _ e) ∙ l .rest;
         }
+
+-- a loop that joins the test of every order: with those that are left, it says whether all pass
+pub record Joined (test : ℕ → Bool) (orders : List ℕ) (k : ℕ) (all : Bool) : Type 0 where
+  pub inside : k ≤ length orders
+  pub rest : (all && allB test (drop k orders)) ≡ allB test orders
+
+pub joined-none : (test : ℕ → Bool) (orders : List ℕ) → Joined test orders 0 true
+joined-none test orders = record { inside = omega arith; rest = refl }
+
+module _ {test : ℕ → Bool} {orders : List ℕ} {k : ℕ} {all : Bool} (j : Joined test orders k all) where
+  pub joined-end : length orders ≤ k → all ≡ allB test orders
+  joined-end h = sym (and-true all) ∙ ap (λ (b : Bool). all && b) (sym (ap (allB test) (drop-of-length-le orders h) ∙ all-none test)) ∙ j .rest
+
+  pub joined-next : k < length orders → {passes : Bool} → passes ≡ test (getD orders k 0) → Joined test orders (k + 1) (all && passes)
+  joined-next b {passes} e =
+      record {
+        inside = omega arith;
+        rest =
+            and-assoc all passes (allB test (drop (k + 1) orders))
+            ∙ ap (λ (p : Bool). all && (p && allB test (drop (k + 1) orders))) e
+            ∙ ap (λ (r : Bool). all && r) (sym (ap (allB test) (next orders k b) ∙ all-one test (getD orders k 0) (drop (k + 1) orders)))
+            ∙ j .rest;
+      }

@@ -7,13 +7,12 @@ use Prim.Native.Nat.{ℕ, zero, suc, _≤_, _<_}
 use native.Mathlib.Omega.{arith}
 use borrow.Author.Tests.{le-leb, lt-leb, leb-true}
 use lib.Dec.{leb}
-use lib.ListN.{length, take, drop, replicate, length-append, drop-of-length-le}
-use lib.Seq.{take-at}
+use lib.ListN.{length, take, drop, replicate, drop-of-length-le}
 use Rattle.changes.specs.Lists.{listB, From}
 use Rattle.changes.proofs.ListTest.{list-facts}
 use Rattle.grounds.specs.declared.Refusal.the-variants.{BadList, BadOrder, OfferNotRead, OutputShort}
 use Rattle.grounds.specs.declared.Refusal.{Refusal}
-use Rattle.grounds.specs.Numbers.{numberOf, accepted, refused}
+use Rattle.grounds.specs.Numbers.{numberOf, Answer, accepted, refused}
 use Rattle.batch.specs.declared.checking.Check.{Check}
 use Rattle.batch.specs.declared.checking.Check.the-variants.{Passed, Stops}
 use Rattle.orders.specs.Orders.{allowedB}
@@ -90,9 +89,9 @@ module _ (reads orders : List ℕ) (room : ℕ) where
   unfolding batch
   batch-stopped e = ap (λ (c : Check). after c (fitting room (priced reads orders))) e
 
-  pub batch-runs : checked reads orders ≡ Passed → {ran : Ran} → priced reads orders ≡ ran → batch reads orders room ≡ fitting room ran
+  pub batch-runs : checked reads orders ≡ Passed → batch reads orders room ≡ fitting room (priced reads orders)
   unfolding batch
-  batch-runs e i = ap (λ (c : Check). after c (fitting room (priced reads orders))) e ∙ ap (fitting room) i
+  batch-runs e = ap (λ (c : Check). after c (fitting room (priced reads orders))) e
 
 -- from a check to a run, and from a run to the answer and the memory
 pub went : {check : Check} (d : List ℕ) {ran : Ran} → check ≡ Passed → after check (done d) ≡ ran → done d ≡ ran
@@ -108,6 +107,10 @@ pub tell-done : {d : List ℕ} {ran : Ran} {n : ℕ} (list₀ : List ℕ) {list 
 tell-done {d} list₀ e count i =
     (ap accepted count ∙ ap answer e, i ∙ ap (λ (k : ℕ). d ++ drop k list₀) count ∙ ap (λ (r : Ran). output r list₀) e)
 
+-- the answer and the memory of a run are those of another that it equals
+pub tell-same : {ran ran′ : Ran} → ran ≡ ran′ → (out : List ℕ) {told : Answer} {list : List ℕ} → (told ≡ answer ran) × (list ≡ output ran out) → (told ≡ answer ran′) × (list ≡ output ran′ out)
+tell-same e out h = (h .0 ∙ ap answer e, h .1 ∙ ap (λ (r : Ran). output r out) e)
+
 -- a copy of a read set in memory of its length
 pub whole-copy : (reads words₀ : List ℕ) {words : List ℕ} → length words₀ ≡ length reads → words ≡ reads ++ drop (length reads) words₀ → words ≡ reads
 whole-copy reads words₀ s e =
@@ -115,28 +118,10 @@ whole-copy reads words₀ s e =
     e ∙ ap (_++_ reads) (drop-of-length-le words₀ all) ∙ append-nil reads
 
 -- the orders' places in a read set are their places in its copy
-pub ready : {reads orders places words₀ words : List ℕ} {marks : List Bool} {list : List ℕ} → Room reads orders places words₀ marks list → words ≡ reads → Ready words orders places marks
+pub ready : {reads orders places words₀ words : List ℕ} {marks : List Bool} → Room reads orders places words₀ marks → words ≡ reads → Ready words orders places marks
 ready room e =
     let batch = room .accepted-batch in
     rw e (record { rises = batch .rises; enough = batch .enough; placed = batch .placed; unmarked = room .unmarked })
-
--- what an answer and the memory say of a run
-pub told-fails : (ran : Ran) (n : ℕ) → refused n ≡ answer ran → ran ≡ fails n
-told-fails (done d) n e = absurd (let z : _≡_ {A = ℕ} 0 1 = cc in omega arith)
-told-fails (fails m) n e = cc
-
-pub record Told (ran : Ran) (n : ℕ) (list : List ℕ) : Type 0 where
-  pub inside : n ≤ length list
-  pub ran-is : ran ≡ done (take n list)
-
-pub told-done : (ran : Ran) (n : ℕ) (list list₀ : List ℕ) → accepted n ≡ answer ran → list ≡ output ran list₀ → Told ran n list
-told-done (done d) n list list₀ e i =
-    let count : length d ≡ n = cc in
-    record {
-      inside = omega (arith, simp length-append at (ap length i));
-      ran-is = ap done (sym (ap (take n) i ∙ take-at d (drop (length d) list₀) n count));
-    }
-told-done (fails m) n list list₀ e i = absurd (let z : _≡_ {A = ℕ} 0 1 = cc in omega arith)
 
 -- the marks of a read set of at most 64 words
 pub take-replicate : (n m : ℕ) (b : Bool) → n ≤ m → take n (replicate m b) ≡ replicate n b

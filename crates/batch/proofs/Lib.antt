@@ -1,5 +1,6 @@
 pub mod AllOrders
 pub mod BatchChecks
+pub mod Gathering
 pub mod Marks
 pub mod OnMaps
 pub mod OrderPlaces

@@ -1,8 +1,8 @@
 -- The marked words: they rise with the words, and marking a word joins it to them as a later change.
 -- Assumes nothing.
-use mathlib.Core.Path.{_≡_, refl, sym, _∙_, ap, subst}
+use mathlib.Core.Path.{_≡_, refl, sym, _∙_, ap}
 use mathlib.Core.Bool.{Bool, true, false}
-use mathlib.Core.List.{List, [], _∷_, _++_}
+use mathlib.Core.List.{List, [], _∷_}
 use Prim.Native.Nat.{ℕ, zero, suc, _+_, _≤_, _<_}
 use native.Mathlib.Numerals.{add-one}
 use native.Mathlib.Omega.{arith}
@@ -14,7 +14,6 @@ use Rattle.changes.specs.Lists.{From}
 use Rattle.changes.proofs.Merging.{compose-nil, nil-compose, compose-below, compose-same, compose-above}
 use Rattle.changes.proofs.Rising.{from-lower, from-cons, from-head, from-tail, from-nil}
 use Rattle.changes.proofs.Find.{least-at}
-use Rattle.words.proofs.Writing.{Writing, start, stored, size, done}
 use Rattle.batch.specs.Working.{marked}
 
 module _ (marks : List Bool) where
@@ -34,13 +33,6 @@ module _ (w : ℕ) (l : List ℕ) (marks : List Bool) where
 pub unmarked : (l : List ℕ) → marked l (replicate (length l) false) ≡ []
 unmarked [] = marked-none []
 unmarked (w ∷ l) = marked-no w l (replicate (length l) false) ∙ unmarked l
-
-pub marked-length : (l : List ℕ) (marks : List Bool) → length (marked l marks) ≤ length l
-unfolding marked
-marked-length [] marks = omega arith
-marked-length (w ∷ l) [] = omega arith
-marked-length (w ∷ l) (true ∷ marks) = omega (arith, marked-length l marks)
-marked-length (w ∷ l) (false ∷ marks) = omega (arith, marked-length l marks)
 
 pub marked-rises : (n : ℕ) (l : List ℕ) (marks : List Bool) → From n l → From n (marked l marks)
 unfolding marked
@@ -92,36 +84,3 @@ module _ (l : List ℕ) (marks : List Bool) (i : ℕ) where
 
     pub unmarked-here : getD marks i false ≡ false → marked (drop i l) (drop i marks) ≡ marked (drop (i + 1) l) (drop (i + 1) marks)
     unmarked-here e = here ∙ rw e (marked-no (getD l i 0) (drop (i + 1) l) (drop (i + 1) marks))
-
--- gathering the marked words: those before place i are written, n of them
-pub record Gathering (words : List ℕ) (marks : List Bool) (out out₀ : List ℕ) (i n : ℕ) : Type 0 where
-  pub inside : i ≤ length words
-  pub few : n ≤ i
-  pub writing : Writing out out₀ n (marked (drop i words) (drop i marks)) (marked words marks)
-
-pub gather-start : (words : List ℕ) (marks : List Bool) (out : List ℕ) → Gathering words marks out out 0 0
-gather-start words marks out = record { inside = omega arith; few = omega arith; writing = start out (marked words marks) }
-
-module _ {words : List ℕ} {marks : List Bool} {out out₀ : List ℕ} {i n : ℕ} (g : Gathering words marks out out₀ i n) where
-  module _ (b : i < length words) (s : length marks ≡ length words) where
-    pub gather-word : length words ≤ length out → getD marks i false ≡ true → Gathering words marks (set out n (getD words i 0)) out₀ (i + 1) (n + 1)
-    gather-word room e =
-        record {
-          inside = omega arith;
-          few = omega (arith, g .few);
-          writing = stored (g .writing) (marked-here words marks i b s e) (omega (arith, g .few));
-        }
-
-    pub gather-past : getD marks i false ≡ false → Gathering words marks out out₀ (i + 1) n
-    gather-past e =
-        record {
-          inside = omega arith;
-          few = omega (arith, g .few);
-          writing = subst (λ (r : List ℕ). Writing out out₀ n r (marked words marks)) (unmarked-here words marks i b s e) (g .writing);
-        }
-
-  pub gather-end : length words ≤ i → (n ≡ length (marked words marks)) × (out ≡ marked words marks ++ drop n out₀)
-  gather-end h =
-      let none = marked-end words marks i h in
-      let count : n ≡ length (marked words marks) = omega (arith, size (g .writing), ap length none) in
-      (count, done (g .writing) none ∙ ap (λ (k : ℕ). marked words marks ++ drop k out₀) (sym count))

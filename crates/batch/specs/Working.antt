@@ -4,9 +4,9 @@
 use mathlib.Core.Path.{_≡_}
 use mathlib.Core.Bool.{Bool, false, cond}
 use mathlib.Core.List.{List, [], _∷_}
-use Prim.Native.Nat.{ℕ, _≤_, _<_}
+use Prim.Native.Nat.{ℕ, _+_, _≤_, _<_}
 use lib.ListN.{length, getD, replicate}
-use Rattle.entry.specs.Word.{offerOf}
+use Rattle.entry.specs.Word.{offerOf, markOf}
 use Rattle.changes.specs.Lists.{From}
 use Rattle.orders.specs.Orders.{orderOffer}
 
@@ -15,6 +15,11 @@ unfoldable pub marked : List ℕ → List Bool → List ℕ
 marked [] marks = []
 marked (w ∷ l) [] = []
 marked (w ∷ l) (m ∷ marks) = cond m (w ∷ marked l marks) (marked l marks)
+
+-- how many marks are set
+unfoldable pub markCount : List Bool → ℕ
+markCount [] = 0
+markCount (m ∷ marks) = markOf m + markCount marks
 
 -- words have an offer at a place
 pub record At (offer : ℕ) (words : List ℕ) (place : ℕ) : Type 0 where
@@ -32,12 +37,11 @@ pub record Accepted (reads orders places : List ℕ) : Type 0 where
   pub enough : length orders ≤ length places
   pub placed : Placed reads orders places (length orders)
 
--- memory for the run of such a batch: as many words and marks as the read set has, no mark set, and a list with room for as many
-pub record Room (reads orders places words : List ℕ) (marks : List Bool) (list : List ℕ) : Type 0 where
+-- memory for the run of such a batch: as many words and marks as the read set has, no mark set
+pub record Room (reads orders places words : List ℕ) (marks : List Bool) : Type 0 where
   pub accepted-batch : Accepted reads orders places
   pub as-many : length words ≡ length reads
   pub unmarked : marks ≡ replicate (length reads) false
-  pub room : length reads ≤ length list
 
 -- a read set that has the offers of all the orders at their places, with no mark
 pub record Ready (words orders places : List ℕ) (marks : List Bool) : Type 0 where

@@ -24,14 +24,13 @@ pub enum Check {
 fn all_allowed(orders: &[u64]) -> bool
     ensures { λ r. ⌜ r ≡ allB allowedB (now (orders .entry)) ⌝ }
 {
+    let mut all = true;
     let mut k = 0;
     while k < orders.len() {
-        if !is_allowed(orders[k]) {
-            return false;
-        }
+        all = all & is_allowed(orders[k]);
         k += 1;
     }
-    true
+    all
 }
 
 // The first ground that turns the batch away, if there is one. Where there is none, the first places are then those of the

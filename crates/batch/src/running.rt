@@ -4,12 +4,10 @@ use crate::checking::Check;
 use orders::effects::Effect;
 use orders::effects::effect_of;
 ghost use mathlib.Core.Path.{_≡_};
-ghost use mathlib.Core.List.{_++_};
-ghost use Prim.Native.Nat.{_≤_};
-ghost use lib.ListN.{length, drop};
+ghost use lib.ListN.{length};
 ghost use Rattle.batch.specs.Running.{done, priced};
 ghost use Rattle.batch.specs.Batches.{after};
-ghost use Rattle.batch.specs.Working.{marked, Ready};
+ghost use Rattle.batch.specs.Working.{marked, markCount, Ready};
 
 // Runs the orders over a read set, each at its place, and marks the places. The marked words are then the changes; where an
 // order fails, what the words and the marks hold is left to chance.
@@ -32,21 +30,30 @@ pub fn run(orders: &[u64], places: &[usize], words: &mut [u64], marks: &mut [boo
     Check::Passed
 }
 
-// Writes the marked words to the start of `out`, and gives their count; the words behind them stay.
-pub fn gather(words: &[u64], marks: &[bool], out: &mut [u64]) -> usize
-    requires { ⌜ (length (now marks) ≡ length (now words)) × (length (now words) ≤ length (now out)) ⌝ }
-    ensures { λ r. ⌜ (r ≡ length (marked (now (words .entry)) (now (marks .entry)))) × (now (out .exit) ≡ marked (now (words .entry)) (now (marks .entry)) ++ drop r (now (out .entry))) ⌝ }
+// How many marks are set.
+pub fn count(marks: &[bool]) -> usize
+    ensures { λ r. ⌜ r ≡ markCount (now (marks .entry)) ⌝ }
+{
+    let mut n = 0;
+    let mut i = 0;
+    while i < marks.len() {
+        n += marks[i] as usize;
+        i += 1;
+    }
+    n
+}
+
+// Writes the marked words, of which there are as many as `out` has room for. Every word is stored where the next marked one belongs, and
+// one that has no mark is stored over, so that no turn branches on a mark.
+pub fn gather(words: &[u64], marks: &[bool], out: &mut [u64])
+    requires { ⌜ (length (now marks) ≡ length (now words)) × (length (now out) ≡ length (marked (now words) (now marks))) ⌝ }
+    ensures { λ r. ⌜ now (out .exit) ≡ marked (now (words .entry)) (now (marks .entry)) ⌝ }
 {
     let mut i = 0;
     let mut n = 0;
-    while i < words.len() {
-        if marks[i] {
-            out[n] = words[i];
-            n += 1;
-            i += 1;
-        } else {
-            i += 1;
-        }
+    while n < out.len() {
+        out[n] = words[i];
+        n += marks[i] as usize;
+        i += 1;
     }
-    n
 }

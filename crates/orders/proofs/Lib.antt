@@ -1,2 +1,3 @@
+mod Allowed
 pub mod OneOrder
 mod OrderKinds

@@ -1,10 +1,10 @@
--- The kinds of orders, an equation for each, and which orders may be in a batch.
+-- The kinds of orders, an equation for each.
 -- Assumes nothing.
-use mathlib.Core.Path.{_≡_, ap}
+use mathlib.Core.Path.{_≡_}
 use Prim.Native.Nat.{ℕ, _≤_, _<_}
 use native.Mathlib.Omega.{arith}
 use borrow.Author.Tests.{eq-eqb, ne-eqb, le-leb, lt-leb}
-use Rattle.orders.specs.Orders.{orderKind, orderAmount, Kind, lists, withdraws, raises, cuts, keeps, unknown, kindNamed, allowedWith, allowedB}
+use Rattle.orders.specs.Orders.{lists, withdraws, raises, cuts, keeps, unknown, kindNamed}
 
 module _ (k : ℕ) where
   pub kind-lists : k ≡ 0 → kindNamed k ≡ lists
@@ -36,8 +36,3 @@ module _ (k : ℕ) where
   unfolding kindNamed
   kind-above h =
       rw (ne-eqb k 0 (λ z. omega arith), ne-eqb k 1 (λ z. omega arith), ne-eqb k 2 (λ z. omega arith), ne-eqb k 3 (λ z. omega arith), le-leb 16 k (omega arith), lt-leb k 31 h)
-
--- an order of a kind is allowed as the kind says
-pub allowed-as : (o : ℕ) {kind : Kind} → kindNamed (orderKind o) ≡ kind → allowedB o ≡ allowedWith kind (orderAmount o)
-unfolding allowedB
-allowed-as o e = ap (λ (kind : Kind). allowedWith kind (orderAmount o)) e

@@ -1,24 +1,23 @@
--- `checking::all_allowed` meets its contract. The loop's invariant: what is left passes exactly when all orders do.
+-- `checking::all_allowed` meets its contract. The loop's invariant: the tests joined so far and those of the orders that are left say
+-- whether all pass.
 -- Assumes nothing.
-use mathlib.Core.Path.{sym, _∙_}
 use Prim.Native.Nat.{_-_}
 use borrow.Author.Needs.{needs}
-use borrow.Author.Tests.{not-true, not-false}
 use native.Mathlib.Omega.{arith}
 use lib.ListN.{length}
 use Rattle.orders.specs.Orders.{allowedB}
-use Rattle.batch.proofs.AllOrders.{Left, left-all, left-end, left-stop, left-next}
+use Rattle.batch.proofs.AllOrders.{Joined, joined-none, joined-end, joined-next}
 use Rattle.batch.proofs.checking.all_allowed.Statement.{statement}
 use Rattle.batch.proofs.checking.all_allowed.Tie as tie
 
 abbrev Inv-loop : tie.InvT-loop
-Inv-loop orders k₀ k = Left allowedB orders k
+Inv-loop orders all₀ k₀ all k = Joined allowedB orders k all
 
 abbrev μ-loop : tie.MeasureT-loop
-μ-loop orders k₀ k = length orders - k
+μ-loop orders all₀ k₀ all k = length orders - k
 
 loop-holds : tie.Need-loop-holds Inv-loop μ-loop
-loop-holds c = left-all _ _
+loop-holds c = joined-none _ _
 
 mul-is-allowed : tie.Need-mul-is-allowed Inv-loop μ-loop
 mul-is-allowed c = omega arith
@@ -29,9 +28,6 @@ shared-slice-read-is-allowed c = omega arith
 is-allowed-requires : tie.Need-is-allowed-requires Inv-loop μ-loop
 is-allowed-requires c κs = search needs
 
-returns : tie.Need-returns Inv-loop μ-loop
-returns c = sym (left-stop (c .before .before .before .before .loop .inv) (omega arith) (sym (c .before .is-allowed .ensures) ∙ not-true _ (c .if1 .taken)))
-
 add-k : tie.Need-add-k Inv-loop μ-loop
 add-k c = omega arith
 
@@ -39,10 +35,10 @@ loop-less : tie.Need-loop-less Inv-loop μ-loop
 loop-less c = omega arith
 
 loop-again : tie.Need-loop-again Inv-loop μ-loop
-loop-again c = left-next (c .before .before .before .before .loop .inv) (omega arith) (sym (c .before .is-allowed .ensures) ∙ not-false _ (c .if1 .left))
+loop-again c = joined-next (c .before .before .before .loop .inv) (omega arith) (c .is-allowed .ensures)
 
-returns-2 : tie.Need-returns-2 Inv-loop μ-loop
-returns-2 c = sym (left-end (c .before .loop .inv) (omega arith))
+returns : tie.Need-returns Inv-loop μ-loop
+returns c = joined-end (c .before .loop .inv) (omega arith)
 
 pub all-allowed-spec : {M : Type 1} → statement M
 all-allowed-spec =
@@ -54,8 +50,7 @@ all-allowed-spec =
     mul-is-allowed
     shared-slice-read-is-allowed
     is-allowed-requires
-    returns
     add-k
     loop-less
     loop-again
-    returns-2)
+    returns)

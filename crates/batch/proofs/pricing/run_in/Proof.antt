@@ -7,7 +7,8 @@ use Prim.Native.Nat.{ℕ}
 use native.Mathlib.Omega.{arith}
 use lib.ListN.{length, length-replicate}
 use Rattle.batch.specs.Running.{priced}
-use Rattle.batch.proofs.BatchChecks.{whole-copy, ready, went, stopped, tell-fails, tell-done}
+use Rattle.batch.specs.Batches.{fitting}
+use Rattle.batch.proofs.BatchChecks.{whole-copy, ready, went, stopped, tell-fails, tell-same}
 use borrow.Author.Needs.{needs}
 use Rattle.batch.proofs.pricing.run_in.Statement.{statement}
 use Rattle.batch.proofs.pricing.run_in.Tie as tie
@@ -24,8 +25,8 @@ enum-known-ground c = search needs
 enum-told : tie.Need-enum-told
 enum-told c = search needs
 
-gather-requires : tie.Need-gather-requires
-gather-requires c κs = omega (arith, (c .before .before .before .before .before .before .before .before .before .run .kept .1 .1 .0), (c .before .before .before .before .before .before .before .before .before .run .kept .1 .1 .1 .0), (c .before .before .before .before .before .before .before .before .before .before .before .before .before .before .copy .kept .1 .0), (c .before .before .before .before .before .before .before .before .before .before .before .before .before .before .before .before .before .before .before .before .before .before .pre .as-many), (c .before .before .before .before .before .before .before .before .before .before .before .before .before .before .before .before .before .before .before .before .before .before .pre .room), ap length (c .before .before .before .before .before .before .before .before .before .before .before .before .before .before .before .before .before .before .before .before .before .before .pre .unmarked), length-replicate (length (c .before .before .before .before .before .before .before .before .before .before .before .before .before .before .before .before .before .before .before .before .before .before .args .reads .now)) false)
+write-requires : tie.Need-write-requires
+write-requires c κs = omega (arith, (c .before .before .before .before .before .before .before .before .before .run .kept .1 .1 .0), (c .before .before .before .before .before .before .before .before .before .run .kept .1 .1 .1 .0), (c .before .before .before .before .before .before .before .before .before .before .before .before .before .before .copy .kept .1 .0), (c .before .before .before .before .before .before .before .before .before .before .before .before .before .before .before .before .before .before .before .before .before .before .pre .as-many), ap length (c .before .before .before .before .before .before .before .before .before .before .before .before .before .before .before .before .before .before .before .before .before .before .pre .unmarked), length-replicate (length (c .before .before .before .before .before .before .before .before .before .before .before .before .before .before .before .before .before .before .before .before .before .before .args .reads .now)) false)
 
 same-length : tie.Need-same-length
 same-length c = search needs
@@ -34,7 +35,7 @@ same-length-2 : tie.Need-same-length-2
 same-length-2 c = search needs
 
 returns : tie.Need-returns
-returns c = tell-fails _ (stopped _ (c .before .ground .given .1) (c .before .before .before .before .before .before .before .run .ensures) ∙ ap (λ (l : List ℕ). priced l (c .before .before .before .before .before .before .before .before .before .before .before .before .before .before .before .before .before .before .before .before .args .orders .now)) (whole-copy _ _ (c .before .before .before .before .before .before .before .before .before .before .before .before .before .before .before .before .before .before .before .before .pre .as-many) (c .before .before .before .before .before .before .before .before .before .before .before .before .copy .ensures)))
+returns c = tell-fails _ (ap (fitting (length (c .before .before .before .before .before .before .before .before .before .before .before .before .before .before .before .before .before .before .before .before .args .out .now))) (stopped _ (c .before .ground .given .1) (c .before .before .before .before .before .before .before .run .ensures) ∙ ap (λ (l : List ℕ). priced l (c .before .before .before .before .before .before .before .before .before .before .before .before .before .before .before .before .before .before .before .before .args .orders .now)) (whole-copy _ _ (c .before .before .before .before .before .before .before .before .before .before .before .before .before .before .before .before .before .before .before .before .pre .as-many) (c .before .before .before .before .before .before .before .before .before .before .before .before .copy .ensures))))
 
 same-length-3 : tie.Need-same-length-3
 same-length-3 c = search needs
@@ -46,7 +47,7 @@ same-length-5 : tie.Need-same-length-5
 same-length-5 c = search needs
 
 returns-2 : tie.Need-returns-2
-returns-2 c = tell-done _ (went _ (c .before .before .before .before .before .before .enum-told .given .1) (c .before .before .before .before .before .before .before .before .before .before .before .before .run .ensures) ∙ ap (λ (l : List ℕ). priced l (c .before .before .before .before .before .before .before .before .before .before .before .before .before .before .before .before .before .before .before .before .before .before .before .before .before .args .orders .now)) (whole-copy _ _ (c .before .before .before .before .before .before .before .before .before .before .before .before .before .before .before .before .before .before .before .before .before .before .before .before .before .pre .as-many) (c .before .before .before .before .before .before .before .before .before .before .before .before .before .before .before .before .before .copy .ensures))) (c .before .before .gather .ensures .0) (c .before .before .gather .ensures .1)
+returns-2 c = tell-same (ap (fitting (length (c .before .before .before .before .before .before .before .before .before .before .before .before .before .before .before .before .before .before .before .before .before .before .before .before .before .args .out .now))) (went _ (c .before .before .before .before .before .before .enum-told .given .1) (c .before .before .before .before .before .before .before .before .before .before .before .before .run .ensures) ∙ ap (λ (l : List ℕ). priced l (c .before .before .before .before .before .before .before .before .before .before .before .before .before .before .before .before .before .before .before .before .before .before .before .before .before .args .orders .now)) (whole-copy _ _ (c .before .before .before .before .before .before .before .before .before .before .before .before .before .before .before .before .before .before .before .before .before .before .before .before .before .pre .as-many) (c .before .before .before .before .before .before .before .before .before .before .before .before .before .before .before .before .before .copy .ensures)))) _ (c .before .before .write .ensures)
 
 pub run-in-spec : {M : Type 1} → statement M
 run-in-spec =
@@ -56,7 +57,7 @@ run-in-spec =
     run-requires
     enum-known-ground
     enum-told
-    gather-requires
+    write-requires
     same-length
     same-length-2
     returns
