@@ -97,9 +97,9 @@ pub fn unpack(words: &[u64]) -> Head
     }
 }
 
-fn put_flags(flags: [bool; 8], words: &mut [u64], at: usize)
-    requires { ⌜ at + 8 ≤ length (now words) ⌝ }
-    ensures { λ r. ⌜ now (words .exit) ≡ take at (now (words .entry)) ++ map wordOf flags ++ drop (at + 8) (now (words .entry)) ⌝ }
+fn put_flags(flags: &[bool], words: &mut [u64], at: usize)
+    requires { ⌜ (length (now flags) ≡ 8) × (at + 8 ≤ length (now words)) ⌝ }
+    ensures { λ r. ⌜ now (words .exit) ≡ take at (now (words .entry)) ++ map wordOf (now (flags .entry)) ++ drop (at + 8) (now (words .entry)) ⌝ }
 {
     let mut k: usize = 0;
     while k < 8 {
@@ -108,20 +108,27 @@ fn put_flags(flags: [bool; 8], words: &mut [u64], at: usize)
     }
 }
 
-fn put_numbers(numbers: [u32; 8], words: &mut [u64], at: usize)
-    requires { ⌜ at + 8 ≤ length (now words) ⌝ }
-    ensures { λ r. ⌜ now (words .exit) ≡ take at (now (words .entry)) ++ numbers ++ drop (at + 8) (now (words .entry)) ⌝ }
+// The number as a word.
+fn wide(number: u32) -> u64
+    ensures { λ r. ⌜ r ≡ number ⌝ }
+{
+    number as u64
+}
+
+fn put_numbers(numbers: &[u32], words: &mut [u64], at: usize)
+    requires { ⌜ (length (now numbers) ≡ 8) × (at + 8 ≤ length (now words)) ⌝ }
+    ensures { λ r. ⌜ now (words .exit) ≡ take at (now (words .entry)) ++ now (numbers .entry) ++ drop (at + 8) (now (words .entry)) ⌝ }
 {
     let mut k: usize = 0;
     while k < 8 {
-        words[at + k] = numbers[k] as u64;
+        words[at + k] = wide(numbers[k]);
         k += 1;
     }
 }
 
-fn put_ends(ends: [usize; 64], words: &mut [u64], at: usize)
-    requires { ⌜ at + 64 ≤ length (now words) ⌝ }
-    ensures { λ r. ⌜ now (words .exit) ≡ take at (now (words .entry)) ++ ends ++ drop (at + 64) (now (words .entry)) ⌝ }
+fn put_ends(ends: &[usize], words: &mut [u64], at: usize)
+    requires { ⌜ (length (now ends) ≡ 64) × (at + 64 ≤ length (now words)) ⌝ }
+    ensures { λ r. ⌜ now (words .exit) ≡ take at (now (words .entry)) ++ now (ends .entry) ++ drop (at + 64) (now (words .entry)) ⌝ }
 {
     let mut k: usize = 0;
     while k < 64 {
@@ -135,14 +142,11 @@ pub fn pack(head: Head, words: &mut [u64])
     requires { ⌜ length (now words) ≡ 84 ⌝ }
     ensures { λ r. ⌜ now (words .exit) ≡ wordsOf head ⌝ }
 {
-    let held = head.held;
-    let issued = head.issued;
-    let ends = head.ends;
     words[0] = head.used as u64;
     words[1] = head.oldest as u64;
     words[2] = head.checkpoint as u64;
     words[3] = head.tip as u64;
-    put_flags(held, words, 4);
-    put_numbers(issued, words, 12);
-    put_ends(ends, words, 20);
+    put_flags(&head.held, words, 4);
+    put_numbers(&head.issued, words, 12);
+    put_ends(&head.ends, words, 20);
 }

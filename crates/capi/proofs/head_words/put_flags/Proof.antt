@@ -1,9 +1,7 @@
 -- `head_words::put_flags` meets its contract: a word for each flag.
 -- Assumes nothing.
-use mathlib.Core.Path.{_≡_, sym, ap, _∙_}
-use mathlib.Core.List.{List, _++_}
-use Prim.Native.Nat.{ℕ, _+_, _-_}
-use lib.ListN.{length, getD}
+use Prim.Native.Nat.{_-_}
+use lib.ListN.{getD}
 use native.Mathlib.Omega.{arith}
 use mathlib.Core.Bool.{false}
 use Rattle.capi.specs.HeadWords.{wordOf}
@@ -13,28 +11,28 @@ use Rattle.capi.proofs.head_words.put_flags.Statement.{statement}
 use Rattle.capi.proofs.head_words.put_flags.Tie as tie
 
 abbrev Inv-loop : tie.InvT-loop
-Inv-loop words₀ at flags k₀ words k = Putting wordOf words words₀ flags at k
+Inv-loop flags words₀ at k₀ words k = Putting wordOf words words₀ flags at k
 
 abbrev μ-loop : tie.MeasureT-loop
-μ-loop words₀ at flags k₀ words k = 8 - k
+μ-loop flags words₀ at k₀ words k = 8 - k
 
 loop-holds : tie.Need-loop-holds Inv-loop μ-loop
-loop-holds c = putting _ (c .args .t1) (c .args .at) (omega (arith, (c .pre)))
+loop-holds c = putting _ (c .args .flags .now) (c .args .at) (omega (arith, (c .pre .1)))
 
-array-read-words : tie.Need-array-read-words Inv-loop μ-loop
-array-read-words c = let long : length ((c .before .before .args .t1)) ≡ 8 = search needs in omega arith
+shared-slice-read-words : tie.Need-shared-slice-read-words Inv-loop μ-loop
+shared-slice-read-words c = omega (arith, (c .before .before .before .pre .0))
 
 cast-words : tie.Need-cast-words Inv-loop μ-loop
 cast-words c = search needs
 
 add-words : tie.Need-add-words Inv-loop μ-loop
-add-words c = omega (arith, (c .before .before .pre))
+add-words c = omega (arith, (c .before .before .before .pre .1))
 
 mul-words : tie.Need-mul-words Inv-loop μ-loop
-mul-words c = omega (arith, (c .before .before .pre), (c .before .loop .inv .writing .same))
+mul-words c = omega (arith, (c .before .before .before .pre .1), (c .before .before .loop .inv .writing .same))
 
 slice-write-words : tie.Need-slice-write-words Inv-loop μ-loop
-slice-write-words c = omega (arith, (c .before .before .pre), (c .before .loop .inv .writing .same))
+slice-write-words c = omega (arith, (c .before .before .before .pre .1), (c .before .before .loop .inv .writing .same))
 
 add-k : tie.Need-add-k Inv-loop μ-loop
 add-k c = omega arith
@@ -43,13 +41,13 @@ loop-less : tie.Need-loop-less Inv-loop μ-loop
 loop-less c = omega arith
 
 loop-again : tie.Need-loop-again Inv-loop μ-loop
-loop-again c = let long : length ((c .before .before .args .t1)) ≡ 8 = search needs in put-one (c .before .loop .inv) false (as-number (getD (c .before .before .args .t1) (c .before .loop .k) false)) (omega arith) (omega (arith, (c .before .before .pre), (c .before .loop .inv .writing .same)))
+loop-again c = put-one (c .before .before .loop .inv) false (as-number (getD (c .before .before .before .args .flags .now) (c .before .before .loop .k) false)) (omega (arith, (c .before .before .before .pre .0))) (omega (arith, (c .before .before .before .pre .1), (c .before .before .loop .inv .writing .same)))
 
 same-length : tie.Need-same-length Inv-loop μ-loop
 same-length c = (c .before .loop .inv .writing .same)
 
 returns : tie.Need-returns Inv-loop μ-loop
-returns c = let long : length ((c .before .before .args .t1)) ≡ 8 = search needs in put-all (c .before .loop .inv) 8 long (omega arith)
+returns c = put-all (c .before .loop .inv) 8 (c .before .before .pre .0) (omega arith)
 
 pub put-flags-spec : {M : Type 1} → statement M
 put-flags-spec =
@@ -58,7 +56,7 @@ put-flags-spec =
     Inv-loop
     μ-loop
     loop-holds
-    array-read-words
+    shared-slice-read-words
     cast-words
     add-words
     mul-words

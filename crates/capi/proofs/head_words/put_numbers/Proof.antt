@@ -1,9 +1,6 @@
 -- `head_words::put_numbers` meets its contract: a word for each number.
 -- Assumes nothing.
-use mathlib.Core.Path.{_≡_, refl}
-use mathlib.Core.List.{List, _++_}
-use Prim.Native.Nat.{ℕ, _+_, _-_}
-use lib.ListN.{length, take, drop}
+use Prim.Native.Nat.{_-_}
 use native.Mathlib.Omega.{arith}
 use Rattle.capi.proofs.Arrays.{Putting, putting, put-one, put-words, same}
 use borrow.Author.Needs.{needs}
@@ -11,31 +8,31 @@ use Rattle.capi.proofs.head_words.put_numbers.Statement.{statement}
 use Rattle.capi.proofs.head_words.put_numbers.Tie as tie
 
 abbrev Inv-loop : tie.InvT-loop
-Inv-loop words₀ at numbers k₀ words k = Putting same words words₀ numbers at k
+Inv-loop numbers words₀ at k₀ words k = Putting same words words₀ numbers at k
 
 abbrev μ-loop : tie.MeasureT-loop
-μ-loop words₀ at numbers k₀ words k = 8 - k
+μ-loop numbers words₀ at k₀ words k = 8 - k
 
 loop-holds : tie.Need-loop-holds Inv-loop μ-loop
-loop-holds c = putting _ (c .args .t1) (c .args .at) (omega (arith, (c .pre)))
+loop-holds c = putting _ (c .before .before .args .numbers .now) (c .before .before .args .at) (omega (arith, (c .before .before .pre .1)))
 
-mul-words : tie.Need-mul-words Inv-loop μ-loop
-mul-words c = omega (arith, (c .before .before .pre), (c .before .loop .inv .writing .same))
+mul-wide : tie.Need-mul-wide Inv-loop μ-loop
+mul-wide c = search needs
 
-array-read-words : tie.Need-array-read-words Inv-loop μ-loop
-array-read-words c = let long : length ((c .before .before .args .t1)) ≡ 8 = search needs in omega arith
+shared-slice-read-wide : tie.Need-shared-slice-read-wide Inv-loop μ-loop
+shared-slice-read-wide c = omega (arith, (c .before .before .before .before .before .pre .0))
 
-cast-words : tie.Need-cast-words Inv-loop μ-loop
-cast-words c = search needs
+wide-requires : tie.Need-wide-requires Inv-loop μ-loop
+wide-requires c κs = search needs
 
 add-words : tie.Need-add-words Inv-loop μ-loop
-add-words c = omega (arith, (c .before .before .pre))
+add-words c = omega (arith, (c .before .before .before .before .before .before .pre .1))
 
-mul-words-2 : tie.Need-mul-words-2 Inv-loop μ-loop
-mul-words-2 c = search needs
+mul-words : tie.Need-mul-words Inv-loop μ-loop
+mul-words c = omega (arith, (c .before .before .before .before .before .before .pre .1), (c .before .before .before .loop .inv .writing .same))
 
 slice-write-words : tie.Need-slice-write-words Inv-loop μ-loop
-slice-write-words c = omega (arith, (c .before .before .pre), (c .before .loop .inv .writing .same))
+slice-write-words c = omega (arith, (c .before .before .before .before .before .before .pre .1), (c .before .before .before .loop .inv .writing .same))
 
 add-k : tie.Need-add-k Inv-loop μ-loop
 add-k c = omega arith
@@ -44,13 +41,13 @@ loop-less : tie.Need-loop-less Inv-loop μ-loop
 loop-less c = omega arith
 
 loop-again : tie.Need-loop-again Inv-loop μ-loop
-loop-again c = let long : length ((c .before .before .args .t1)) ≡ 8 = search needs in put-one (c .before .loop .inv) 0 refl (omega arith) (omega (arith, (c .before .before .pre), (c .before .loop .inv .writing .same)))
+loop-again c = put-one (c .before .before .before .loop .inv) 0 (c .wide .ensures) (omega (arith, (c .before .before .before .before .before .before .pre .0))) (omega (arith, (c .before .before .before .before .before .before .pre .1), (c .before .before .before .loop .inv .writing .same)))
 
 same-length : tie.Need-same-length Inv-loop μ-loop
 same-length c = (c .before .loop .inv .writing .same)
 
 returns : tie.Need-returns Inv-loop μ-loop
-returns c = let long : length ((c .before .before .args .t1)) ≡ 8 = search needs in put-words (c .before .loop .inv) 8 long (omega arith)
+returns c = put-words (c .before .loop .inv) 8 (c .before .before .before .before .pre .0) (omega arith)
 
 pub put-numbers-spec : {M : Type 1} → statement M
 put-numbers-spec =
@@ -59,11 +56,11 @@ put-numbers-spec =
     Inv-loop
     μ-loop
     loop-holds
-    mul-words
-    array-read-words
-    cast-words
+    mul-wide
+    shared-slice-read-wide
+    wide-requires
     add-words
-    mul-words-2
+    mul-words
     slice-write-words
     add-k
     loop-less
