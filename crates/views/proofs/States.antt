@@ -1,14 +1,13 @@
 -- The map at each kept state: "here the k-th state after the anchor takes the first k steps."
 -- Assumes nothing.
-use mathlib.Core.Path.{_≡_, sym, ap, subst, _∙_}
-use mathlib.Core.Bool.{true}
-use mathlib.Core.List.{List, [], _∷_, _++_}
-use Prim.Native.Nat.{ℕ, zero, suc, _+_, _-_, _≤_, _<_}
+use mathlib.Core.Path.{_≡_, sym, ap, _∙_}
+use mathlib.Core.List.{List, [], _∷_}
+use Prim.Native.Nat.{ℕ, suc, _+_, _-_, _≤_, _<_}
 use native.Mathlib.Omega.{arith}
 use lib.ListN.{length, getD, take, drop}
 use lib.Seq.{take-suc, take-at, drop-at}
 use Rattle.changes.specs.Calculus.{apply, compose, composeAll}
-use Rattle.changes.specs.Lists.{listB, From, All, Changes, Map}
+use Rattle.changes.specs.Lists.{All, Changes, Map}
 use Rattle.changes.specs.Runs.{runOf}
 use Rattle.changes.proofs.Applying.{compose-all-nil, compose-all-one}
 use Rattle.changes.proofs.Each.{IsList, all-changes, all-at, all-take, all-second}
@@ -16,9 +15,9 @@ use Rattle.changes.proofs.Laws.{apply-zero, apply-twice, apply-map, run-changes
 use Rattle.layout.specs.declared.head.Head.{Head}
 use Rattle.layout.specs.Sound.{heldOf}
 use Rattle.views.specs.States.{stepIndex, stepsBetween, mapHere}
-use Rattle.views.specs.View.{Store, View, decode, mapAt, tipOf, Good, Shaped}
+use Rattle.views.specs.View.{Store, View, decode, mapAt, tipOf, Good}
 use Rattle.views.proofs.Sounds.{Sound}
-use Rattle.views.proofs.Views.{decoded-good, run-count}
+use Rattle.views.proofs.Views.{run-count}
 
 -- the steps of a good view are changes
 module _ (v : View) (g : Good v) where
@@ -83,9 +82,3 @@ module _ (table journal : List ℕ) (head : Head) (s : Sound table journal head)
   pub map-is : mapHere table journal head state ≡ mapAt (decode here) state
   unfolding mapAt decode
   map-is = ap (λ (ds : List (List ℕ)). apply (take (head .used) table) (composeAll ds)) steps-since
-
-  pub since-rises : Shaped head → From 0 (composeAll (stepsBetween journal head (head .checkpoint) state))
-  unfolding decode
-  since-rises p =
-      subst (λ (ds : List (List ℕ)). From 0 (composeAll ds)) (sym steps-since)
-      (first-changes (decode here) (decoded-good table journal head p s) (state - head .checkpoint) .rises)

@@ -75,17 +75,6 @@ module _ {out out₀ : List ℕ} {k : ℕ} {rest goal : List ℕ} (h : Writing o
       ∙ whole h
       ∙ ap (λ (n : ℕ). goal ++ drop n out₀) (sym copied-size)
 
--- the rest is the part from i on of the slice itself, and is moved down behind what is written
-module _ {out out₀ : List ℕ} {k : ℕ} {rest goal : List ℕ} (h : Writing out out₀ k rest goal) (i : ℕ) (l : k ≤ i) (e : rest ≡ drop i out₀) where
-  pub shifted-size : k + (length out₀ - i) ≡ length goal
-  shifted-size = omega (arith, size h, ap length e, length-drop i out₀)
-
-  pub shifted : (last : List ℕ) → last ≡ take k out ++ drop i out ++ drop (k + (length out - i)) out → last ≡ goal ++ drop (k + (length out₀ - i)) out₀
-  shifted last f =
-      f
-      ∙ ap₂ _++_ (ap (λ (r : List ℕ). take k out ++ r) (behind h i l ∙ sym e) ∙ h .front) (behind h (k + (length out - i)) (omega arith))
-      ∙ ap (λ (n : ℕ). goal ++ drop (k + (n - i)) out₀) (h .same)
-
 -- nothing is left
 pub done : {out out₀ : List ℕ} {k : ℕ} {rest goal : List ℕ} → Writing out out₀ k rest goal → rest ≡ [] → out ≡ goal ++ drop (length goal) out₀
 done {out} {out₀} {k} {rest} {goal} h e =
