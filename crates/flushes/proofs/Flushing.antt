@@ -1,81 +1,51 @@
 -- What a flush knows of its memory when the map is worked out and when it is accepted, and what it leaves.
 -- Assumes nothing.
 use mathlib.Core.Path.{_≡_, refl, sym, ap, _∙_}
-use mathlib.Core.Bool.{true, false}
+use mathlib.Core.Bool.{true, not}
 use mathlib.Core.List.{List, [], _∷_, _++_, append-assoc}
 use Prim.Native.Nat.{ℕ, _+_, _-_, _≤_, _<_, max}
 use native.Mathlib.Omega.{arith}
 use borrow.Author.Tests.{ltb-false, lt-ltb, le-ltb, not-false}
+use lib.Dec.{ltb}
 use lib.ListN.{length, take, drop, replicate, length-drop, replicate-append-replicate, take-append-drop}
 use lib.Seq.{drop-drop}
 use Rattle.changes.specs.Calculus.{composeAll, apply}
-use Rattle.changes.specs.Runs.{runOf}
+use Rattle.changes.specs.Runs.{startOf}
 use Rattle.changes.proofs.Laws.{apply-zero}
-use Rattle.changes.proofs.Running.{run-none}
+use Rattle.changes.proofs.Running.{run-length}
 use Rattle.words.proofs.Parts.{zeros-from}
 use Rattle.grounds.specs.declared.Outcome.{Outcome}
 use Rattle.grounds.specs.declared.Outcome.the-variants.{Done, Refused}
+use Rattle.grounds.specs.declared.Written.the-variants.{Count, Refused as NotWritten}
 use Rattle.grounds.specs.declared.Refusal.{Refusal}
 use Rattle.grounds.specs.declared.Refusal.the-variants.{TableFull}
-use Rattle.grounds.specs.First.{Ground, met, first}
+use Rattle.grounds.specs.First.{met, first}
 use Rattle.grounds.specs.Numbers.{Gives}
 use Rattle.grounds.proofs.Firsts.{done-not, first-met, first-not, none-met, gives, if-refused, if-done}
 use Rattle.layout.specs.declared.head.Head.{Head}
 use Rattle.layout.specs.Tests.{zerosB}
 use Rattle.layout.proofs.HeadTests.{InRange, lengths-facts}
 use Rattle.layout.proofs.WordTests.{zeros-fact}
-use Rattle.views.specs.States.{stepIndex, mapHere}
+use Rattle.views.specs.States.{stepIndex, stepsBetween, mapHere}
 use Rattle.views.specs.Trim.{Trimmable, trimmedHead, trimmedJournal}
 use Rattle.views.specs.View.{padded, Shaped}
 use Rattle.views.proofs.SlotLists.{least-up-to, least-later}
-use Rattle.views.proofs.SoundFacts.{shaped, used-long}
+use Rattle.views.proofs.SoundFacts.{used-long}
 use Rattle.views.proofs.Sounds.{Sound, sound-facts, sound-marked}
 use Rattle.state_maps.specs.Held.{HeldState}
 use Rattle.state_maps.proofs.Working.{StateFacts}
-use Rattle.flushes.specs.Flush.{earlyCheck, flushCheck, tableAt, flushHead, flushTable, flushJournal, flushedHead}
+use Rattle.flushes.specs.Flush.{flushCheck, sizeOr, flushSize, tableAt, flushHead, flushTable, flushJournal, flushedHead}
 
--- the first ground among some, with others behind them
-refused-before : (gs hs : List Ground) (r : Refusal) → first gs ≡ Refused r → first (gs ++ hs) ≡ Refused r
-unfolding first
-refused-before [] hs r e = absurd (let z : _≡_ {A = ℕ} 0 1 = cc in omega arith)
-refused-before (met true g ∷ gs) hs r e = e
-refused-before (met false g ∷ gs) hs r e = refused-before gs hs r e
+-- the size or the ground, told from the outcome
+pub refused-of : {g : Refusal} (o : Outcome) (n : ℕ) → NotWritten g ≡ sizeOr o n → o ≡ Refused g
+refused-of Done n e = absurd (let z : _≡_ {A = ℕ} 0 1 = cc in omega arith)
+refused-of (Refused h) n e = cc
 
-done-before : (gs hs : List Ground) → first gs ≡ Done → first (gs ++ hs) ≡ first hs
-unfolding first
-done-before [] hs e = refl
-done-before (met true g ∷ gs) hs e = absurd (let z : _≡_ {A = ℕ} 0 1 = cc in omega arith)
-done-before (met false g ∷ gs) hs e = done-before gs hs e
+pub counted-of : {k : ℕ} (o : Outcome) (n : ℕ) → Count k ≡ sizeOr o n → (o ≡ Done) × (k ≡ n)
+counted-of Done n e = (refl, cc)
+counted-of (Refused h) n e = absurd (let z : _≡_ {A = ℕ} 0 1 = cc in omega arith)
 
 module _ (table journal : List ℕ) (head : Head) (state : ℕ) where
-  pub early-refused : (r : Refusal) → earlyCheck table journal head state ≡ Refused r → flushCheck table journal head state ≡ Refused r
-  early-refused r e = refused-before _ _ r e
-
-  pub full-refused : earlyCheck table journal head state ≡ Done → length table < length (mapHere table journal head state) → flushCheck table journal head state ≡ Refused TableFull
-  full-refused e h = done-before _ _ e ∙ first-met _ _ _ (lt-ltb (length table) (length (mapHere table journal head state)) h)
-
-  pub room-done : earlyCheck table journal head state ≡ Done → length (mapHere table journal head state) ≤ length table → flushCheck table journal head state ≡ Done
-  room-done e h = done-before _ _ e ∙ first-not _ _ _ (le-ltb (length table) (length (mapHere table journal head state)) h) ∙ none-met
-
--- what is known where the early grounds are passed
-pub record FlushStart (table journal : List ℕ) (head : Head) (state : ℕ) : Type 0 where
-  pub shape : Shaped head
-  pub passed : earlyCheck table journal head state ≡ Done
-  pub held : HeldState table journal head state
-
-module _ (table journal : List ℕ) (head : Head) (state : ℕ) where
-  held-state : earlyCheck table journal head state ≡ Done → HeldState table journal head state
-  held-state e =
-      let a = done-not _ _ _ e in
-      let b = done-not _ _ _ (a .1) in
-      let c = done-not _ _ _ (b .1) in
-      let d = done-not _ _ _ (c .1) in
-      record { lengths = not-false _ (a .0); sound = not-false _ (b .0); low = ltb-false state (head .checkpoint) (c .0); high = ltb-false (head .tip) state (d .0) }
-
-  pub flush-start : {r : Outcome} → r ≡ earlyCheck table journal head state → r ≡ Done → length (head .held) ≡ 8 → length (head .issued) ≡ 8 → length (head .ends) ≡ 64
-      → FlushStart table journal head state
-  flush-start e d a b c = record { shape = shaped head a b c; passed = sym e ∙ d; held = held-state (sym e ∙ d) }
-
   -- the map at the state has no room in the table, or has it
   pub table-stays : length table < length (mapHere table journal head state) → table ≡ tableAt table journal head state
   table-stays h = rw (lt-ltb (length table) (length (mapHere table journal head state)) h)
@@ -83,28 +53,42 @@ module _ (table journal : List ℕ) (head : Head) (state : ℕ) where
   pub table-moves : length (mapHere table journal head state) ≤ length table → tableAt table journal head state ≡ padded (length table) (mapHere table journal head state)
   table-moves h = rw (le-ltb (length table) (length (mapHere table journal head state)) h)
 
-  -- what a flush gives back: where it is turned away all as it came, where it is accepted what it made
-  pub flush-refused : {r : Outcome} {why : Refusal} → r ≡ earlyCheck table journal head state → r ≡ Refused why
-      → Gives r (flushCheck table journal head state) × (head ≡ flushHead table journal head state) × (table ≡ flushTable table journal head state) × (journal ≡ flushJournal table journal head state)
-  flush-refused {why = why} e d =
-      let f = early-refused table journal head state why (sym e ∙ d) in
-      (gives (d ∙ sym f), if-refused f _ _, if-refused f _ _, if-refused f _ _)
+  -- what is done with the table where a ground is met
+  pub turned-away : {g : Refusal} → flushCheck table journal head state ≡ Refused g → (NotWritten g ≡ flushSize table journal head state) × (table ≡ flushTable table journal head state)
+  turned-away e = (sym (ap (λ (o : Outcome). sizeOr o (length (mapHere table journal head state))) e), if-refused e _ _)
 
-  module _ (k : FlushStart table journal head state) {size : ℕ} {made : List ℕ} (es : size ≡ length (mapHere table journal head state)) (em : made ≡ tableAt table journal head state) where
-    pub flush-full : length table < size
-        → Gives (Refused TableFull) (flushCheck table journal head state) × (head ≡ flushHead table journal head state) × (made ≡ flushTable table journal head state) × (journal ≡ flushJournal table journal head state)
-    flush-full h =
+  -- and where none is met but perhaps ground 16
+  module _ (h : HeldState table journal head state) {size : ℕ} {made : List ℕ} (es : size ≡ length (mapHere table journal head state)) (em : made ≡ tableAt table journal head state) where
+    but-room : flushCheck table journal head state ≡ first (met (ltb (length table) (length (mapHere table journal head state))) TableFull ∷ [])
+    but-room =
+        first-not _ _ _ (ap not (h .lengths))
+        ∙ first-not _ _ _ (ap not (h .sound))
+        ∙ first-not _ _ _ (le-ltb state (head .checkpoint) (h .low))
+        ∙ first-not _ _ _ (le-ltb (head .tip) state (h .high))
+
+    pub no-room : length table < size → (NotWritten TableFull ≡ flushSize table journal head state) × (made ≡ flushTable table journal head state)
+    no-room l =
         let full : length table < length (mapHere table journal head state) = omega arith in
-        let e = full-refused table journal head state (k .passed) full in
-        (gives (sym e), if-refused e _ _, em ∙ sym (table-stays full) ∙ if-refused e _ _, if-refused e _ _)
+        let t = turned-away (but-room ∙ first-met _ _ _ (lt-ltb (length table) (length (mapHere table journal head state)) full)) in
+        (t .0, em ∙ sym (table-stays full) ∙ t .1)
 
-    pub flush-done : size ≤ length table → {next end : Head} {left : List ℕ} → next ≡ flushedHead head size state → end ≡ trimmedHead next → left ≡ trimmedJournal next journal
-        → Gives Done (flushCheck table journal head state) × (end ≡ flushHead table journal head state) × (made ≡ flushTable table journal head state) × (left ≡ flushJournal table journal head state)
-    flush-done h n t l =
+    pub room : size ≤ length table → (Count size ≡ flushSize table journal head state) × (made ≡ flushTable table journal head state)
+    room l =
         let fits : length (mapHere table journal head state) ≤ length table = omega arith in
-        let e = room-done table journal head state (k .passed) fits in
-        let is = n ∙ ap (λ (u : ℕ). flushedHead head u state) es in
-        (gives (sym e), if-done e _ _ (t ∙ ap trimmedHead is), if-done e _ _ (em ∙ table-moves fits), if-done e _ _ (l ∙ ap (λ (x : Head). trimmedJournal x journal) is))
+        let e = but-room ∙ first-not _ _ _ (le-ltb (length table) (length (mapHere table journal head state)) fits) ∙ none-met in
+        (ap Count es ∙ sym (ap (λ (o : Outcome). sizeOr o (length (mapHere table journal head state))) e), if-done e _ _ (em ∙ table-moves fits))
+
+  -- what a flush gives back: where it is turned away all as it came, where it is accepted what it made
+  pub flush-refused : {g : Refusal} → flushCheck table journal head state ≡ Refused g
+      → Gives (Refused g) (flushCheck table journal head state) × (head ≡ flushHead table journal head state) × (journal ≡ flushJournal table journal head state)
+  flush-refused e = (gives (sym e), if-refused e _ _, if-refused e _ _)
+
+  pub flush-done : {size : ℕ} → flushCheck table journal head state ≡ Done → size ≡ length (mapHere table journal head state) → {next end : Head} {left : List ℕ}
+      → next ≡ flushedHead head size state → end ≡ trimmedHead next → left ≡ trimmedJournal next journal
+      → Gives Done (flushCheck table journal head state) × (end ≡ flushHead table journal head state) × (left ≡ flushJournal table journal head state)
+  flush-done e es n t l =
+      let is = n ∙ ap (λ (u : ℕ). flushedHead head u state) es in
+      (gives (sym e), if-done e _ _ (t ∙ ap trimmedHead is), if-done e _ _ (l ∙ ap (λ (x : Head). trimmedJournal x journal) is))
 
 -- a flush
 pub record FlushOk (table journal : List ℕ) (head : Head) (state : ℕ) : Type 0 where
@@ -149,6 +133,11 @@ zeros-join l used m n e h z =
     ∙ append-assoc m (replicate (used - n) 0) (replicate (length l - max used n) 0)
     ∙ ap (λ (r : List ℕ). m ++ r) (replicate-append-replicate (used - n) (length l - max used n) 0 ∙ ap (λ (k : ℕ). replicate k 0) zeros)
 
+-- a list with no word
+nothing-in : (l : List ℕ) → length l ≤ 0 → l ≡ []
+nothing-in [] h = refl
+nothing-in (x ∷ l) h = absurd (omega arith)
+
 module _ {table journal : List ℕ} {head : Head} {state : ℕ} (ok : StateFacts table journal head state) where
   -- the map at the state, written to the table
   module _ {size : ℕ} (map : List ℕ) (es : size ≡ length (mapHere table journal head state)) (em : take size map ≡ mapHere table journal head state) where
@@ -164,18 +153,17 @@ module _ {table journal : List ℕ} {head : Head} {state : ℕ} (ok : StateFacts
         ∙ zeros-join table (head .used) (mapHere table journal head state) (length (mapHere table journal head state)) refl (ok .sound .used-in, fits) (ok .sound .table-zeros)
         ∙ sym (table-moves table journal head state fits)
 
-  -- at the checkpoint the table has that map already
-  module _ (e : state ≡ head .checkpoint) where
-    no-steps : apply (take (head .used) table) (composeAll []) ≡ take (head .used) table
-    unfolding composeAll
-    no-steps = apply-zero (take (head .used) table) (ok .sound .map)
+  -- where the steps to the state have no words, the table has that map already
+  module _ (p : Shaped head) (e : startOf (head .ends) (stepIndex head (head .checkpoint)) ≡ startOf (head .ends) (stepIndex head state)) where
+    no-changes : composeAll (stepsBetween journal head (head .checkpoint) state) ≡ []
+    no-changes =
+        let m = sound-marked table journal head p (ok .sound) in
+        let sum : stepIndex head (head .checkpoint) + (stepIndex head state - stepIndex head (head .checkpoint)) ≡ stepIndex head state = omega (arith, ok .low) in
+        let few = run-length journal (head .ends) _ m (stepIndex head state - stepIndex head (head .checkpoint)) (stepIndex head (head .checkpoint)) (omega (arith, ok .low, ok .high)) in
+        nothing-in (composeAll (stepsBetween journal head (head .checkpoint) state)) (omega (arith, few, ap (startOf (head .ends)) sum, e))
 
     map-here : mapHere table journal head state ≡ take (head .used) table
-    map-here =
-        let none : stepIndex head state - stepIndex head (head .checkpoint) ≡ 0 = omega arith in
-        ap (λ (n : ℕ). apply (take (head .used) table) (composeAll (runOf journal (head .ends) (stepIndex head (head .checkpoint)) n))) none
-        ∙ ap (λ (ds : List (List ℕ)). apply (take (head .used) table) (composeAll ds)) (run-none journal (head .ends) (stepIndex head (head .checkpoint)))
-        ∙ no-steps
+    map-here = ap (apply (take (head .used) table)) no-changes ∙ apply-zero (take (head .used) table) (ok .sound .map)
 
     pub size-here : head .used ≡ length (mapHere table journal head state)
     size-here = sym (ap length map-here ∙ used-long (ok .sound))
@@ -190,7 +178,7 @@ module _ {table journal : List ℕ} {head : Head} {state : ℕ} (ok : StateFacts
         ∙ ap (padded (length table)) (sym map-here)
         ∙ sym (table-moves table journal head state fits)
 
-module _ {table journal : List ℕ} {head : Head} {state : ℕ} (p : Shaped head) (ok : StateFacts table journal head state) where
+module _ {table journal : List ℕ} {head : Head} {state : ℕ} (p : Shaped head) (ok : FlushOk table journal head state) where
   -- the floor of the flushed head does not fall, and its steps can be trimmed
   pub flushed-trimmable : (used : ℕ) → Trimmable journal (flushedHead head used state)
   unfolding flushedHead

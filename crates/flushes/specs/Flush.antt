@@ -7,23 +7,16 @@ use Prim.Native.Nat.{ℕ}
 use lib.Dec.{ltb}
 use lib.ListN.{length}
 use Rattle.grounds.specs.declared.Outcome.{Outcome}
+use Rattle.grounds.specs.declared.Outcome.the-variants.{Done, Refused}
 use Rattle.grounds.specs.declared.Refusal.the-variants.{Lengths, Unsound, StateRange, TableFull}
+use Rattle.grounds.specs.declared.Written.{Written}
+use Rattle.grounds.specs.declared.Written.the-variants.{Count, Refused as NotWritten}
 use Rattle.grounds.specs.First.{met, first, ifDone}
 use Rattle.layout.specs.declared.head.Head.{Head}
 use Rattle.layout.specs.Sound.{lengthsB, soundB}
 use Rattle.views.specs.States.{mapHere}
 use Rattle.views.specs.Trim.{trimmedHead, trimmedJournal}
 use Rattle.views.specs.View.{padded}
-
--- those of the grounds of a flush that are checked before the map is worked out
-abbrev pub earlyCheck : List ℕ → List ℕ → Head → ℕ → Outcome
-earlyCheck table journal head state =
-    first
-    (met (not (lengthsB (length table) (length journal))) Lengths
-    ∷ met (not (soundB table journal head)) Unsound
-    ∷ met (ltb state (head .checkpoint)) StateRange
-    ∷ met (ltb (head .tip) state) StateRange
-    ∷ [])
 
 -- grounds 1, 2, 11 ("below the anchor or above the tip"), 16 ("The map to be flushed or loaded has more offers than the book has
 -- words"): only the map at the state named counts, not those on the way to it
@@ -36,6 +29,14 @@ flushCheck table journal head state =
     ∷ met (ltb (head .tip) state) StateRange
     ∷ met (ltb (length table) (length (mapHere table journal head state))) TableFull
     ∷ [])
+
+-- the words that the table uses after a flush, or the ground that turns it away
+abbrev pub sizeOr : Outcome → ℕ → Written
+sizeOr Done size = Count size
+sizeOr (Refused ground) size = NotWritten ground
+
+abbrev pub flushSize : List ℕ → List ℕ → Head → ℕ → Written
+flushSize table journal head state = sizeOr (flushCheck table journal head state) (length (mapHere table journal head state))
 
 -- "and s the anchor": the head whose table holds the state in so many words; its floor may lie too low
 unfoldable pub flushedHead : Head → ℕ → ℕ → Head
