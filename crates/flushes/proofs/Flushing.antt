@@ -1,21 +1,23 @@
 -- What a flush knows of its memory when the map is worked out and when it is accepted, and what it leaves.
 -- Assumes nothing.
 use mathlib.Core.Path.{_≡_, refl, sym, ap, _∙_}
-use mathlib.Core.Bool.{true, not}
+use mathlib.Core.Bool.{Bool, true, not, cond}
 use mathlib.Core.List.{List, [], _∷_, _++_, append-assoc}
 use Prim.Native.Nat.{ℕ, _+_, _-_, _≤_, _<_, max}
+use native.Mathlib.Decide.{decLt}
 use native.Mathlib.Omega.{arith}
 use borrow.Author.Tests.{ltb-false, lt-ltb, le-ltb, not-false}
 use lib.Dec.{ltb}
-use lib.ListN.{length, take, drop, replicate, length-drop, replicate-append-replicate, take-append-drop}
+use lib.ListN.{length, take, drop, replicate, length-drop, length-take, replicate-append-replicate, take-append-drop}
 use lib.Seq.{drop-drop}
 use Rattle.changes.specs.Calculus.{composeAll, apply}
 use Rattle.changes.specs.Runs.{startOf}
 use Rattle.changes.proofs.Laws.{apply-zero}
-use Rattle.changes.proofs.Running.{run-length}
+use Rattle.changes.proofs.Running.{marked-fewer, run-length}
 use Rattle.words.proofs.Parts.{zeros-from}
 use Rattle.grounds.specs.declared.Outcome.{Outcome}
 use Rattle.grounds.specs.declared.Outcome.the-variants.{Done, Refused}
+use Rattle.grounds.specs.declared.Written.{Written}
 use Rattle.grounds.specs.declared.Written.the-variants.{Count, Refused as NotWritten}
 use Rattle.grounds.specs.declared.Refusal.{Refusal}
 use Rattle.grounds.specs.declared.Refusal.the-variants.{TableFull}
@@ -32,7 +34,7 @@ use Rattle.views.specs.View.{padded, Shaped}
 use Rattle.views.proofs.SlotLists.{least-up-to, least-later}
 use Rattle.views.proofs.SoundFacts.{used-long}
 use Rattle.views.proofs.Sounds.{Sound, sound-facts, sound-marked}
-use Rattle.state_maps.specs.Held.{HeldState}
+use Rattle.state_maps.specs.Held.{HeldState, MapRoom, wordsTo}
 use Rattle.state_maps.proofs.Working.{StateFacts}
 use Rattle.flushes.specs.Flush.{flushCheck, sizeOr, flushSize, tableAt, flushHead, flushTable, flushJournal, flushedHead}
 
@@ -77,6 +79,14 @@ module _ (table journal : List ℕ) (head : Head) (state : ℕ) where
         let fits : length (mapHere table journal head state) ≤ length table = omega arith in
         let e = but-room ∙ first-not _ _ _ (le-ltb (length table) (length (mapHere table journal head state)) fits) ∙ none-met in
         (ap Count es ∙ sym (ap (λ (o : Outcome). sizeOr o (length (mapHere table journal head state))) e), if-done e _ _ (em ∙ table-moves fits))
+
+    pub sized : {made-long : ℕ} {r : Written} → made-long ≡ length table → r ≡ cond (ltb made-long size) (NotWritten TableFull) (Count size)
+        → (r ≡ flushSize table journal head state) × (made ≡ flushTable table journal head state)
+    sized {made-long} {r} el er = go (decLt (length table) size)
+      where
+        go : Dec (length table < size) → (r ≡ flushSize table journal head state) × (made ≡ flushTable table journal head state)
+        go (yes l) = let t = no-room l in (er ∙ ap (λ (b : Bool). cond b (NotWritten TableFull) (Count size)) (lt-ltb made-long size (omega arith)) ∙ t .0, t .1)
+        go (no l) = let t = room (omega arith) in (er ∙ ap (λ (b : Bool). cond b (NotWritten TableFull) (Count size)) (le-ltb made-long size (omega arith)) ∙ t .0, t .1)
 
   -- what a flush gives back: where it is turned away all as it came, where it is accepted what it made
   pub flush-refused : {g : Refusal} → flushCheck table journal head state ≡ Refused g
@@ -144,6 +154,9 @@ module _ {table journal : List ℕ} {head : Head} {state : ℕ} (ok : StateFacts
     pub map-long : size ≡ length (take size map)
     map-long = es ∙ ap length (sym em)
 
+    pub map-in : size ≤ length map
+    map-in = omega (arith, map-long, length-take size map)
+
     pub table-is : size ≤ length table → {last : List ℕ} → last ≡ take size map ++ replicate (head .used - length (take size map)) 0 ++ drop (max (head .used) (length (take size map))) table
         → last ≡ tableAt table journal head state
     table-is h el =
@@ -153,8 +166,19 @@ module _ {table journal : List ℕ} {head : Head} {state : ℕ} (ok : StateFacts
         ∙ zeros-join table (head .used) (mapHere table journal head state) (length (mapHere table journal head state)) refl (ok .sound .used-in, fits) (ok .sound .table-zeros)
         ∙ sym (table-moves table journal head state fits)
 
+  -- what the steps to the state have of words
+  module _ (p : Shaped head) where
+    pub starts-rise : startOf (head .ends) (stepIndex head (head .checkpoint)) ≤ startOf (head .ends) (stepIndex head state)
+    starts-rise = sound-marked table journal head p (ok .sound) .rises (stepIndex head (head .checkpoint)) (stepIndex head state) (omega (arith, ok .low)) (omega (arith, ok .high))
+
+    pub most-room : MapRoom head state 4096 12096
+    most-room =
+        let m = marked-fewer (sound-marked table journal head p (ok .sound)) (stepIndex head state) (omega (arith, ok .high)) in
+        let few : wordsTo head state ≤ 4096 = omega (arith, m .inside, ok .range .journal-most) in
+        record { changes-room = few; map-room = omega (arith, few, ok .sound .used-in, ok .range .table-most) }
+
   -- where the steps to the state have no words, the table has that map already
-  module _ (p : Shaped head) (e : startOf (head .ends) (stepIndex head (head .checkpoint)) ≡ startOf (head .ends) (stepIndex head state)) where
+  module _ (p : Shaped head) (e : wordsTo head state ≡ 0) where
     no-changes : composeAll (stepsBetween journal head (head .checkpoint) state) ≡ []
     no-changes =
         let m = sound-marked table journal head p (ok .sound) in

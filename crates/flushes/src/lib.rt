@@ -4,6 +4,7 @@ use grounds::Outcome;
 use grounds::Refusal;
 use grounds::Written;
 use layout::head::Head;
+use layout::head::JOURNAL_WORDS;
 use layout::head::MAP_WORDS;
 use layout::head::Stored;
 use layout::sound::end_of;
@@ -12,39 +13,93 @@ use layout::sound::lengths_fit;
 use state_maps::map_at;
 use table::replace;
 use views::trim::trim;
+ghost use mathlib.Core.Bool.{cond, _&&_};
 ghost use mathlib.Core.Path.{_≡_};
 ghost use Prim.Native.Nat.{_+_, _≤_};
-ghost use lib.Dec.{eqb};
+ghost use lib.Dec.{leb, ltb};
 ghost use lib.ListN.{length};
 ghost use Rattle.changes.specs.Runs.{startOf};
+ghost use Rattle.grounds.specs.declared.Refusal.the-variants.{TableFull};
+ghost use Rattle.grounds.specs.declared.Written.the-variants.{Count, Refused as NotWritten};
 ghost use Rattle.grounds.specs.Numbers.{Gives};
 ghost use Rattle.views.specs.States.{stepIndex, mapHere};
-ghost use Rattle.state_maps.specs.Held.{HeldState};
+ghost use Rattle.state_maps.specs.Held.{HeldState, MapRoom, wordsTo};
 ghost use Rattle.flushes.specs.Flush.{flushCheck, flushSize, flushedHead, tableAt, flushTable, flushHead, flushJournal};
 
-// Whether the steps from the checkpoint to a state have no words.
-fn has_no_words(head: Head, state: u32) -> bool
-    requires { ⌜ (head .oldest ≤ head .checkpoint) × (head .checkpoint ≤ state) × (state ≤ head .oldest + 64) ⌝ }
-    ensures { λ r. ⌜ r ≡ eqb (startOf (head .ends) (stepIndex head (head .checkpoint))) (startOf (head .ends) (stepIndex head state)) ⌝ }
+// The words of the table and of the steps up to which a flush has smaller buffers.
+const FEW_USED: usize = 512;
+
+const FEW_WORDS: usize = 512;
+
+// How many words the steps from the checkpoint to a state have.
+fn words_to(head: Head, state: u32) -> usize
+    requires { ⌜ (head .oldest ≤ head .checkpoint) × (head .checkpoint ≤ state) × (state ≤ head .oldest + 64) × (startOf (head .ends) (stepIndex head (head .checkpoint)) ≤ startOf (head .ends) (stepIndex head state)) ⌝ }
+    ensures { λ r. ⌜ r ≡ wordsTo head state ⌝ }
 {
     let from = (head.checkpoint - head.oldest) as usize;
     let to = (state - head.oldest) as usize;
-    end_of(&head.ends, from) == end_of(&head.ends, to)
+    end_of(&head.ends, to) - end_of(&head.ends, from)
 }
 
-// Makes the table the map at a state, if it has room for it, and gives the size of that map. The map is worked out in a
+// Makes the table the map at a state, if it has room for it, and gives the size of that map. The map is worked out in the
 // buffer before any store, and each word of the table is stored once.
-fn move_table(table: &mut [u64], journal: &[u64], head: Head, state: u32) -> usize
-    requires { ⌜ HeldState (now table) (now journal) head state ⌝ }
+fn move_table(
+    table: &mut [u64],
+    journal: &[u64],
+    head: Head,
+    state: u32,
+    changes: &mut [u64],
+    map: &mut [u64],
+) -> usize
+    requires { ⌜ HeldState (now table) (now journal) head state × MapRoom head state (length (now changes)) (length (now map)) ⌝ }
     ensures { λ r. ⌜ (r ≡ length (mapHere (now (table .entry)) (now (journal .entry)) head state)) × (now (table .exit) ≡ tableAt (now (table .entry)) (now (journal .entry)) head state) ⌝ }
 {
-    let mut map = [0u64; MAP_WORDS];
-    let size = map_at(table, journal, head, state, &mut map);
+    let size = map_at(table, journal, head, state, changes, map);
     if size > table.len() {
         return size;
     }
     replace(table, head.used, &map[..size]);
     size
+}
+
+// The same with buffers of its own, for few words.
+fn move_few(table: &mut [u64], journal: &[u64], head: Head, state: u32) -> usize
+    requires { ⌜ HeldState (now table) (now journal) head state × (head .used ≤ 512) × (wordsTo head state ≤ 512) ⌝ }
+    ensures { λ r. ⌜ (r ≡ length (mapHere (now (table .entry)) (now (journal .entry)) head state)) × (now (table .exit) ≡ tableAt (now (table .entry)) (now (journal .entry)) head state) ⌝ }
+{
+    let mut changes = [0u64; FEW_WORDS];
+    let mut map = [0u64; FEW_USED + FEW_WORDS];
+    move_table(table, journal, head, state, &mut changes, &mut map)
+}
+
+// The same for all that a store can hold.
+fn move_many(table: &mut [u64], journal: &[u64], head: Head, state: u32) -> usize
+    requires { ⌜ HeldState (now table) (now journal) head state ⌝ }
+    ensures { λ r. ⌜ (r ≡ length (mapHere (now (table .entry)) (now (journal .entry)) head state)) × (now (table .exit) ≡ tableAt (now (table .entry)) (now (journal .entry)) head state) ⌝ }
+{
+    let mut changes = [0u64; JOURNAL_WORDS];
+    let mut map = [0u64; MAP_WORDS];
+    move_table(table, journal, head, state, &mut changes, &mut map)
+}
+
+// Whether table and steps have few words.
+fn are_few(used: usize, words: usize) -> bool
+    ensures { λ r. ⌜ r ≡ leb used 512 && leb words 512 ⌝ }
+{
+    if FEW_USED < used {
+        return false;
+    }
+    words <= FEW_WORDS
+}
+
+// The size of a map, or ground 16 where a table of so many words has no room for it.
+fn size_if_room(room: usize, size: usize) -> Written
+    ensures { λ r. ⌜ r ≡ cond (ltb room size) (NotWritten TableFull) (Count size) ⌝ }
+{
+    if room < size {
+        return Written::Refused(Refusal::TableFull);
+    }
+    Written::Count(size)
 }
 
 // What a flush does with the table: the words that it uses then, or the ground that turns the flush away. Where no step has a
@@ -64,17 +119,16 @@ fn flush_table(table: &mut [u64], journal: &[u64], head: Head, state: u32) -> Wr
     if head.tip < state {
         return Written::Refused(Refusal::StateRange);
     }
-    if state == head.checkpoint {
+    let words = words_to(head, state);
+    if words == 0 {
         return Written::Count(head.used);
     }
-    if has_no_words(head, state) {
-        return Written::Count(head.used);
+    if are_few(head.used, words) {
+        let size = move_few(table, journal, head, state);
+        return size_if_room(table.len(), size);
     }
-    let size = move_table(table, journal, head, state);
-    if table.len() < size {
-        return Written::Refused(Refusal::TableFull);
-    }
-    Written::Count(size)
+    let size = move_many(table, journal, head, state);
+    size_if_room(table.len(), size)
 }
 
 // The head whose table holds the state in so many words.

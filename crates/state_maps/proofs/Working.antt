@@ -2,13 +2,13 @@
 -- Assumes nothing.
 use mathlib.Core.Path.{_≡_, sym, ap, _∙_}
 use mathlib.Core.List.{List, _++_}
-use Prim.Native.Nat.{ℕ, _+_, _≤_}
+use Prim.Native.Nat.{ℕ, _+_, _-_, _≤_}
 use native.Mathlib.Omega.{arith}
 use lib.ListN.{length, take, drop, length-take}
 use lib.Seq.{length-take-le, take-at}
 use Rattle.changes.specs.Calculus.{apply}
-use Rattle.changes.specs.Runs.{runWords}
-use Rattle.changes.proofs.Running.{marked-fewer}
+use Rattle.changes.specs.Runs.{startOf}
+use Rattle.changes.proofs.Running.{marked-fewer, run-length}
 use Rattle.runs.specs.Composed.{RunRoom, Composed}
 use Rattle.layout.specs.declared.head.Head.{Head}
 use Rattle.layout.proofs.HeadTests.{InRange, lengths-facts}
@@ -16,7 +16,7 @@ use Rattle.views.specs.States.{stepIndex, mapHere}
 use Rattle.views.specs.View.{Shaped}
 use Rattle.views.proofs.SoundFacts.{used-long as used-words}
 use Rattle.views.proofs.Sounds.{Sound, sound-facts, sound-marked}
-use Rattle.state_maps.specs.Held.{HeldState}
+use Rattle.state_maps.specs.Held.{HeldState, MapRoom}
 
 -- the same facts of a held state, opened
 pub record StateFacts (table journal : List ℕ) (head : Head) (state : ℕ) : Type 0 where
@@ -35,11 +35,14 @@ module _ {table journal : List ℕ} {head : Head} {state : ℕ} (p : Shaped head
   used-long = sym (used-words (ok .sound))
 
   -- the buffers have room for the steps
-  pub run-room : (out spare : ℕ) → out ≡ 4096 → spare ≡ 12096 → RunRoom journal (head .ends) (stepIndex head (head .checkpoint)) (stepIndex head state) out spare
-  run-room out spare a b =
-      let m = marked-fewer (sound-marked table journal head p (ok .sound)) (stepIndex head state) (omega (arith, ok .high)) in
-      let few : runWords (head .ends) (stepIndex head (head .checkpoint)) (stepIndex head state) ≤ 4096 = omega (arith, m .inside, ok .range .journal-most) in
-      record { marked = m; order = omega (arith, ok .low); out-room = omega arith; spare-room = omega arith }
+  pub run-room : {out spare : ℕ} → MapRoom head state out spare → RunRoom journal (head .ends) (stepIndex head (head .checkpoint)) (stepIndex head state) out spare
+  run-room r =
+      record {
+        marked = marked-fewer (sound-marked table journal head p (ok .sound)) (stepIndex head state) (omega (arith, ok .high));
+        order = omega (arith, ok .low);
+        out-room = r .changes-room;
+        spare-room = omega (arith, r .map-room);
+      }
 
   -- the steps composed into a buffer
   module _ {changes₀ spare₀ changes spare : List ℕ} {n : ℕ} (c : Composed journal (head .ends) (stepIndex head (head .checkpoint)) (stepIndex head state) changes₀ spare₀ changes spare n) where
@@ -49,8 +52,12 @@ module _ {table journal : List ℕ} {head : Head} {state : ℕ} (p : Shaped head
     pub changes-long : n ≡ length (take n changes)
     changes-long = sym (length-take-le n changes count-in)
 
-    pub map-room : length changes ≡ 4096 → length spare ≡ 12096 → length (take (head .used) table) + length (take n changes) ≤ length spare
-    map-room l m = omega (arith, used-long, changes-long, count-in, ok .sound .used-in, ok .range .table-most)
+    pub has-room : {out room : ℕ} → MapRoom head state out room → length spare ≡ room → length (take (head .used) table) + length (take n changes) ≤ length spare
+    has-room r l =
+        let m = sound-marked table journal head p (ok .sound) in
+        let sum : stepIndex head (head .checkpoint) + (stepIndex head state - stepIndex head (head .checkpoint)) ≡ stepIndex head state = omega (arith, ok .low) in
+        let few = run-length journal (head .ends) _ m (stepIndex head state - stepIndex head (head .checkpoint)) (stepIndex head (head .checkpoint)) (omega (arith, ok .low, ok .high)) in
+        omega (arith, used-long, changes-long, c .size, few, ap (startOf (head .ends)) sum, r .map-room)
 
     -- and the map after them
     module _ (r : ℕ) (map : List ℕ) (er : r ≡ length (apply (take (head .used) table) (take n changes))) (em : map ≡ apply (take (head .used) table) (take n changes) ++ drop r spare) where

@@ -1,23 +1,28 @@
-// The map at a state that a store holds, worked out in memory of its own.
+// The map at a state that a store holds, worked out in lent memory.
 use layout::head::Head;
-use layout::head::JOURNAL_WORDS;
 use runs::compose_run;
 use table::apply;
 ghost use mathlib.Core.Path.{_≡_};
 ghost use lib.ListN.{length, take};
 ghost use Rattle.views.specs.States.{mapHere};
-ghost use Rattle.state_maps.specs.Held.{HeldState};
+ghost use Rattle.state_maps.specs.Held.{HeldState, MapRoom};
 
-// Writes the map at a state to the start of `map`, and gives its length; what the words behind it hold is left
-// to chance. The steps from the checkpoint to the state are composed first, so that the table's words are passed once.
-pub fn map_at(table: &[u64], journal: &[u64], head: Head, state: u32, map: &mut [u64]) -> usize
-    requires { ⌜ HeldState (now table) (now journal) head state × (length (now map) ≡ 12096) ⌝ }
+// Writes the map at a state to the start of `map`, and gives its length; what `changes` and the words behind the map hold
+// then is left to chance. The steps from the checkpoint to the state are composed first, so that the table's words are passed once.
+pub fn map_at(
+    table: &[u64],
+    journal: &[u64],
+    head: Head,
+    state: u32,
+    changes: &mut [u64],
+    map: &mut [u64],
+) -> usize
+    requires { ⌜ HeldState (now table) (now journal) head state × MapRoom head state (length (now changes)) (length (now map)) ⌝ }
     ensures { λ r. ⌜ (r ≡ length (mapHere (now (table .entry)) (now (journal .entry)) head state)) × (take r (now (map .exit)) ≡ mapHere (now (table .entry)) (now (journal .entry)) head state) ⌝ }
 {
-    let mut changes = [0u64; JOURNAL_WORDS];
     let used = head.used;
     let from = (head.checkpoint - head.oldest) as usize;
     let to = (state - head.oldest) as usize;
-    let count = compose_run(journal, &head.ends, from, to, &mut changes, map);
+    let count = compose_run(journal, &head.ends, from, to, changes, map);
     apply(&table[..used], &changes[..count], map)
 }

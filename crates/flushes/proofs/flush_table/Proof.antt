@@ -2,34 +2,34 @@
 -- Assumes nothing.
 use mathlib.Core.Bool.{Bool, not}
 use mathlib.Core.Path.{sym, ap, _∙_}
-use Prim.Native.Nat.{ℕ, _-_}
+use Prim.Native.Nat.{ℕ}
 use native.Mathlib.Omega.{arith}
 use borrow.Author.Needs.{needs, length-unmapped}
-use borrow.Author.Tests.{eqb-true, lt-ltb, le-ltb, not-false}
-use Rattle.changes.specs.Runs.{startOf}
+use borrow.Author.Tests.{lt-ltb, le-ltb, leb-true, not-false}
+use Rattle.changes.proofs.ListTest.{and-both}
 use Rattle.grounds.proofs.Firsts.{first-met, first-not}
 use Rattle.views.specs.View.{Shaped}
 use Rattle.views.proofs.SoundFacts.{shaped}
 use Rattle.state_maps.specs.Held.{HeldState}
 use Rattle.state_maps.proofs.Working.{state-facts}
-use Rattle.flushes.proofs.Flushing.{turned-away, no-room, room, size-here, table-here}
+use Rattle.flushes.proofs.Flushing.{turned-away, room, sized, starts-rise, size-here, table-here}
 use Rattle.flushes.proofs.flush_table.Statement.{statement}
 use Rattle.flushes.proofs.flush_table.Tie as tie
 
 -- what is known where the state is one that the store holds
-known : (d : tie.After-struct-known3) → HeldState (d .before .before .before .before .before .before .before .before .before .before .before .before .args .table .now) (d .before .before .before .before .before .before .before .before .before .before .before .before .args .journal .now) (d .before .before .before .before .before .before .before .before .before .before .before .before .args .head) (d .before .before .before .before .before .before .before .before .before .before .before .before .args .state)
+known : (d : tie.Else4) → HeldState (d .before .before .before .before .before .before .before .before .before .before .before .args .table .now) (d .before .before .before .before .before .before .before .before .before .before .before .args .journal .now) (d .before .before .before .before .before .before .before .before .before .before .before .args .head) (d .before .before .before .before .before .before .before .before .before .before .before .args .state)
 known d =
     record {
-      lengths = sym (d .before .before .before .before .before .before .before .before .before .lengths-fit .ensures) ∙ not-false _ (d .before .before .before .before .before .before .before .before .if1 .left);
-      sound = sym (d .before .before .before .before .before .before .is-sound .ensures) ∙ not-false _ (d .before .before .before .before .before .if2 .left);
-      low = d .before .before .before .if3 .left;
-      high = d .before .if4 .left;
+      lengths = sym (d .before .before .before .before .before .before .before .before .lengths-fit .ensures) ∙ not-false _ (d .before .before .before .before .before .before .before .if1 .left);
+      sound = sym (d .before .before .before .before .before .is-sound .ensures) ∙ not-false _ (d .before .before .before .before .if2 .left);
+      low = d .before .before .if3 .left;
+      high = d .if4 .left;
     }
 
 -- the shape of the head that is lent
-shape : (d : tie.After-struct-known3) → Shaped (d .before .before .before .before .before .before .before .before .before .before .before .before .args .head)
+shape : (d : tie.Else4) → Shaped (d .before .before .before .before .before .before .before .before .before .before .before .args .head)
 shape d =
-    let s = d .before .before .before .before .before .before .before .before .before .before .before .before in
+    let s = d .before .before .before .before .before .before .before .before .before .before .before in
     shaped (s .args .head)
     (length-unmapped Bool (s .args .head .held) 8 (s .good .1 .1 .0 .1 .1 .1 .1 .1 .1 .0 .1 .0 .1))
     (length-unmapped ℕ (s .args .head .issued) 8 (s .good .1 .1 .0 .1 .1 .1 .1 .1 .1 .1 .0 .1 .0 .1))
@@ -62,35 +62,41 @@ same-length-3 c = search needs
 returns-4 : tie.Need-returns-4
 returns-4 c = turned-away (c .before .before .before .before .before .before .before .before .before .before .before .args .table .now) (c .before .before .before .before .before .before .before .before .before .before .before .args .journal .now) (c .before .before .before .before .before .before .before .before .before .before .before .args .head) (c .before .before .before .before .before .before .before .before .before .before .before .args .state) (first-not _ _ _ (ap not (sym (c .before .before .before .before .before .before .before .before .lengths-fit .ensures)) ∙ (c .before .before .before .before .before .before .before .if1 .left)) ∙ first-not _ _ _ (ap not (sym (c .before .before .before .before .before .is-sound .ensures)) ∙ (c .before .before .before .before .if2 .left)) ∙ first-not _ _ _ (le-ltb (c .before .before .before .before .before .before .before .before .before .before .before .args .state) (c .before .before .before .before .before .before .before .before .before .before .before .args .head .checkpoint) (c .before .before .if3 .left)) ∙ first-met _ _ _ (lt-ltb (c .before .before .before .before .before .before .before .before .before .before .before .args .head .tip) (c .before .before .before .before .before .before .before .before .before .before .before .args .state) (c .if4 .taken)))
 
+words-to-requires : tie.Need-words-to-requires
+words-to-requires c κs = let k = state-facts (known (c)) in (k .sound .low, k .low, omega (arith, k .sound .low, k .sound .few, k .high), starts-rise k (shape (c)))
+
 same-length-4 : tie.Need-same-length-4
 same-length-4 c = search needs
 
 returns-5 : tie.Need-returns-5
-returns-5 c = let h = state-facts (known (c .before)) in let e = ap (λ (n : ℕ). startOf ((c .before .before .before .before .before .before .before .before .before .before .before .before .before .args .head .ends)) (n - ((c .before .before .before .before .before .before .before .before .before .before .before .before .before .args .head .oldest)))) (sym (c .if5 .taken)) in room (c .before .before .before .before .before .before .before .before .before .before .before .before .before .args .table .now) (c .before .before .before .before .before .before .before .before .before .before .before .before .before .args .journal .now) (c .before .before .before .before .before .before .before .before .before .before .before .before .before .args .head) (c .before .before .before .before .before .before .before .before .before .before .before .before .before .args .state) (known (c .before)) (size-here h (shape (c .before)) e) (table-here h (shape (c .before)) e) (h .sound .used-in)
+returns-5 c = let k = state-facts (known (c .before .before)) in let e = sym (c .before .words-to .ensures) ∙ (c .if5 .taken) in room (c .before .before .before .before .before .before .before .before .before .before .before .before .before .args .table .now) (c .before .before .before .before .before .before .before .before .before .before .before .before .before .args .journal .now) (c .before .before .before .before .before .before .before .before .before .before .before .before .before .args .head) (c .before .before .before .before .before .before .before .before .before .before .before .before .before .args .state) (known (c .before .before)) (size-here k (shape (c .before .before)) e) (table-here k (shape (c .before .before)) e) (k .sound .used-in)
 
-has-no-words-requires : tie.Need-has-no-words-requires
-has-no-words-requires c κs = let k = state-facts (known (c .before)) in (k .sound .low, k .low, omega (arith, k .sound .low, k .sound .few, k .high))
+are-few-requires : tie.Need-are-few-requires
+are-few-requires c κs = search needs
+
+move-few-requires : tie.Need-move-few-requires
+move-few-requires c κs = let f = and-both _ _ (sym (c .before .before .are-few .ensures) ∙ (c .before .if6 .taken)) in (known (c .before .before .before .before .before), leb-true _ _ (f .0), omega (arith, leb-true ((c .before .before .before .before .words-to .result)) 512 (f .1), (c .before .before .before .before .words-to .ensures)))
+
+size-if-room-requires : tie.Need-size-if-room-requires
+size-if-room-requires c κs = search needs
 
 same-length-5 : tie.Need-same-length-5
 same-length-5 c = search needs
 
 returns-6 : tie.Need-returns-6
-returns-6 c = let h = state-facts (known (c .before .before .before)) in let e = eqb-true _ _ (sym (c .before .has-no-words .ensures) ∙ (c .if6 .taken)) in room (c .before .before .before .before .before .before .before .before .before .before .before .before .before .before .before .args .table .now) (c .before .before .before .before .before .before .before .before .before .before .before .before .before .before .before .args .journal .now) (c .before .before .before .before .before .before .before .before .before .before .before .before .before .before .before .args .head) (c .before .before .before .before .before .before .before .before .before .before .before .before .before .before .before .args .state) (known (c .before .before .before)) (size-here h (shape (c .before .before .before)) e) (table-here h (shape (c .before .before .before)) e) (h .sound .used-in)
+returns-6 c = sized (c .before .before .before .before .before .before .before .before .before .before .before .before .before .before .before .before .before .before .before .before .args .table .now) (c .before .before .before .before .before .before .before .before .before .before .before .before .before .before .before .before .before .before .before .before .args .journal .now) (c .before .before .before .before .before .before .before .before .before .before .before .before .before .before .before .before .before .before .before .before .args .head) (c .before .before .before .before .before .before .before .before .before .before .before .before .before .before .before .before .before .before .before .before .args .state) (known (c .before .before .before .before .before .before .before .before .before)) (c .before .before .before .move-few .ensures .0) (c .before .before .before .move-few .ensures .1) (c .before .before .table .given) (c .size-if-room .ensures)
 
-move-table-requires : tie.Need-move-table-requires
-move-table-requires c κs = known (c .before .before .before .before)
+move-many-requires : tie.Need-move-many-requires
+move-many-requires c κs = known (c .before .before .before .before .before)
+
+size-if-room-requires-2 : tie.Need-size-if-room-requires-2
+size-if-room-requires-2 c κs = search needs
 
 same-length-6 : tie.Need-same-length-6
 same-length-6 c = search needs
 
 returns-7 : tie.Need-returns-7
-returns-7 c = no-room (c .before .before .before .before .before .before .before .before .before .before .before .before .before .before .before .before .before .before .before .before .args .table .now) (c .before .before .before .before .before .before .before .before .before .before .before .before .before .before .before .before .before .before .before .before .args .journal .now) (c .before .before .before .before .before .before .before .before .before .before .before .before .before .before .before .before .before .before .before .before .args .head) (c .before .before .before .before .before .before .before .before .before .before .before .before .before .before .before .before .before .before .before .before .args .state) (known (c .before .before .before .before .before .before .before .before)) (c .before .before .before .move-table .ensures .0) (c .before .before .before .move-table .ensures .1) (omega arith)
-
-same-length-7 : tie.Need-same-length-7
-same-length-7 c = search needs
-
-returns-8 : tie.Need-returns-8
-returns-8 c = room (c .before .before .before .before .before .before .before .before .before .before .before .before .before .before .before .before .before .before .before .before .args .table .now) (c .before .before .before .before .before .before .before .before .before .before .before .before .before .before .before .before .before .before .before .before .args .journal .now) (c .before .before .before .before .before .before .before .before .before .before .before .before .before .before .before .before .before .before .before .before .args .head) (c .before .before .before .before .before .before .before .before .before .before .before .before .before .before .before .before .before .before .before .before .args .state) (known (c .before .before .before .before .before .before .before .before)) (c .before .before .before .move-table .ensures .0) (c .before .before .before .move-table .ensures .1) (omega arith)
+returns-7 c = sized (c .before .before .before .before .before .before .before .before .before .before .before .before .before .before .before .before .before .before .before .before .args .table .now) (c .before .before .before .before .before .before .before .before .before .before .before .before .before .before .before .before .before .before .before .before .args .journal .now) (c .before .before .before .before .before .before .before .before .before .before .before .before .before .before .before .before .before .before .before .before .args .head) (c .before .before .before .before .before .before .before .before .before .before .before .before .before .before .before .before .before .before .before .before .args .state) (known (c .before .before .before .before .before .before .before .before .before)) (c .before .before .before .move-many .ensures .0) (c .before .before .before .move-many .ensures .1) (c .before .before .table2 .given) (c .size-if-room2 .ensures)
 
 pub flush-table-spec : {M : Type 1} → statement M
 flush-table-spec =
@@ -105,13 +111,15 @@ flush-table-spec =
     returns-3
     same-length-3
     returns-4
+    words-to-requires
     same-length-4
     returns-5
-    has-no-words-requires
+    are-few-requires
+    move-few-requires
+    size-if-room-requires
     same-length-5
     returns-6
-    move-table-requires
+    move-many-requires
+    size-if-room-requires-2
     same-length-6
-    returns-7
-    same-length-7
-    returns-8)
+    returns-7)
