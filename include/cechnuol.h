@@ -22,6 +22,8 @@
  * it, on CECHNUOL_OK only.
  *
  * A head or a tally of another length, and head words that do not fit their fields, are ground 2, after ground 1.
+ *
+ * Stack. A flush needs up to 160 KiB of it, whatever it is lent; any other call less than 32 KiB.
  */
 #ifndef CECHNUOL_H
 #define CECHNUOL_H

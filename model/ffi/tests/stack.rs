@@ -1,0 +1,61 @@
+//! The calls on the fullest store that document 01 allows, on the stack that include/cechnuol.h asks for.
+
+use ffi::{price_batch, Lent};
+use model::word::entry;
+use std::thread;
+
+/// What the header says that a flush and any other call need at most, and what a thread has beside it for itself and for the test.
+const FLUSH: usize = 160 << 10;
+const OTHERS: usize = 32 << 10;
+const REST: usize = 16 << 10;
+
+/// A table of 8,000 offers, all even, and 64 steps of 64 entries: new offers, which the table has no room for, or old ones.
+fn full(new: bool) -> Lent {
+    let mut lent = Lent::of_lengths(8000, 4096);
+    let words: Vec<u64> = (0..8000).map(|k| entry(2 * k, Some(k))).collect();
+    let mut image = vec![0, 0, 0, 0];
+    image.extend(8000u16.to_be_bytes());
+    image.extend(words.iter().flat_map(|word| word.to_be_bytes()));
+    assert_eq!(lent.load(&mut image), 0);
+    for step in 0..64 {
+        let mut list: Vec<u64> = (0..64).map(|k| entry(2 * (64 * k + step) + u32::from(new), Some(k))).collect();
+        assert_eq!(lent.commit(&mut list), 0);
+    }
+    lent
+}
+
+fn with_stack(size: usize, calls: impl FnOnce() + Send + 'static) {
+    thread::Builder::new().stack_size(size + REST).spawn(calls).unwrap().join().unwrap();
+}
+
+#[test]
+fn a_flush_of_everything() {
+    let mut lent = full(false);
+    with_stack(FLUSH, move || {
+        assert_eq!(lent.flush(64), 0);
+        assert_eq!(lent.head[0], 8000);
+    });
+    let mut lent = full(true);
+    with_stack(FLUSH, move || assert_eq!(lent.flush(64), 16));
+}
+
+#[test]
+fn every_other_call() {
+    let mut lent = full(false);
+    let mut bytes = vec![0; 64_006];
+    with_stack(OTHERS, move || {
+        let mut value = 0;
+        let mut reads: Vec<u64> = (0..64).map(|k| entry(2 * k, None)).collect();
+        assert_eq!(lent.issue(7, &mut reads), 0);
+        assert_eq!(lent.look_up(2, 64, &mut value), 0);
+        assert_eq!(lent.commit(&mut []), 13);
+        assert_eq!(lent.forward(7, 64, &mut reads), 0);
+        assert_eq!(price_batch(&reads, &[], &mut [], &mut value), 0);
+        assert_eq!(lent.release(7), 5);
+        assert_eq!(lent.roll_back(32), 0);
+        assert_eq!(lent.write_image(&mut bytes, &mut value), 0);
+        assert_eq!(lent.restart(&mut bytes), 0);
+        assert_eq!(lent.load(&mut bytes), 0);
+        assert_eq!(lent.clear(), 0);
+    });
+}
