@@ -6,6 +6,7 @@ use mathlib.Core.List.{List, [], _∷_}
 use Prim.Native.Nat.{ℕ, _+_, _≤_, _<_}
 use native.Mathlib.Omega.{arith}
 use lib.ListN.{length, getD, drop, drop-of-length-le}
+use Rattle.changes.proofs.ListTest.{and-both}
 use Rattle.words.proofs.Parts.{next}
 use Rattle.batch.specs.Tests.{allB}
 
@@ -27,13 +28,9 @@ module _ (test : ℕ → Bool) where
   all-more o os e = rw e
 
   -- a test that holds of all holds of the first and of the rest
-  first : (a b : Bool) → a && b ≡ true → a ≡ true
-  first true b e = refl
-  first false b e = e
-
   pub all-first : (o : ℕ) (os : List ℕ) → allB test (o ∷ os) ≡ true → test o ≡ true
   unfolding allB
-  all-first o os e = first (test o) (allB test os) e
+  all-first o os e = and-both (test o) (allB test os) e .0
 
   pub all-rest : (o : ℕ) (os : List ℕ) → allB test (o ∷ os) ≡ true → allB test os ≡ true
   all-rest o os e = sym (all-more o os (all-first o os e)) ∙ e

@@ -13,7 +13,7 @@ use lib.Seq.{drop-drop}
 use Rattle.changes.specs.Calculus.{composeAll, apply}
 use Rattle.changes.specs.Runs.{startOf}
 use Rattle.changes.proofs.Laws.{apply-zero}
-use Rattle.changes.proofs.Running.{marked-fewer, run-length}
+use Rattle.changes.proofs.Running.{marked-fewer}
 use Rattle.words.proofs.Parts.{zeros-from}
 use Rattle.grounds.specs.declared.Outcome.{Outcome}
 use Rattle.grounds.specs.declared.Outcome.the-variants.{Done, Refused}
@@ -35,7 +35,7 @@ use Rattle.views.proofs.SlotLists.{least-up-to, least-later}
 use Rattle.views.proofs.SoundFacts.{used-long}
 use Rattle.views.proofs.Sounds.{Sound, sound-facts, sound-marked}
 use Rattle.state_maps.specs.Held.{HeldState, MapRoom, wordsTo}
-use Rattle.state_maps.proofs.Working.{StateFacts}
+use Rattle.state_maps.proofs.Working.{StateFacts, run-few}
 use Rattle.flushes.specs.Flush.{flushCheck, sizeOr, flushSize, tableAt, flushHead, flushTable, flushJournal, flushedHead}
 
 -- the size or the ground, told from the outcome
@@ -180,11 +180,7 @@ module _ {table journal : List ℕ} {head : Head} {state : ℕ} (ok : StateFacts
   -- where the steps to the state have no words, the table has that map already
   module _ (p : Shaped head) (e : wordsTo head state ≡ 0) where
     no-changes : composeAll (stepsBetween journal head (head .checkpoint) state) ≡ []
-    no-changes =
-        let m = sound-marked table journal head p (ok .sound) in
-        let sum : stepIndex head (head .checkpoint) + (stepIndex head state - stepIndex head (head .checkpoint)) ≡ stepIndex head state = omega (arith, ok .low) in
-        let few = run-length journal (head .ends) _ m (stepIndex head state - stepIndex head (head .checkpoint)) (stepIndex head (head .checkpoint)) (omega (arith, ok .low, ok .high)) in
-        nothing-in (composeAll (stepsBetween journal head (head .checkpoint) state)) (omega (arith, few, ap (startOf (head .ends)) sum, e))
+    no-changes = nothing-in (composeAll (stepsBetween journal head (head .checkpoint) state)) (omega (arith, run-few p ok, e))
 
     map-here : mapHere table journal head state ≡ take (head .used) table
     map-here = ap (apply (take (head .used) table)) no-changes ∙ apply-zero (take (head .used) table) (ok .sound .map)

@@ -1,7 +1,7 @@
 -- The tests of words, clause by clause, as facts, and as a loop meets them.
 -- Assumes nothing.
 use mathlib.Core.Path.{_≡_, refl, sym, ap, ap₂, _∙_}
-use mathlib.Core.Bool.{Bool, true, false, cond, _&&_}
+use mathlib.Core.Bool.{Bool, true, false, cond, _&&_, and-true, and-assoc}
 use mathlib.Core.List.{List, [], _∷_}
 use Prim.Native.Nat.{ℕ, zero, suc, _+_, _≤_, _<_, min}
 use native.Mathlib.Decide.{ℕ-discrete}
@@ -50,14 +50,6 @@ or-zero a b = go (ℕ-discrete a 0) (ℕ-discrete b 0)
         rw (ne-eqb (bitOr a b) 0 (λ e. q (omega (arith, or-add-and a b, and-le-l a b))), eq-eqb a 0 p, ne-eqb b 0 q)
     go (no p) q =
         rw (ne-eqb (bitOr a b) 0 (λ e. p (omega (arith, or-add-and a b, and-le-r a b))), ne-eqb a 0 p)
-
-and-assoc : (a b c : Bool) → (a && b) && c ≡ a && (b && c)
-and-assoc true b c = refl
-and-assoc false b c = refl
-
-and-true : (a : Bool) → a && true ≡ a
-and-true true = refl
-and-true false = refl
 
 -- what a loop has joined, and what is left from a place on
 module _ (l : List ℕ) (seen i : ℕ) where

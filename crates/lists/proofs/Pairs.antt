@@ -1,7 +1,7 @@
 -- Runs of neighbours, and the marks that say whether they pass.
 -- Assumes nothing.
 use mathlib.Core.Path.{_≡_, _∙_, refl, sym, ap, subst}
-use mathlib.Core.Bool.{Bool, true, false, _&&_}
+use mathlib.Core.Bool.{Bool, true, false, _&&_, and-true, and-false, and-assoc}
 use mathlib.Core.List.{List}
 use Prim.Native.Nat.{ℕ, zero, suc, _+_, _-_, _≤_}
 use native.Mathlib.Omega.{arith}
@@ -13,18 +13,6 @@ use Rattle.entry.specs.Word.{kindOf, offerOf, isPut, Put, validB, markOf, topOf
 use Rattle.entry.proofs.Marks.{and-marks}
 use Rattle.changes.proofs.ListTest.{and-both}
 use Rattle.lists.specs.Pairs.{pairB, pairsB}
-
-and-assoc : (a b c : Bool) → a && (b && c) ≡ a && b && c
-and-assoc true b c = refl
-and-assoc false b c = refl
-
-and-true : (a : Bool) → a && true ≡ a
-and-true true = refl
-and-true false = refl
-
-pub and-false : (a : Bool) → a && false ≡ false
-and-false true = refl
-and-false false = refl
 
 module _ (passes : ℕ → Bool) (l : List ℕ) where
   pub pairs-none : (a : ℕ) → pairsB passes l a 0 ≡ true
@@ -47,7 +35,7 @@ module _ (passes : ℕ → Bool) (l : List ℕ) where
   pairs-join a (suc n) k =
       let place : a + suc n ≡ a + 1 + n = omega arith in
       let all : suc n + k ≡ suc (n + k) = omega arith in
-      rw (all, pairs-next a n, pairs-next a (n + k), place, ← pairs-join (a + 1) n k) (sym (and-assoc (pairB passes (getD l a 0) (getD l (a + 1) 0)) (pairsB passes l (a + 1) n) (pairsB passes l (a + 1 + n) k)))
+      rw (all, pairs-next a n, pairs-next a (n + k), place, ← pairs-join (a + 1) n k) (and-assoc (pairB passes (getD l a 0) (getD l (a + 1) 0)) (pairsB passes l (a + 1) n) (pairsB passes l (a + 1 + n) k))
 
   -- what is left of a run that passes passes too, and a run with a part that fails fails
   pub pairs-front : (a n k : ℕ) → k ≤ n → pairsB passes l a n ≡ true → pairsB passes l a k ≡ true

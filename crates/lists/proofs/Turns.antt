@@ -1,7 +1,7 @@
 -- Tests of words in turn with rising offers, and the test of their neighbours: they decide alike where the first word passes.
 -- Assumes nothing.
 use mathlib.Core.Path.{_≡_, _∙_, refl, sym, ap}
-use mathlib.Core.Bool.{Bool, true, false, _&&_}
+use mathlib.Core.Bool.{Bool, true, false, _&&_, and-false}
 use mathlib.Core.List.{List, [], _∷_}
 use Prim.Native.Nat.{ℕ, zero, suc, _+_, _-_, _≤_, _<_}
 use native.Mathlib.Decide.{decLt, ℕ-discrete}
@@ -14,7 +14,7 @@ use Rattle.changes.specs.Lists.{risingB, mapB}
 use Rattle.changes.proofs.ListTest.{rising-empty, rising-below, rising-invalid, rising-next}
 use Rattle.changes.proofs.MapTest.{map-none, map-not-put, map-below, map-next}
 use Rattle.lists.specs.Pairs.{pairB, pairsB}
-use Rattle.lists.proofs.Pairs.{pairs-none, pairs-next, and-false}
+use Rattle.lists.proofs.Pairs.{pairs-none, pairs-next}
 
 -- a test of words in turn: each passes a test of its own, and its offer is at least a bound
 pub record Turns (rest : ℕ → List ℕ → Bool) (passes : ℕ → Bool) : Type 0 where

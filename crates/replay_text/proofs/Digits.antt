@@ -1,7 +1,7 @@
 -- The digits of a token: their values, and the number that they spell from a place on, as a loop meets it.
 -- Assumes nothing.
 use mathlib.Core.Path.{_≡_, refl, sym, ap, _∙_}
-use mathlib.Core.Bool.{Bool, true, false, _&&_}
+use mathlib.Core.Bool.{Bool, true, false, _&&_, and-false}
 use mathlib.Core.List.{List}
 use Prim.Native.Nat.{ℕ, _+_, _-_, _*_, _/_, _≤_, _<_}
 use native.Mathlib.Nat.{div-lt-iff-lt-mul, le-div-iff-mul-le}
@@ -13,10 +13,6 @@ use Rattle.words.proofs.Parts.{next}
 use Rattle.replay_text.specs.declared.reading.Number.{Number}
 use Rattle.replay_text.specs.declared.reading.Number.the-variants.{Value, Bad}
 use Rattle.replay_text.specs.Reading.{betweenB, digitOf, withDigit, andThen, digitsFrom}
-
-and-false : (b : Bool) → (b && false) ≡ false
-and-false true = refl
-and-false false = refl
 
 within : (low high c : ℕ) → low ≤ c → c ≤ high → betweenB low high c ≡ true
 within low high c h k = rw (le-leb low c h, le-leb c high k)

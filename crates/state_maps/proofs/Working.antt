@@ -6,17 +6,17 @@ use Prim.Native.Nat.{ℕ, _+_, _-_, _≤_}
 use native.Mathlib.Omega.{arith}
 use lib.ListN.{length, take, drop, length-take}
 use lib.Seq.{length-take-le, take-at}
-use Rattle.changes.specs.Calculus.{apply}
+use Rattle.changes.specs.Calculus.{composeAll, apply}
 use Rattle.changes.specs.Runs.{startOf}
 use Rattle.changes.proofs.Running.{marked-fewer, run-length}
 use Rattle.runs.specs.Composed.{RunRoom, Composed}
 use Rattle.layout.specs.declared.head.Head.{Head}
 use Rattle.layout.proofs.HeadTests.{InRange, lengths-facts}
-use Rattle.views.specs.States.{stepIndex, mapHere}
+use Rattle.views.specs.States.{stepIndex, stepsBetween, mapHere}
 use Rattle.views.specs.View.{Shaped}
 use Rattle.views.proofs.SoundFacts.{used-long as used-words}
 use Rattle.views.proofs.Sounds.{Sound, sound-facts, sound-marked}
-use Rattle.state_maps.specs.Held.{HeldState, MapRoom}
+use Rattle.state_maps.specs.Held.{HeldState, MapRoom, wordsTo}
 
 -- the same facts of a held state, opened
 pub record StateFacts (table journal : List ℕ) (head : Head) (state : ℕ) : Type 0 where
@@ -44,6 +44,14 @@ module _ {table journal : List ℕ} {head : Head} {state : ℕ} (p : Shaped head
         spare-room = omega (arith, r .map-room);
       }
 
+  -- composed they have at most their own words
+  pub run-few : length (composeAll (stepsBetween journal head (head .checkpoint) state)) ≤ wordsTo head state
+  run-few =
+      let m = sound-marked table journal head p (ok .sound) in
+      let sum : stepIndex head (head .checkpoint) + (stepIndex head state - stepIndex head (head .checkpoint)) ≡ stepIndex head state = omega (arith, ok .low) in
+      let few = run-length journal (head .ends) _ m (stepIndex head state - stepIndex head (head .checkpoint)) (stepIndex head (head .checkpoint)) (omega (arith, ok .low, ok .high)) in
+      omega (arith, few, ap (startOf (head .ends)) sum)
+
   -- the steps composed into a buffer
   module _ {changes₀ spare₀ changes spare : List ℕ} {n : ℕ} (c : Composed journal (head .ends) (stepIndex head (head .checkpoint)) (stepIndex head state) changes₀ spare₀ changes spare n) where
     pub count-in : n ≤ length changes
@@ -53,11 +61,7 @@ module _ {table journal : List ℕ} {head : Head} {state : ℕ} (p : Shaped head
     changes-long = sym (length-take-le n changes count-in)
 
     pub has-room : {out room : ℕ} → MapRoom head state out room → length spare ≡ room → length (take (head .used) table) + length (take n changes) ≤ length spare
-    has-room r l =
-        let m = sound-marked table journal head p (ok .sound) in
-        let sum : stepIndex head (head .checkpoint) + (stepIndex head state - stepIndex head (head .checkpoint)) ≡ stepIndex head state = omega (arith, ok .low) in
-        let few = run-length journal (head .ends) _ m (stepIndex head state - stepIndex head (head .checkpoint)) (stepIndex head (head .checkpoint)) (omega (arith, ok .low, ok .high)) in
-        omega (arith, used-long, changes-long, c .size, few, ap (startOf (head .ends)) sum, r .map-room)
+    has-room r l = omega (arith, used-long, changes-long, c .size, run-few, r .map-room)
 
     -- and the map after them
     module _ (r : ℕ) (map : List ℕ) (er : r ≡ length (apply (take (head .used) table) (take n changes))) (em : map ≡ apply (take (head .used) table) (take n changes) ++ drop r spare) where

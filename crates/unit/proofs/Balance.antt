@@ -1,7 +1,7 @@
 -- The tally and the sums that it stands for, kept by every call.
 -- Assumes nothing.
 use mathlib.Core.Path.{_≡_, refl, sym, _∙_}
-use mathlib.Core.Bool.{Bool, true, false, _&&_}
+use mathlib.Core.Bool.{Bool, true, false, _&&_, and-eq-true-iff}
 use mathlib.Core.List.{List, [], _∷_}
 use Prim.Native.Nat.{ℕ, _+_, _-_, _≤_, min}
 use native.Mathlib.Omega.{arith}
@@ -65,11 +65,6 @@ kept-after calls l [] k = k
 kept-after calls l (a ∷ asked) k = kept-after (noted calls l a) (next l a) asked (kept-next calls l a k)
 
 -- an accepted clear, load or restart starts a tally that stands for no steps, whatever was lent to it
-both-true : (x y : Bool) → (x && y) ≡ true → (x ≡ true) × (y ≡ true)
-both-true true true e = (refl, refl)
-both-true true false e = absurd (let z : _≡_ {A = ℕ} 0 1 = cc in omega arith)
-both-true false y e = absurd (let z : _≡_ {A = ℕ} 0 1 = cc in omega arith)
-
 module _ (l : Lent) (a : Asked) where
   starts-by : EffectOf l a → acceptsB l a ≡ true → startsAnew (a .call) ≡ true → Kept [] (next l a)
   unfolding next sumOf
@@ -80,7 +75,7 @@ module _ (l : Lent) (a : Asked) where
 
   pub starts : setsToZeroB l a ≡ true → Kept [] (next l a)
   starts e =
-      let b = both-true (acceptsB l a) (startsAnew (a .call)) e in
+      let b = and-eq-true-iff (acceptsB l a) (startsAnew (a .call)) .0 e in
       starts-by (effect-of l a) (b .0) (b .1)
 
 -- a count below its largest value is its sum
