@@ -203,7 +203,7 @@ impl Pair {
                 })
             }
             Call::Forward { slot, state, .. } => {
-                words = before.filled_at(*slot).to_vec();
+                words = before.filled.read_set(*slot, None);
                 plain.forward(*slot, *state).map(|shown| {
                     words = shown;
                     Answer::Done

@@ -48,6 +48,15 @@ impl Head {
     pub fn least(&self) -> u32 {
         self.open_numbers().fold(self.checkpoint, u32::min)
     }
+
+    /// The fields as words, in the order in which they stand above; 1 for an open slot.
+    pub fn words(&self) -> Vec<u64> {
+        let mut words = vec![self.used, self.oldest.into(), self.checkpoint.into(), self.tip.into()];
+        words.extend(self.held.map(u64::from));
+        words.extend(self.issued.map(u64::from));
+        words.extend(self.ends);
+        words
+    }
 }
 
 /// The tally: steps committed, rolled back and flushed. A count stops at its largest value.
@@ -59,6 +68,13 @@ pub struct Tally {
     pub rolled_back: u64,
     /// Steps flushed.
     pub flushed: u64,
+}
+
+impl Tally {
+    /// The counts, in the order in which they stand above.
+    pub fn words(&self) -> [u64; 3] {
+        [self.committed, self.rolled_back, self.flushed]
+    }
 }
 
 /// Adds steps to a count, which stops at its largest value.

@@ -15,6 +15,7 @@ pub mod head;
 pub mod image;
 pub mod listing;
 pub mod plain;
+pub mod program;
 pub mod rng;
 pub mod script;
 pub mod sound;

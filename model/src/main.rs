@@ -1,7 +1,9 @@
 //! The model's commands. Each reads standard input or its arguments, and prints on standard output.
 
+use model::program::{ended, input};
+use model::unit::Unit;
 use model::{check, gen, listing, script};
-use std::io::{self, BufWriter, Read, Write};
+use std::io::{self, BufWriter, Write};
 use std::process::ExitCode;
 
 const USAGE: &str = "model run < SCRIPT                prints what replay must print
@@ -12,20 +14,13 @@ model self-check SEED RUNS        holds the unit to the plain list";
 fn main() -> ExitCode {
     let arguments: Vec<String> = std::env::args().skip(1).collect();
     let arguments: Vec<&str> = arguments.iter().map(String::as_str).collect();
-    match answer(&arguments) {
-        Ok(code) => code,
-        Err(error) if error.kind() == io::ErrorKind::BrokenPipe => ExitCode::SUCCESS,
-        Err(error) => {
-            eprintln!("model: {error}");
-            ExitCode::FAILURE
-        }
-    }
+    ended("model", answer(&arguments))
 }
 
 fn answer(arguments: &[&str]) -> io::Result<ExitCode> {
     let mut out = BufWriter::new(io::stdout().lock());
     match arguments {
-        ["run"] => script::run(&input()?, &mut out)?,
+        ["run"] => script::run(&mut Unit::default(), &input()?, &mut out)?,
         ["listing"] => out.write_all(listing::listing(&input()?).as_bytes())?,
         ["generate", seed, calls] => match (seed.parse(), calls.parse()) {
             (Ok(seed), Ok(calls)) => out.write_all(&gen::script(seed, calls).0)?,
@@ -39,12 +34,6 @@ fn answer(arguments: &[&str]) -> io::Result<ExitCode> {
     }
     out.flush()?;
     Ok(ExitCode::SUCCESS)
-}
-
-fn input() -> io::Result<Vec<u8>> {
-    let mut bytes = Vec::new();
-    io::stdin().lock().read_to_end(&mut bytes)?;
-    Ok(bytes)
 }
 
 fn usage() -> ExitCode {

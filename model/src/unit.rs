@@ -100,12 +100,31 @@ pub struct Reply {
     pub words: Vec<u64>,
 }
 
+/// The words that each slot's last accepted issue filled: the caller's record, which a forward takes its read set from.
+#[derive(Clone, Debug, Default, PartialEq, Eq)]
+pub struct Filled([Vec<u64>; SLOTS]);
+
+impl Filled {
+    /// Keeps what an accepted issue filled. There is no slot above 7 to keep it for.
+    pub fn keep(&mut self, slot: u64, words: &[u64]) {
+        if let Some(kept) = usize::try_from(slot).ok().and_then(|slot| self.0.get_mut(slot)) {
+            *kept = words.to_vec();
+        }
+    }
+
+    /// The read set that a forward is lent: its own words, or else what the slot's last accepted issue filled.
+    pub fn read_set(&self, slot: u64, with: Option<&[u64]>) -> Vec<u64> {
+        let kept = usize::try_from(slot).ok().and_then(|slot| self.0.get(slot));
+        with.or(kept.map(Vec::as_slice)).unwrap_or_default().to_vec()
+    }
+}
+
 /// A store, the lent bytes, and the words that each slot's last accepted issue filled.
 #[derive(Clone, Debug, PartialEq, Eq)]
 pub struct Unit {
     pub store: Store,
     pub bytes: Vec<u8>,
-    pub filled: [Vec<u64>; SLOTS],
+    pub filled: Filled,
 }
 
 impl Default for Unit {
@@ -139,21 +158,15 @@ impl Unit {
         let mut words = list.to_vec();
         let outcome = self.store.issue(slot, &mut words);
         if outcome.is_ok() {
-            self.filled[slot as usize] = words.clone();
+            self.filled.keep(slot, &words);
         }
         Reply { answer: done(outcome), words }
     }
 
     fn forward(&mut self, slot: u64, state: u32, with: Option<&[u64]>) -> Reply {
-        let mut words = with.unwrap_or_else(|| self.filled_at(slot)).to_vec();
+        let mut words = self.filled.read_set(slot, with);
         let answer = done(self.store.forward(slot, state, &mut words));
         Reply { answer, words }
-    }
-
-    /// The words that a slot's last accepted issue filled; none above slot 7.
-    pub fn filled_at(&self, slot: u64) -> &[u64] {
-        let index = usize::try_from(slot).unwrap_or(usize::MAX);
-        self.filled.get(index).map_or(&[], Vec::as_slice)
     }
 }
 

@@ -2,11 +2,12 @@
 //! and all memory compared after each.
 
 use bench::baseline::{price_batch, Head, Memory, Refusal, Tally};
-use ffi::differ::{Pair, Said, UNTOUCHED};
+use ffi::differ::Pair;
+use ffi::said::{Said, UNTOUCHED};
 use ffi::{Lent, NO_PRICE};
 use model::gen::{items, Item};
 use model::script::Command;
-use model::unit::Call;
+use model::unit::{Call, Filled};
 
 const SCRIPTS: u64 = 60;
 const CALLS: usize = 500;
@@ -25,7 +26,7 @@ fn coded<T>(answer: Result<T, Refusal>, value: impl FnOnce(T) -> (u64, u64)) -> 
     answer.map_or_else(|ground| (ground.number(), UNTOUCHED), value)
 }
 
-fn say(memory: &mut Memory, bytes: &mut [u8], call: &Call, filled: &[u64]) -> Said {
+fn say(memory: &mut Memory, bytes: &mut [u8], call: &Call, filled: &Filled) -> Said {
     let mut store = memory.lend();
     let mut words = Vec::new();
     let done = |answer| coded(answer, |()| (0, UNTOUCHED));
@@ -46,7 +47,7 @@ fn say(memory: &mut Memory, bytes: &mut [u8], call: &Call, filled: &[u64]) -> Sa
             done(store.issue(*slot as usize, &mut words))
         }
         Call::Forward { slot, state, with } => {
-            words = with.as_deref().unwrap_or(filled).to_vec();
+            words = filled.read_set(*slot, with.as_deref());
             done(store.forward(*slot as usize, *state, &mut words))
         }
         Call::Release { slot } => done(store.release(*slot as usize)),
@@ -69,23 +70,18 @@ fn random_calls() {
                 pair.step(&command).unwrap();
                 continue;
             };
-            let filled = match call {
-                Call::Forward { slot, .. } => pair.model.filled_at(*slot).to_vec(),
-                _ => Vec::new(),
-            };
             calls += 1;
             damaged += u32::from(!pair.model.store.is_sound());
-            let mut memory = memory_of(&pair.lent);
+            let mut library = pair.library.clone();
+            let mut memory = memory_of(&library.lent);
             assert_eq!(memory.is_sound(), pair.model.store.is_sound(), "seed {seed}: {call:?}");
             assert_eq!(memory.is_sound(), memory.is_sound_without_exits(), "seed {seed}: {call:?}");
-            let mut bytes = pair.bytes.clone();
-            let said = say(&mut memory, &mut bytes, call, &filled);
-            let mut lent = pair.lent.clone();
-            let mut lent_bytes = pair.bytes.clone();
-            let wanted = ffi::differ::say(&mut lent, &mut lent_bytes, call, &filled);
+            let mut bytes = library.bytes.clone();
+            let said = say(&mut memory, &mut bytes, call, &library.filled);
+            let wanted = library.serve(call);
             assert_eq!(said, wanted, "seed {seed}: {call:?}");
-            assert!(memory == memory_of(&lent), "seed {seed}: {call:?}");
-            assert!(bytes == lent_bytes, "seed {seed}: {call:?}");
+            assert!(memory == memory_of(&library.lent), "seed {seed}: {call:?}");
+            assert!(bytes == library.bytes, "seed {seed}: {call:?}");
             pair.step(&command).unwrap();
         }
     }

@@ -4,7 +4,9 @@
 //! overlap, and Rust's slices say so. Nothing checks the declarations below against crates/capi; the tests and [`differ`] do.
 
 pub mod differ;
+pub mod library;
 pub mod probe;
+pub mod said;
 
 /// The head's words.
 pub const HEAD_WORDS: usize = 84;

@@ -1,7 +1,9 @@
 //! Heads and tallies that no script can have: of wrong lengths, or with words that do not fit their fields.
 
-use crate::differ::{expected, say, Pair, Said, UNTOUCHED};
-use crate::{HEAD_WORDS, TALLY_WORDS};
+use crate::differ::{expected, Pair};
+use crate::library::Library;
+use crate::said::{Said, UNTOUCHED};
+use crate::{Lent, HEAD_WORDS, TALLY_WORDS};
 use model::rng::Rng;
 use model::store::{JOURNAL_WORDS, TABLE_WORDS};
 use model::unit::Call;
@@ -26,55 +28,48 @@ pub fn probe(pair: &Pair, call: &Call, rng: &mut Rng) -> Result<(), String> {
     if matches!(call, Call::PriceBatch { .. }) {
         return Ok(());
     }
-    let (mut lent, mut bytes) = (pair.lent.clone(), pair.bytes.clone());
-    let long = damage(&mut lent.head, &mut lent.tally, rng);
+    let mut library = pair.library.clone();
+    let long = damage(&mut library.lent.head, &mut library.lent.tally, rng);
     if long && matches!(call, Call::Clear | Call::Load) {
-        return as_with_any_head(pair, call, lent, bytes);
+        return as_with_any_head(pair, call, library);
     }
-    let before = lent.clone();
-    let filled = filled(pair, call);
-    let said = say(&mut lent, &mut bytes, call, &filled);
-    let fits =
-        (1..=TABLE_WORDS).contains(&lent.table.len()) && (1..=JOURNAL_WORDS).contains(&lent.journal.len());
+    let before = library.clone();
+    let said = library.serve(call);
+    let Lent { table, journal, head, tally } = &before.lent;
+    let fits = (1..=TABLE_WORDS).contains(&table.len()) && (1..=JOURNAL_WORDS).contains(&journal.len());
     let words = match call {
         Call::Issue { list, .. } => list.clone(),
-        Call::Forward { with, .. } => with.clone().unwrap_or(filled),
+        Call::Forward { slot, with, .. } => before.filled.read_set(*slot, with.as_deref()),
         _ => Vec::new(),
     };
     let wanted = Said { code: if fits { 2 } else { 1 }, value: UNTOUCHED, words };
-    if said != wanted || lent != before || bytes != pair.bytes {
+    if said != wanted || library != before {
         return Err(format!(
-            "with head {:?} and tally {:?} the library said {said:?}, expected {wanted:?}; all as it came: {}",
-            before.head,
-            before.tally,
-            lent == before && bytes == pair.bytes
+            "with head {head:?} and tally {tally:?} the library said {said:?}, expected {wanted:?}; all as it came: {}",
+            library == before
         ));
     }
     Ok(())
 }
 
-fn filled(pair: &Pair, call: &Call) -> Vec<u64> {
-    match call {
-        Call::Forward { slot, .. } => pair.model.filled_at(*slot).to_vec(),
-        _ => Vec::new(),
-    }
-}
-
 /// Clear and load take any words for a head: an accepted call writes it anew, a refused one leaves it.
-fn as_with_any_head(pair: &Pair, call: &Call, lent: crate::Lent, bytes: Vec<u8>) -> Result<(), String> {
-    let before = lent.clone();
-    let mut other = Pair { model: pair.model.clone(), lent, bytes };
-    let said = say(&mut other.lent, &mut other.bytes, call, &[]);
+fn as_with_any_head(pair: &Pair, call: &Call, library: Library) -> Result<(), String> {
+    let before = library.clone();
+    let mut other = Pair { model: pair.model.clone(), library };
+    let said = other.library.serve(call);
     let wanted = expected(&other.model.serve(call));
     if said != wanted {
-        return Err(format!("with head {:?} the library said {said:?}, the model {wanted:?}", before.head));
+        return Err(format!(
+            "with head {:?} the library said {said:?}, the model {wanted:?}",
+            before.lent.head
+        ));
     }
     if said.code == 0 {
         return other.compare();
     }
-    if other.lent == before && other.bytes == pair.bytes {
+    if other.library == before {
         Ok(())
     } else {
-        Err(format!("with head {:?} a refused call left something else", before.head))
+        Err(format!("with head {:?} a refused call left something else", before.lent.head))
     }
 }

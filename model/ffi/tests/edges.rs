@@ -1,9 +1,10 @@
 //! Every short length and the ends of each range, empty slices among them.
 
-use ffi::differ::{expected, say, Pair};
+use ffi::differ::{expected, Pair};
+use ffi::said::{say, UNTOUCHED};
 use ffi::{price_batch, Lent};
 use model::script::{Command, Memory, Poke};
-use model::unit::{Call, Unit};
+use model::unit::{Call, Filled, Unit};
 use model::word::entry;
 
 const TABLES: [usize; 8] = [0, 1, 2, 3, 7999, 8000, 8001, 8192];
@@ -48,7 +49,7 @@ fn every_length_of_a_store() {
             };
             let mut lent = before.clone();
             for call in calls(1).iter().filter(|call| !matches!(call, Call::PriceBatch { .. })) {
-                let said = say(&mut lent, &mut [], call, &[]);
+                let said = say(&mut lent, &mut [], call, &Filled::default());
                 assert_eq!(said.code, if fits { 2 } else { 1 }, "{table} {journal} {head} {tally} {call:?}");
                 assert!(lent == before, "{table} {journal} {head} {tally} {call:?}");
             }
@@ -110,7 +111,7 @@ fn every_length_of_a_batch() {
                     output: vec![7; output],
                 };
                 let wanted = expected(&Unit::default().serve(&call));
-                let (mut words, mut count) = (vec![7; output], ffi::differ::UNTOUCHED);
+                let (mut words, mut count) = (vec![7; output], UNTOUCHED);
                 let code = price_batch(&reads, &orders, &mut words, &mut count);
                 assert_eq!((code, count, words), (wanted.code, wanted.value, wanted.words), "{call:?}");
             }

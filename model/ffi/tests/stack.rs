@@ -18,7 +18,8 @@ fn full(new: bool) -> Lent {
     image.extend(words.iter().flat_map(|word| word.to_be_bytes()));
     assert_eq!(lent.load(&mut image), 0);
     for step in 0..64 {
-        let mut list: Vec<u64> = (0..64).map(|k| entry(2 * (64 * k + step) + u32::from(new), Some(k))).collect();
+        let mut list: Vec<u64> =
+            (0..64).map(|k| entry(2 * (64 * k + step) + u32::from(new), Some(k))).collect();
         assert_eq!(lent.commit(&mut list), 0);
     }
     lent

@@ -1,13 +1,16 @@
 //! Scripts of calls, as docs/REPLAY.md defines them: commands, how they are read and written, and what they print.
 
+mod holding;
 mod parse;
 mod perform;
 mod write;
 
+pub use holding::{Holding, Memories};
 pub use parse::{parse, Line};
 pub use perform::perform;
+pub use write::words_text;
 
-use crate::unit::{Call, Unit};
+use crate::unit::Call;
 use std::io::{self, Write};
 
 /// The most bytes of a line, its newline not counted.
@@ -85,11 +88,10 @@ pub fn lines(script: &[u8]) -> impl Iterator<Item = &[u8]> {
     ended.split(|&byte| byte == b'\n').take(if script.is_empty() { 0 } else { usize::MAX })
 }
 
-/// Runs a script on a new unit and prints what replay must print.
-pub fn run(script: &[u8], out: &mut impl Write) -> io::Result<()> {
-    let mut unit = Unit::default();
+/// Runs a script and prints what its lines print.
+pub fn run(holding: &mut impl Holding, script: &[u8], out: &mut impl Write) -> io::Result<()> {
     for (index, line) in lines(script).enumerate() {
-        for text in respond(&mut unit, line) {
+        for text in respond(holding, line) {
             writeln!(out, "line {}: {text}", index + 1)?;
         }
     }
@@ -97,10 +99,10 @@ pub fn run(script: &[u8], out: &mut impl Write) -> io::Result<()> {
 }
 
 /// What one line prints, without the numbers in front.
-pub fn respond(unit: &mut Unit, line: &[u8]) -> Vec<String> {
+pub fn respond(holding: &mut impl Holding, line: &[u8]) -> Vec<String> {
     let printed = match parse(line) {
         Line::Blank => Some(Vec::new()),
-        Line::Command(command) => perform(unit, &command),
+        Line::Command(command) => perform(holding, &command),
         Line::NoCall => None,
     };
     printed.unwrap_or_else(|| vec!["no call".to_string()])

@@ -1,28 +1,28 @@
 //! Carrying out a command, and what it prints.
 
 use super::write::{bytes_text, words_text};
-use super::{Command, HeadField, Memory, Poke, Show, TallyField};
+use super::{Command, Holding, Memories, Memory, Poke, Show};
 use super::{BYTES, JOURNAL_WORDS, LIST_WORDS, TABLE_WORDS};
 use crate::crc32;
-use crate::head::{Head, Tally};
-use crate::unit::{Reply, Unit};
-use std::ops::Range;
+use crate::head::SLOTS;
 
 /// Carries out a command and gives the lines that it prints, or nothing if it is no call on the memory lent.
-pub fn perform(unit: &mut Unit, command: &Command) -> Option<Vec<String>> {
+pub fn perform(holding: &mut impl Holding, command: &Command) -> Option<Vec<String>> {
     match command {
-        Command::Lend { memory, length } => lend(unit, *memory, *length)?,
-        Command::Poke { at, poke } => put(unit, *at, poke)?,
-        Command::Fill { memory, at, count, word, rise } => fill(unit, *memory, *at, *count, *word, *rise)?,
-        Command::Head(field) => set_head(&mut unit.store.head, *field),
-        Command::Tally(field) => set_tally(&mut unit.store.tally, *field),
-        Command::Show(what) => return show(unit, *what),
-        Command::Call(call) => return Some(vec![reply_text(&unit.serve(call))]),
+        Command::Lend { memory, length } => lend(holding.memories(), *memory, *length)?,
+        Command::Poke { at, poke } => put(holding.memories(), *at, poke)?,
+        Command::Fill { memory, at, count, word, rise } => {
+            fill(holding.memories(), *memory, *at, *count, *word, *rise)?;
+        }
+        Command::Head(field) => holding.set_head(*field),
+        Command::Tally(field) => holding.set_tally(*field),
+        Command::Show(what) => return show(holding, *what),
+        Command::Call(call) => return Some(vec![holding.answer(call)]),
     }
     Some(Vec::new())
 }
 
-fn lend(unit: &mut Unit, memory: Memory, length: u64) -> Option<()> {
+fn lend(memories: Memories, memory: Memory, length: u64) -> Option<()> {
     let most = match memory {
         Memory::Table => TABLE_WORDS,
         Memory::Journal => JOURNAL_WORDS,
@@ -32,133 +32,103 @@ fn lend(unit: &mut Unit, memory: Memory, length: u64) -> Option<()> {
         return None;
     }
     match memory {
-        Memory::Table => unit.store.table = vec![0; length as usize],
-        Memory::Journal => unit.store.journal = vec![0; length as usize],
-        Memory::Bytes => unit.bytes = vec![0; length as usize],
+        Memory::Table => *memories.table = vec![0; length as usize],
+        Memory::Journal => *memories.journal = vec![0; length as usize],
+        Memory::Bytes => *memories.bytes = vec![0; length as usize],
     }
     Some(())
 }
 
-/// The indices from one on, so many, if all lie within a length.
-fn within(length: usize, at: u64, count: u64) -> Option<Range<usize>> {
-    let length = length as u64;
-    let fits = at <= length && count <= length - at;
-    fits.then(|| at as usize..(at + count) as usize)
+/// The part of a memory from a place on, so many long, if it lies within the memory.
+fn part<T>(memory: &mut [T], at: u64, count: u64) -> Option<&mut [T]> {
+    let end = at.checked_add(count)?;
+    memory.get_mut(usize::try_from(at).ok()?..usize::try_from(end).ok()?)
 }
 
-/// A part of a memory to be written, if it lies within it.
-fn part<T>(memory: &mut [T], at: u64, count: usize) -> Option<&mut [T]> {
-    let range = within(memory.len(), at, count as u64)?;
-    memory.get_mut(range)
-}
-
-fn put(unit: &mut Unit, at: u64, poke: &Poke) -> Option<()> {
+fn put(memories: Memories, at: u64, poke: &Poke) -> Option<()> {
     match poke {
-        Poke::Table(words) => part(&mut unit.store.table, at, words.len())?.copy_from_slice(words),
-        Poke::Journal(words) => part(&mut unit.store.journal, at, words.len())?.copy_from_slice(words),
-        Poke::Bytes(bytes) => part(&mut unit.bytes, at, bytes.len())?.copy_from_slice(bytes),
+        Poke::Table(words) => part(memories.table, at, words.len() as u64)?.copy_from_slice(words),
+        Poke::Journal(words) => part(memories.journal, at, words.len() as u64)?.copy_from_slice(words),
+        Poke::Bytes(bytes) => part(memories.bytes, at, bytes.len() as u64)?.copy_from_slice(bytes),
     }
     Some(())
 }
 
-fn fill(unit: &mut Unit, memory: Memory, at: u64, count: u64, word: u64, rise: u64) -> Option<()> {
+fn fill(memories: Memories, memory: Memory, at: u64, count: u64, word: u64, rise: u64) -> Option<()> {
     let series = |index: usize| word.wrapping_add(rise.wrapping_mul(index as u64));
     let words = match memory {
-        Memory::Table => &mut unit.store.table,
-        Memory::Journal => &mut unit.store.journal,
+        Memory::Table => memories.table,
+        Memory::Journal => memories.journal,
         Memory::Bytes => {
-            let range = within(unit.bytes.len(), at, count.checked_mul(8)?)?;
-            for (index, bytes) in unit.bytes[range].chunks_exact_mut(8).enumerate() {
+            let bytes = part(memories.bytes, at, count.checked_mul(8)?)?;
+            for (index, bytes) in bytes.chunks_exact_mut(8).enumerate() {
                 bytes.copy_from_slice(&series(index).to_be_bytes());
             }
             return Some(());
         }
     };
-    let range = within(words.len(), at, count)?;
-    for (index, word) in words[range].iter_mut().enumerate() {
+    for (index, word) in part(words, at, count)?.iter_mut().enumerate() {
         *word = series(index);
     }
     Some(())
 }
 
-fn set_head(head: &mut Head, field: HeadField) {
-    match field {
-        HeadField::Used(value) => head.used = value,
-        HeadField::Oldest(value) => head.oldest = value,
-        HeadField::Checkpoint(value) => head.checkpoint = value,
-        HeadField::Tip(value) => head.tip = value,
-        HeadField::Held(slot, value) => head.held[slot] = value,
-        HeadField::Issued(slot, value) => head.issued[slot] = value,
-        HeadField::Ends(mark, value) => head.ends[mark] = value,
-    }
-}
-
-fn set_tally(tally: &mut Tally, field: TallyField) {
-    match field {
-        TallyField::Committed(value) => tally.committed = value,
-        TallyField::RolledBack(value) => tally.rolled_back = value,
-        TallyField::Flushed(value) => tally.flushed = value,
-    }
-}
-
-fn reply_text(reply: &Reply) -> String {
-    format!("{}{}", reply.answer, words_text(&reply.words))
-}
-
-fn show(unit: &Unit, what: Show) -> Option<Vec<String>> {
+fn show(holding: &mut impl Holding, what: Show) -> Option<Vec<String>> {
     let text = match what {
-        Show::Head => head_text(&unit.store.head),
-        Show::Tally => tally_text(&unit.store.tally),
-        Show::Memory(memory) => memory_text(unit, memory),
-        Show::Part { memory, at, count } => part_text(unit, memory, at, count)?,
-        Show::All => return Some(all_texts(unit)),
+        Show::Head => head_text(&holding.head()),
+        Show::Tally => tally_text(holding.tally()),
+        Show::Memory(memory) => memory_text(holding.memories(), memory),
+        Show::Part { memory, at, count } => part_text(holding.memories(), memory, at, count)?,
+        Show::All => return Some(all_texts(holding)),
     };
     Some(vec![text])
 }
 
-fn all_texts(unit: &Unit) -> Vec<String> {
+fn all_texts(holding: &mut impl Holding) -> Vec<String> {
     vec![
-        head_text(&unit.store.head),
-        tally_text(&unit.store.tally),
-        memory_text(unit, Memory::Table),
-        memory_text(unit, Memory::Journal),
-        memory_text(unit, Memory::Bytes),
+        head_text(&holding.head()),
+        tally_text(holding.tally()),
+        memory_text(holding.memories(), Memory::Table),
+        memory_text(holding.memories(), Memory::Journal),
+        memory_text(holding.memories(), Memory::Bytes),
     ]
 }
 
-fn head_text(head: &Head) -> String {
-    let held: String = head.held.iter().map(|&held| if held { '1' } else { '0' }).collect();
-    let issued: String = head.issued.iter().map(|number| format!(" {number}")).collect();
-    let marks = head.ends.iter().rposition(|&end| end != 0).map_or(0, |last| last + 1);
-    let ends: String = head.ends[..marks].iter().map(|end| format!(" {end}")).collect();
+/// The head's numbers, each as it stands: one that does not fit its field shows.
+fn head_text(head: &[u64]) -> String {
+    let [used, oldest, checkpoint, tip, rest @ ..] = head else { panic!("a head has 84 numbers") };
+    let (held, rest) = rest.split_at(SLOTS);
+    let (issued, ends) = rest.split_at(SLOTS);
+    let held: String = held.iter().map(u64::to_string).collect();
+    let issued: String = issued.iter().map(|number| format!(" {number}")).collect();
+    let marks = ends.iter().rposition(|&end| end != 0).map_or(0, |last| last + 1);
+    let ends: String = ends[..marks].iter().map(|end| format!(" {end}")).collect();
     format!(
-        "head used {} oldest {} checkpoint {} tip {} held {held} issued{issued} ends{ends}",
-        head.used, head.oldest, head.checkpoint, head.tip
+        "head used {used} oldest {oldest} checkpoint {checkpoint} tip {tip} held {held} issued{issued} ends{ends}"
     )
 }
 
-fn tally_text(tally: &Tally) -> String {
-    let Tally { committed, rolled_back, flushed } = tally;
+fn tally_text([committed, rolled_back, flushed]: [u64; 3]) -> String {
     format!("tally committed {committed} rolled_back {rolled_back} flushed {flushed}")
 }
 
-fn memory_text(unit: &Unit, memory: Memory) -> String {
+fn memory_text(memories: Memories, memory: Memory) -> String {
     let (length, crc) = match memory {
-        Memory::Table => (unit.store.table.len(), crc32::of_words(&unit.store.table)),
-        Memory::Journal => (unit.store.journal.len(), crc32::of_words(&unit.store.journal)),
-        Memory::Bytes => (unit.bytes.len(), crc32::of_bytes(unit.bytes.iter().copied())),
+        Memory::Table => (memories.table.len(), crc32::of_words(memories.table)),
+        Memory::Journal => (memories.journal.len(), crc32::of_words(memories.journal)),
+        Memory::Bytes => (memories.bytes.len(), crc32::of_bytes(memories.bytes.iter().copied())),
     };
     format!("{memory} {length} crc {crc:08X}")
 }
 
-fn part_text(unit: &Unit, memory: Memory, at: u64, count: u64) -> Option<String> {
+fn part_text(memories: Memories, memory: Memory, at: u64, count: u64) -> Option<String> {
     if count > LIST_WORDS as u64 {
         return None;
     }
     let values = match memory {
-        Memory::Table => words_text(&unit.store.table[within(unit.store.table.len(), at, count)?]),
-        Memory::Journal => words_text(&unit.store.journal[within(unit.store.journal.len(), at, count)?]),
-        Memory::Bytes => bytes_text(&unit.bytes[within(unit.bytes.len(), at, count)?]),
+        Memory::Table => words_text(part(memories.table, at, count)?),
+        Memory::Journal => words_text(part(memories.journal, at, count)?),
+        Memory::Bytes => bytes_text(part(memories.bytes, at, count)?),
     };
     Some(format!("{memory} from {at}{values}"))
 }

@@ -1,0 +1,83 @@
+//! The proved unit behind a script: memory of its own, lent to the library with each call.
+
+use crate::said::{say, Said};
+use crate::Lent;
+use model::script::{HeadField, Holding, Memories, TallyField};
+use model::unit::{Call, Filled};
+
+// Where the words of head and tally stand, as include/cechnuol.h has them.
+const USED: usize = 0;
+const OLDEST: usize = 1;
+const CHECKPOINT: usize = 2;
+const TIP: usize = 3;
+const HELD: usize = 4;
+const ISSUED: usize = 12;
+const ENDS: usize = 20;
+const COMMITTED: usize = 0;
+const ROLLED_BACK: usize = 1;
+const FLUSHED: usize = 2;
+
+/// What the library is lent, and the words that it filled for each slot at the slot's last accepted issue.
+#[derive(Clone, Debug, PartialEq, Eq)]
+pub struct Library {
+    pub lent: Lent,
+    pub bytes: Vec<u8>,
+    pub filled: Filled,
+}
+
+impl Default for Library {
+    fn default() -> Library {
+        Library { lent: Lent::of_lengths(0, 0), bytes: Vec::new(), filled: Filled::default() }
+    }
+}
+
+impl Library {
+    /// Makes a call, and keeps what an accepted issue filled.
+    pub fn serve(&mut self, call: &Call) -> Said {
+        let said = say(&mut self.lent, &mut self.bytes, call, &self.filled);
+        if let (Call::Issue { slot, .. }, 0) = (call, said.code) {
+            self.filled.keep(*slot, &said.words);
+        }
+        said
+    }
+}
+
+impl Holding for Library {
+    fn memories(&mut self) -> Memories<'_> {
+        Memories { table: &mut self.lent.table, journal: &mut self.lent.journal, bytes: &mut self.bytes }
+    }
+
+    fn head(&self) -> Vec<u64> {
+        self.lent.head.clone()
+    }
+
+    fn set_head(&mut self, field: HeadField) {
+        let (at, word) = match field {
+            HeadField::Used(number) => (USED, number),
+            HeadField::Oldest(number) => (OLDEST, number.into()),
+            HeadField::Checkpoint(number) => (CHECKPOINT, number.into()),
+            HeadField::Tip(number) => (TIP, number.into()),
+            HeadField::Held(slot, open) => (HELD + slot, open.into()),
+            HeadField::Issued(slot, number) => (ISSUED + slot, number.into()),
+            HeadField::Ends(mark, number) => (ENDS + mark, number),
+        };
+        self.lent.head[at] = word;
+    }
+
+    fn tally(&self) -> [u64; 3] {
+        [COMMITTED, ROLLED_BACK, FLUSHED].map(|at| self.lent.tally[at])
+    }
+
+    fn set_tally(&mut self, field: TallyField) {
+        let (at, count) = match field {
+            TallyField::Committed(count) => (COMMITTED, count),
+            TallyField::RolledBack(count) => (ROLLED_BACK, count),
+            TallyField::Flushed(count) => (FLUSHED, count),
+        };
+        self.lent.tally[at] = count;
+    }
+
+    fn answer(&mut self, call: &Call) -> String {
+        self.serve(call).to_string()
+    }
+}

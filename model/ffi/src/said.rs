@@ -1,0 +1,68 @@
+//! A call made on the library, and what it said.
+
+use crate::{price_batch, Lent, NO_PRICE};
+use model::script::words_text;
+use model::unit::{Call, Filled};
+use std::fmt;
+
+/// What a value word holds before a call; a call that gives no value leaves it.
+pub const UNTOUCHED: u64 = 0x5EED_5EED_5EED_5EED;
+
+/// What the library answered, and the words that it was lent, as it left them.
+#[derive(Clone, Debug, PartialEq, Eq)]
+pub struct Said {
+    pub code: u64,
+    pub value: u64,
+    pub words: Vec<u64>,
+}
+
+/// The words of docs/REPLAY.md for whatever was said. A code that is no ground stands there as the number that it is, and a
+/// value stands there wherever one was given, so that no answer that document 01 does not know passes for one that it does.
+impl fmt::Display for Said {
+    fn fmt(&self, f: &mut fmt::Formatter<'_>) -> fmt::Result {
+        match self.code {
+            0 => f.write_str("ok")?,
+            NO_PRICE => f.write_str("none")?,
+            code => write!(f, "refused {code}")?,
+        }
+        if self.value != UNTOUCHED {
+            write!(f, " {}", self.value)?;
+        }
+        f.write_str(&words_text(&self.words))
+    }
+}
+
+/// Makes a call on the library. A forward without words of its own is given those filled for its slot.
+pub fn say(lent: &mut Lent, bytes: &mut [u8], call: &Call, filled: &Filled) -> Said {
+    let mut value = UNTOUCHED;
+    let mut words = Vec::new();
+    let code = match call {
+        Call::Clear => lent.clear(),
+        Call::Load => lent.load(bytes),
+        Call::WriteImage => lent.write_image(bytes, &mut value),
+        Call::Restart => lent.restart(bytes),
+        Call::Commit { list } => {
+            let mut lent_list = list.clone();
+            let code = lent.commit(&mut lent_list);
+            assert_eq!(&lent_list, list, "a commit leaves its list");
+            code
+        }
+        Call::RollBack { state } => lent.roll_back(*state),
+        Call::Flush { state } => lent.flush(*state),
+        Call::LookUp { offer, state } => lent.look_up(*offer, *state, &mut value),
+        Call::Issue { slot, list } => {
+            words = list.clone();
+            lent.issue(*slot as usize, &mut words)
+        }
+        Call::Forward { slot, state, with } => {
+            words = filled.read_set(*slot, with.as_deref());
+            lent.forward(*slot as usize, *state, &mut words)
+        }
+        Call::Release { slot } => lent.release(*slot as usize),
+        Call::PriceBatch { reads, orders, output } => {
+            words = output.clone();
+            price_batch(reads, orders, &mut words, &mut value)
+        }
+    };
+    Said { code, value, words }
+}
