@@ -2,8 +2,8 @@
 
 mod common;
 
-use common::{all_answers, files, run};
-use model::gen::{items, script, Item};
+use common::{all_answers, example, files, run};
+use model::gen::{items, Item};
 use model::rng::Rng;
 use model::script::{lines, parse, respond, Line, Poke, LINE_BYTES};
 use model::unit::{Call, Unit};
@@ -38,28 +38,11 @@ fn stored_scripts_answer_as_worked_out_by_hand() {
 #[test]
 fn stored_output_is_the_models() {
     let scripts = files("scripts", "script");
-    assert!(scripts.len() >= 5);
+    assert!(scripts.len() >= 4);
     for (file, script) in scripts {
         let stored = std::fs::read_to_string(file.with_extension("out")).expect("each script has its output");
         assert!(run(&script) == stored, "{} prints something else", file.display());
     }
-}
-
-/// A stored random script is the one that its first line names.
-#[test]
-fn stored_random_scripts_are_the_generators() {
-    let mut count = 0;
-    for (file, stored) in files("scripts", "script") {
-        let title = String::from_utf8_lossy(lines(&stored).next().unwrap_or_default()).into_owned();
-        if let Some((seed, calls)) =
-            title.strip_prefix("# model generate ").and_then(|rest| rest.split_once(' '))
-        {
-            let (seed, calls) = (seed.parse().expect("a seed"), calls.parse().expect("a count"));
-            assert!(script(seed, calls).0 == stored, "{}", file.display());
-            count += 1;
-        }
-    }
-    assert!(count >= 3);
 }
 
 /// The script of refusals has every answer of every call among what its comments expect.
@@ -215,14 +198,8 @@ fn lines_are_counted() {
 
 #[test]
 fn the_example_of_the_format() {
-    let page = std::fs::read_to_string(common::path("../docs/REPLAY.md")).expect("the page is stored");
-    let blocks: Vec<String> = page
-        .split("\n\n")
-        .filter(|block| block.starts_with("    "))
-        .map(|block| block.lines().map(|line| format!("{}\n", line.trim_start())).collect())
-        .collect();
-    assert_eq!(blocks.len(), 2);
-    assert_eq!(run(blocks[0].as_bytes()), blocks[1]);
+    let [script, printed] = example();
+    assert_eq!(run(script.as_bytes()), printed);
 }
 
 #[test]

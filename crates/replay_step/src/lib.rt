@@ -1,2 +1,0 @@
-// A script's line carried out (docs/REPLAY.md).
-pub mod step;

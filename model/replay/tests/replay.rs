@@ -1,0 +1,120 @@
+//! Replay: the program on small scripts, and what it prints of answers and heads that document 01 does not know.
+
+#[path = "../../tests/common/mod.rs"]
+mod common;
+
+use ffi::library::Library;
+use ffi::said::{Said, UNTOUCHED};
+use ffi::NO_PRICE;
+use model::script::respond;
+use std::io::Write;
+use std::process::{Child, Command, Output, Stdio};
+
+fn started(arguments: &[&str]) -> Child {
+    Command::new(env!("CARGO_BIN_EXE_replay"))
+        .args(arguments)
+        .stdin(Stdio::piped())
+        .stdout(Stdio::piped())
+        .stderr(Stdio::piped())
+        .spawn()
+        .expect("the program starts")
+}
+
+/// What the program does with a script. It reads all of it before it prints.
+fn ran(script: &[u8]) -> Output {
+    let mut child = started(&[]);
+    child.stdin.take().expect("a pipe").write_all(script).expect("the script is read");
+    child.wait_with_output().expect("the program ends")
+}
+
+fn printed(script: &[u8]) -> String {
+    let Output { status, stdout, stderr } = ran(script);
+    assert!(status.success() && stderr.is_empty(), "{}", String::from_utf8_lossy(&stderr));
+    String::from_utf8(stdout).expect("what is printed is ASCII")
+}
+
+#[test]
+fn the_example_of_the_format() {
+    let [script, expected] = common::example();
+    assert_eq!(printed(script.as_bytes()), expected);
+}
+
+/// Offer 5 stands at 1200 in the table when 5 and 9 are asked for, and the words that the library filled stay with the slot.
+#[test]
+fn a_forward_takes_what_the_issue_filled() {
+    let script = b"lend table 4\nlend journal 20\nclear\ncommit 80000005000004B0\nflush 1\n\
+        issue 3 0000000500000000 0000000900000000\ncommit 80000009000002BC\nforward 3 1\nforward 3 2\n\
+        issue 3 0000000900000000\nforward 3 2\nissue 4 8000000900000000\nforward 4 2\nforward 8 2\n";
+    let expected =
+        "line 3: ok\nline 4: ok\nline 5: ok\nline 6: ok 80000005000004B0 0000000900000000\nline 7: ok\n\
+        line 8: ok 80000005000004B0 0000000900000000\nline 9: refused 5 80000005000004B0 0000000900000000\n\
+        line 10: ok 0000000900000000\nline 11: ok 80000009000002BC\nline 12: refused 6 8000000900000000\n\
+        line 13: refused 5\nline 14: refused 3\n";
+    assert_eq!(printed(script), expected);
+}
+
+#[test]
+fn lines_of_any_bytes() {
+    assert_eq!(printed(b""), "");
+    assert_eq!(printed(b"\n\xFF\0\n# x\n\nclear"), "line 2: no call\nline 5: refused 1\n");
+    let spaced = |length: usize| [vec![b' '; length - 5], b"clear\n".to_vec()].concat();
+    let long = [spaced(4096), spaced(4097)].concat();
+    assert_eq!(printed(&long), "line 1: refused 1\nline 2: no call\n");
+}
+
+#[test]
+fn arguments_are_none() {
+    let Output { status, stdout, stderr } =
+        started(&["SCRIPT"]).wait_with_output().expect("the program ends");
+    assert_eq!(
+        (status.code(), stdout.as_slice(), stderr.as_slice()),
+        (Some(1), &b""[..], &b"replay < SCRIPT\n"[..])
+    );
+}
+
+/// A reader that leaves before the end is no error.
+#[test]
+fn output_that_nobody_reads() {
+    let mut child = started(&[]);
+    drop(child.stdout.take());
+    child.stdin.take().expect("a pipe").write_all(&b"show all\n".repeat(10_000)).expect("the script is read");
+    let Output { status, stderr, .. } = child.wait_with_output().expect("the program ends");
+    assert!(status.success() && stderr.is_empty(), "{}", String::from_utf8_lossy(&stderr));
+}
+
+/// What the library says is printed as the numbers that it gave, those too that no call may give.
+#[test]
+fn no_answer_is_hidden() {
+    let text = |code, value, words: &[u64]| Said { code, value, words: words.to_vec() }.to_string();
+    assert_eq!(text(0, UNTOUCHED, &[]), "ok");
+    assert_eq!(text(0, 1200, &[]), "ok 1200");
+    assert_eq!(text(0, 1, &[5]), "ok 1 0000000000000005");
+    assert_eq!(text(NO_PRICE, UNTOUCHED, &[]), "none");
+    assert_eq!(text(17, UNTOUCHED, &[5]), "refused 17 0000000000000005");
+    for code in [18, 99, 101, 1 << 32, u64::MAX] {
+        assert_eq!(text(code, UNTOUCHED, &[]), format!("refused {code}"));
+    }
+    // a price of more than 32 bits, and values where there should be none
+    assert_eq!(text(0, 1 << 32, &[]), "ok 4294967296");
+    assert_eq!(text(NO_PRICE, 7, &[]), "none 7");
+    assert_eq!(text(17, 7, &[]), "refused 17 7");
+}
+
+/// A word of the head that does not fit its field is shown as the number that it is.
+#[test]
+fn no_head_is_hidden() {
+    let mut library = Library::default();
+    library.lent.head[0] = u64::MAX;
+    library.lent.head[1] = 1 << 32;
+    library.lent.head[5] = 2;
+    library.lent.head[11] = 256;
+    library.lent.head[19] = (1 << 32) + 7;
+    library.lent.head[21] = 3;
+    assert_eq!(
+        respond(&mut library, b"show head"),
+        [format!(
+            "head used {} oldest 4294967296 checkpoint 0 tip 0 held 0200000256 issued 0 0 0 0 0 0 0 4294967303 ends 0 3",
+            u64::MAX
+        )]
+    );
+}
