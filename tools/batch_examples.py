@@ -1,16 +1,19 @@
 #!/usr/bin/env python3
-"""The examples of pricing a batch, and what document 01 ("Batches", grounds 6 to 10 and 17) says of each.
+"""The examples of pricing a batch, as a script of docs/REPLAY.md, and what document 01 ("Batches", grounds 6 to 10 and 17) says
+of each.
 
-  tools/batch_examples.py           write crates/batch_examples/src/cases.rt and crates/batch_examples/stdout
+  tools/batch_examples.py           write tests/batches/examples.script and tests/batches/examples.out
   tools/batch_examples.py --check   exit with status 1 where either file differs
 
-The answers are worked out here from the paper's sentences, with a dictionary for the prices, and not from the Rattle code.
+The answers are worked out here from the paper's sentences, with a dictionary for the prices, and not from the Rattle code or the
+second model.
 """
 import pathlib
 import random
 import sys
 
-HERE = pathlib.Path(__file__).resolve().parent.parent / "crates" / "batch_examples"
+FOLDER = pathlib.Path(__file__).resolve().parent.parent / "tests" / "batches"
+TITLE = "# Examples of pricing a batch, written by tools/batch_examples.py with what replay must print for them."
 BEFORE = 7  # what each output word holds before an example
 TOP = 2 ** 32 - 1  # the highest price
 MOST = 2 ** 25 - 1  # the highest amount
@@ -88,7 +91,7 @@ def price_batch(reads, orders, room):
     words = [shows(offer, prices[offer]) for offer in sorted(named)]
     if room < len(words):
         return "refused 17", []
-    return f"count {len(words)}", words
+    return f"ok {len(words)}", words
 
 
 # The examples: each a title, a read set, orders and the length of the output memory.
@@ -218,33 +221,29 @@ def chance(count):
         case("drawn", reads, orders, draw.randint(2, 7))
 
 
-def table():
-    """The cases as a constant: for each its three lengths, then its read set and its orders."""
-    rows, size = [], 0
+def tokens(words):
+    return [f"{w:016X}" for w in words]
+
+
+def texts():
+    """The script, each case's title as a comment and then the call; and what it prints: for each call the line's number, the
+    answer, and every word of the output memory."""
+    script, printed = [TITLE], []
     for number, (title, reads, orders, room) in enumerate(CASES, 1):
-        rows.append(f"    // {number}. {title}")
-        rows += [f"    {n}," for n in (len(reads), len(orders), room)]
-        rows += [f"    0x{w:016X}," for w in reads + orders]
-        size += 3 + len(reads) + len(orders)
-    head = "// The examples, written by tools/batch_examples.py: for each the lengths of its read set, its orders and its output, then\n// the words of the read set and the orders.\n"
-    return head + f"pub const CASES: [u64; {size}] = [\n" + "\n".join(rows) + "\n];\n"
-
-
-def answers():
-    """A line for each case: the answer, then every word of the output memory."""
-    lines = []
-    for _, reads, orders, room in CASES:
+        script.append(f"# {number}. {title}")
+        lists = [*tokens(reads), "/", *tokens(orders), "/", *tokens([BEFORE] * room)]
+        script.append(" ".join(["price_batch", *lists]))
         answer, words = price_batch(reads, orders, room)
-        out = words + [BEFORE] * (room - len(words))
-        lines.append(" ".join([answer] + [f"{w:016x}" for w in out]))
-    return "".join(line + "\n" for line in lines)
+        after = words + [BEFORE] * (room - len(words))
+        printed.append(" ".join([f"line {len(script)}: {answer}", *tokens(after)]))
+    return ["".join(line + "\n" for line in lines) for lines in (script, printed)]
 
 
 def main():
     for part in (moments, kinds, ends, turns, many, lists, grounds):
         part()
     chance(40)
-    files = {HERE / "src" / "cases.rt": table(), HERE / "stdout": answers()}
+    files = dict(zip([FOLDER / "examples.script", FOLDER / "examples.out"], texts()))
     if "--check" in sys.argv[1:]:
         stale = [str(path) for path, text in files.items() if not path.exists() or path.read_text() != text]
         print("\n".join("differs: " + path for path in stale) or f"{len(CASES)} examples as written")

@@ -34,15 +34,28 @@ fn stored_scripts_answer_as_worked_out_by_hand() {
     assert!(count > 700, "{count} expectations");
 }
 
+/// What the scripts of a folder print, which must be the output stored beside each.
+fn printed_as_stored(folder: &str) -> Vec<String> {
+    let mut outputs = Vec::new();
+    for (file, script) in files(folder, "script") {
+        let stored = std::fs::read_to_string(file.with_extension("out")).expect("each script has its output");
+        assert!(run(&script) == stored, "{} prints something else", file.display());
+        outputs.push(stored);
+    }
+    outputs
+}
+
 /// The stored output is what the model prints today.
 #[test]
 fn stored_output_is_the_models() {
-    let scripts = files("scripts", "script");
-    assert!(scripts.len() >= 4);
-    for (file, script) in scripts {
-        let stored = std::fs::read_to_string(file.with_extension("out")).expect("each script has its output");
-        assert!(run(&script) == stored, "{} prints something else", file.display());
-    }
+    assert!(printed_as_stored("scripts").len() >= 4);
+}
+
+/// The model answers the batch examples as tools/batch_examples.py works out from the paper.
+#[test]
+fn batch_examples_answer_as_worked_out() {
+    let outputs = printed_as_stored("../tests/batches");
+    assert_eq!(outputs.iter().map(|output| output.lines().count()).sum::<usize>(), 275);
 }
 
 /// The script of refusals has every answer of every call among what its comments expect.
