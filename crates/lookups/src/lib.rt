@@ -52,7 +52,7 @@ fn quote_of(found: Found) -> Quote
     };
     let kind = Entry::kind_of(word);
     let price = Entry::price_of(word);
-    if kind != Entry::PUT {
+    if kind < Entry::PUT {
         return Quote::NoPrice;
     }
     Quote::Price(price)

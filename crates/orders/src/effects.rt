@@ -65,7 +65,7 @@ fn keep(kind: u32, offer: u32, amount: u32, shown: u64) -> Effect
 {
     let shows = Entry::kind_of(shown);
     let price = Entry::price_of(shown);
-    if shows == Entry::PUT {
+    if Entry::PUT <= shows {
         return Effect::Change(Entry::put(offer, sixteenths(kind, amount, price)));
     }
     Effect::Fails(Refusal::NoPrice)

@@ -1,6 +1,6 @@
 -- `lookups::quote_of` meets its contract.
 -- Assumes nothing.
-use mathlib.Core.Path.{_∙_, sym}
+use native.Mathlib.Omega.{arith}
 use Rattle.lookups.proofs.Quoting.{quote-price, quote-none}
 use borrow.Author.Needs.{needs}
 use Rattle.lookups.proofs.quote_of.Statement.{statement}
@@ -22,10 +22,10 @@ price-of-requires : tie.Need-price-of-requires
 price-of-requires c κs = search needs
 
 returns-2 : tie.Need-returns-2
-returns-2 c = quote-none _ _ (c .before .before .before .before .found .given .1) (λ p. (c .if1 .taken) ((c .before .before .kind-of .ensures) ∙ p))
+returns-2 c = quote-none _ _ (c .before .before .before .before .found .given .1) (λ p. omega (arith, p))
 
 returns-3 : tie.Need-returns-3
-returns-3 c = quote-price _ _ (c .before .before .before .before .found .given .1) _ (c .before .price-of .ensures) (sym (c .before .before .kind-of .ensures) ∙ (c .if1 .left))
+returns-3 c = quote-price _ _ (c .before .before .before .before .found .given .1) _ (c .before .price-of .ensures) (omega arith)
 
 pub quote-of-spec : {M : Type 1} → statement M
 quote-of-spec =

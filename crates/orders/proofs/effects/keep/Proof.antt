@@ -25,7 +25,7 @@ returns : tie.Need-returns
 returns c = ap Change (omega arith) ∙ sym (keep-fits (c .before .before .before .before .before .args .offer) (c .before .before .before .before .before .args .amount) (c .before .before .before .before .before .args .shown) (omega arith) _ (c .before .sixteenths .result) ((c .before .sixteenths .ensures) ∙ ap (sixteenths (c .before .before .before .before .before .args .kind) (c .before .before .before .before .before .args .amount)) (c .before .before .before .price-of .ensures)) (omega arith))
 
 returns-2 : tie.Need-returns-2
-returns-2 c = sym (no-price (c .before .before .before .args .shown) _ (λ e. (c .if1 .left) ((c .before .before .kind-of .ensures) ∙ e)))
+returns-2 c = sym (no-price (c .before .before .before .args .shown) _ (λ e. omega (arith, e)))
 
 pub keep-spec : {M : Type 1} → statement M
 keep-spec = tie.close (tie.spec kind-of-requires price-of-requires sixteenths-requires put-requires returns returns-2)
