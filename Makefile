@@ -1,24 +1,25 @@
-# make run    the main job on a worked example: the listing of a small image
+# make run      the main job on a worked example: the listing of a small image
+# make check    the quick loop: proves what has changed and runs the tests, without the must-fail edits; no verdict
+# make test     the whole gate: every proof from nothing, the must-fail edits, the programs and the tests
 # make example  the unit linked from C: builds the static library and examples/box_office.c, and runs it
-# make bench  measures the unit beside the same work in Rust, LMDB and SQLite, and writes docs/BENCHMARKS.md; not part of the gate
-# make test   the whole gate: every proof from nothing, the must-fail edits and the programs
-.PHONY: run example bench test
+# make bench    measures the unit beside the same work in Rust, LMDB and SQLite, and writes docs/BENCHMARKS.md; not part of the gate
+.PHONY: run check test example bench
 
 run:
-	@mkdir -p target
-	@rt check listing >target/run.log 2>&1 || { cat target/run.log; exit 1; }
+	@bash -o pipefail -c 'rt check listing 2>&1 | python3 tools/gate_log.py listing'
 	@target/bin/listing <tests/listing/ends.in
 
+check:
+	@.ci/run --quick
+
+test:
+	@.ci/run
+
 example:
-	@mkdir -p target
-	@rt staticlib capi >target/example.log 2>&1 || { cat target/example.log; exit 1; }
+	@tools/static-library
 	@cc -std=c99 -O2 -Wall -Wextra -Wpedantic -Werror -Iinclude examples/box_office.c target/staticlib/libcapi.a -o target/box_office
 	@target/box_office
 
 bench:
-	@mkdir -p target
-	@rt staticlib capi >target/bench.log 2>&1 || { cat target/bench.log; exit 1; }
+	@tools/static-library
 	@cd model && cargo run --release --offline --quiet -p bench --bin benchmarks ../docs
-
-test:
-	@.ci/run
