@@ -3,7 +3,8 @@
 
   rt ci | tools/gate_log.py               prints the lines that matter, each as it comes
   rt check X | tools/gate_log.py X        the same, where X and what it depends on are proved alone
-  tools/gate_log.py --profile LOG         the seconds by crate and by edit file, as the tables of docs/LANDINGS.md
+  tools/gate_log.py --profile LOG         the seconds by crate and by edit file, as the tables of docs/LANDINGS.md; a log of rt's or
+                                          of the gate's own lines
   tools/gate_log.py --profile OLD NEW     the same of two logs, one beside the other
 
 Lines that only repeat that something is proved are left out; the log itself has them all.
@@ -13,8 +14,8 @@ import re
 import sys
 
 ROUTINE = re.compile(r"^(fn|struct|enum) \S+: proved$|^logic /|^logic=proved |^library \S+: modules loaded")
-CRATE = re.compile(r"^rt: (?P<name>\w+) (proved|NOT PROVED)(?: \((?:exit \d+, )?(?P<seconds>\d+) s\))?")
-EDITS = re.compile(r"^rt: must-fail (?P<name>\S+): .*?(?:(?P<seconds>\d+) s\))?$")
+CRATE = re.compile(r"^(?:\[.*?\] )?rt: (?P<name>\w+) (proved|NOT PROVED)(?: \((?:exit \d+, )?(?P<seconds>\d+) s\))?")
+EDITS = re.compile(r"^(?:\[.*?\] )?rt: must-fail (?P<name>\S+): .*?(?:(?P<seconds>\d+) s\))?$")
 PROGRAM = re.compile(r"^rt: (?P<name>\w+) (ran|proved, and its run)")
 
 

@@ -52,6 +52,10 @@ class Profile(unittest.TestCase):
     def test_seconds(self):
         self.assertEqual(gate_log.seconds_in(LOG), ({"sums": 6, "more": 4}, {"sums": [12, 3]}))
 
+    def test_seconds_of_counted_lines(self):
+        counted = LOG.replace("rt: must", "[edits 1 of 2] rt: must").replace("rt: sums", "[proof 1 of 3] rt: sums")
+        self.assertEqual(gate_log.seconds_in(counted), gate_log.seconds_in(LOG))
+
     def test_two_logs_side_by_side(self):
         rows = list(gate_log.profile([LOG, "rt: sums proved (2 s)\n"]))
         self.assertIn("| `sums` | 6 | 12 3 | 2 |  |", rows)
