@@ -13,13 +13,13 @@ use Rattle.changes.proofs.ListTest.{list-facts}
 use Rattle.grounds.specs.declared.Refusal.the-variants.{BadList, BadOrder, OfferNotRead, OutputShort}
 use Rattle.grounds.specs.declared.Refusal.{Refusal}
 use Rattle.grounds.specs.Numbers.{numberOf, Answer, accepted, refused}
-use Rattle.batch.specs.declared.checking.Check.{Check}
-use Rattle.batch.specs.declared.checking.Check.the-variants.{Passed, Stops}
+use Rattle.order_runs.specs.declared.running.Check.{Check}
+use Rattle.order_runs.specs.declared.running.Check.the-variants.{Passed, Stops}
 use Rattle.orders.specs.Orders.{allowedB}
-use Rattle.batch.specs.Tests.{allB, readB}
-use Rattle.batch.specs.Running.{Ran, done, fails, priced}
-use Rattle.batch.specs.Batches.{after, checked, fitting, batch, answer, output}
-use Rattle.batch.specs.Working.{Accepted, Placed, Ready, Room}
+use Rattle.order_runs.specs.Tests.{allB, readB}
+use Rattle.order_runs.specs.Running.{Ran, done, fails, priced, after}
+use Rattle.batch.specs.Batches.{checked, fitting, batch, answer, output}
+use Rattle.order_runs.specs.Working.{Accepted, Placed, Ready, Room}
 
 module _ (reads orders : List ℕ) where
   pub stop-list : listB reads ≡ false → checked reads orders ≡ Stops BadList

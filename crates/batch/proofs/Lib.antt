@@ -1,9 +1,4 @@
-pub mod AllOrders
 pub mod BatchChecks
-pub mod Gathering
-pub mod Marks
 pub mod OnMaps
-pub mod OrderPlaces
 pub mod Output
 pub mod Theorems
-pub mod Turns

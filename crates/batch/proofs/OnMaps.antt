@@ -17,13 +17,13 @@ use Rattle.changes.proofs.Single.{from-one, changes-more}
 use Rattle.orders.specs.declared.effects.Effect.{Effect}
 use Rattle.orders.specs.declared.effects.Effect.the-variants.{Change, Fails}
 use Rattle.orders.specs.Orders.{orderKind, orderAmount, orderOffer, Kind, lists, withdraws, raises, cuts, keeps, unknown, kindNamed}
-use Rattle.batch.specs.Tests.{allB, readB, foundB}
+use Rattle.order_runs.specs.Tests.{allB, readB, foundB}
 use Rattle.orders.specs.Effects.{withPrice, effectBy, effect}
-use Rattle.batch.specs.Running.{Ran, done, next, run}
+use Rattle.order_runs.specs.Running.{Ran, done, next, run}
 use Rattle.batch.specs.OnMaps.{difference, runOnMap, onDone, Agrees}
-use Rattle.batch.proofs.AllOrders.{all-first, all-rest}
+use Rattle.order_runs.proofs.AllOrders.{all-first, all-rest}
 use Rattle.orders.proofs.OneOrder.{no-price, effect-names}
-use Rattle.batch.proofs.Turns.{seen, run-none, run-order}
+use Rattle.order_runs.proofs.Turns.{seen, run-none, run-order}
 
 -- An order that finds a word that shows no price does what it does where it finds nothing.
 module _ (k : ℕ) (small : k < 2 ^ 31) where

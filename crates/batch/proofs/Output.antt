@@ -19,13 +19,13 @@ use Rattle.changes.proofs.Single.{from-one}
 use Rattle.orders.specs.declared.effects.Effect.{Effect}
 use Rattle.orders.specs.declared.effects.Effect.the-variants.{Change, Fails}
 use Rattle.orders.specs.Orders.{orderOffer}
-use Rattle.batch.specs.Tests.{foundB}
+use Rattle.order_runs.specs.Tests.{foundB}
 use Rattle.orders.specs.Effects.{effect}
-use Rattle.batch.specs.Running.{done, next, run}
+use Rattle.order_runs.specs.Running.{done, next, run}
 use Rattle.batch.specs.OnMaps.{namedB}
 use Rattle.orders.proofs.OneOrder.{effect-names}
 use Rattle.batch.proofs.OnMaps.{joined}
-use Rattle.batch.proofs.Turns.{run-none, run-order}
+use Rattle.order_runs.proofs.Turns.{run-none, run-order}
 
 -- orders that bring the changes from d to e
 pub record Brings (d os e : List ℕ) : Type 0 where

@@ -15,16 +15,16 @@ use Rattle.changes.proofs.Find.{find-empty}
 use Rattle.changes.proofs.Laws.{apply-zero}
 use Rattle.changes.proofs.ReadWords.{prices-map, prices-shown}
 use Rattle.changes.proofs.Single.{changes-none}
-use Rattle.batch.specs.declared.checking.Check.{Check}
-use Rattle.batch.specs.declared.checking.Check.the-variants.{Passed, Stops}
-use Rattle.batch.specs.Tests.{allB, readB, foundB}
-use Rattle.batch.specs.Running.{Ran, done, fails, priced}
+use Rattle.order_runs.specs.declared.running.Check.{Check}
+use Rattle.order_runs.specs.declared.running.Check.the-variants.{Passed, Stops}
+use Rattle.order_runs.specs.Tests.{allB, readB, foundB}
+use Rattle.order_runs.specs.Running.{Ran, done, fails, priced, after}
 use Rattle.batch.specs.OnMaps.{difference, runOnMap, onDone, Agrees, namedB}
-use Rattle.batch.specs.Batches.{after, batch, checked, fitting}
+use Rattle.batch.specs.Batches.{batch, checked, fitting}
 use Rattle.batch.proofs.BatchChecks.{passed}
 use Rattle.batch.proofs.OnMaps.{restricted, applied, difference-is}
 use Rattle.batch.proofs.Output.{Brings, brings}
-use Rattle.batch.proofs.Turns.{seen, priced-is}
+use Rattle.order_runs.proofs.Turns.{seen, priced-is}
 
 -- Every read set has a map that agrees with it, so that nothing below speaks of no map at all.
 pub some-map : (reads : List ℕ) → Changes reads → (m : List ℕ) × Map m × Agrees m reads

@@ -8,11 +8,11 @@ use lib.ListN.{length, drop}
 use Rattle.changes.specs.Lists.{listB}
 use Rattle.grounds.specs.declared.Refusal.the-variants.{BadList, BadOrder, OfferNotRead, OutputShort}
 use Rattle.grounds.specs.Numbers.{numberOf, Answer, accepted, refused}
-use Rattle.batch.specs.declared.checking.Check.{Check}
-use Rattle.batch.specs.declared.checking.Check.the-variants.{Passed, Stops}
+use Rattle.order_runs.specs.declared.running.Check.{Check}
+use Rattle.order_runs.specs.declared.running.Check.the-variants.{Passed, Stops}
 use Rattle.orders.specs.Orders.{allowedB}
-use Rattle.batch.specs.Tests.{readB, allB}
-use Rattle.batch.specs.Running.{Ran, done, fails, priced}
+use Rattle.order_runs.specs.Tests.{readB, allB}
+use Rattle.order_runs.specs.Running.{Ran, done, fails, priced, after}
 
 -- Grounds 6 to 8, over all orders, before any runs: the read set is a list and there are at most 64 orders; their kinds are
 -- known, and a withdrawal's amount is 0; their offers are in the read set.
@@ -26,11 +26,6 @@ checked reads orders =
 abbrev pub fitting : ℕ → Ran → Ran
 fitting room (done d) = cond (leb (length d) room) (done d) (fails (numberOf OutputShort))
 fitting room (fails n) = fails n
-
--- what comes of a check that passed, or the number of the ground that stops it
-abbrev pub after : Check → Ran → Ran
-after Passed ran = ran
-after (Stops ground) ran = fails (numberOf ground)
 
 -- the words that a batch writes, or the number of the ground that turns it away
 unfoldable pub batch : List ℕ → List ℕ → ℕ → Ran

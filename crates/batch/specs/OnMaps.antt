@@ -9,7 +9,7 @@ use Rattle.changes.specs.Calculus.{find, apply}
 use Rattle.changes.specs.ReadSets.{readOf}
 use Rattle.orders.specs.Orders.{orderOffer}
 use Rattle.orders.specs.Effects.{effect}
-use Rattle.batch.specs.Running.{Ran, done, fails, next, run}
+use Rattle.order_runs.specs.Running.{Ran, done, fails, next, run}
 
 -- the changes of the orders, run on a whole map: the transaction difference of equation 5
 unfoldable pub difference : List ℕ → List ℕ → Ran

@@ -1,25 +1,20 @@
 // What turns a batch away before any order runs (document 01, grounds 6 to 8).
-use crate::places::find_places;
 use grounds::Refusal;
 use lists::rules::is_list;
+use order_runs::places::find_places;
+use order_runs::running::Check;
 use orders::is_allowed;
 ghost use mathlib.Core.Path.{_≡_};
 ghost use Prim.Native.Nat.{_≤_};
 ghost use lib.ListN.{length};
 ghost use Rattle.orders.specs.Orders.{allowedB};
-ghost use Rattle.batch.specs.Tests.{allB};
+ghost use Rattle.order_runs.specs.Tests.{allB};
 ghost use Rattle.batch.specs.Batches.{checked};
-ghost use Rattle.batch.specs.declared.checking.Check.the-variants.{Passed};
-ghost use Rattle.batch.specs.Working.{Placed};
+ghost use Rattle.order_runs.specs.declared.running.Check.the-variants.{Passed};
+ghost use Rattle.order_runs.specs.Working.{Placed};
 
 // The most orders of a batch.
 pub const BATCH_ORDERS: usize = 64;
-
-// Whether something goes on, or the ground that stops it.
-pub enum Check {
-    Passed,
-    Stops(Refusal),
-}
 
 fn all_allowed(orders: &[u64]) -> bool
     ensures { λ r. ⌜ r ≡ allB allowedB (now (orders .entry)) ⌝ }

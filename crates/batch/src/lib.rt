@@ -1,5 +1,3 @@
 // Pricing a batch of orders on a read set (document 01, "Batches").
 pub mod checking;
-mod places;
 pub mod pricing;
-mod running;

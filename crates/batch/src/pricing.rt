@@ -1,20 +1,20 @@
 // Pricing a batch: the refusals, the run, and the output.
 use crate::checking::BATCH_ORDERS;
-use crate::checking::Check;
 use crate::checking::check_batch;
-use crate::running::count;
-use crate::running::gather;
-use crate::running::run;
 use grounds::Refusal;
 use grounds::Written;
 use lists::rules::LIST_WORDS;
+use order_runs::running::Check;
+use order_runs::running::count;
+use order_runs::running::gather;
+use order_runs::running::run;
 use words::copy;
 ghost use mathlib.Core.Path.{_≡_};
 ghost use lib.ListN.{length};
 ghost use Rattle.grounds.specs.Numbers.{writtenAs};
-ghost use Rattle.batch.specs.Running.{done, priced};
+ghost use Rattle.order_runs.specs.Running.{done, priced};
 ghost use Rattle.batch.specs.Batches.{batch, answer, output, fitting};
-ghost use Rattle.batch.specs.Working.{marked, Accepted, Room};
+ghost use Rattle.order_runs.specs.Working.{marked, Accepted, Room};
 
 // Writes the marked words to the start of `out`, where there is room for them.
 fn write(words: &[u64], marks: &[bool], out: &mut [u64]) -> Written

@@ -11,8 +11,8 @@ use Rattle.grounds.specs.First.{first}
 use Rattle.orders.specs.Effects.{sixteenths, putAt, withPrice, effect}
 use Rattle.orders.specs.Orders.{kindNamed, allowedB}
 use Rattle.batch.specs.Batches.{checked, batch}
-use Rattle.batch.specs.Running.{run, priced}
-use Rattle.batch.specs.Tests.{readB, allB as allOrdersB}
+use Rattle.order_runs.specs.Running.{run, priced}
+use Rattle.order_runs.specs.Tests.{readB, allB as allOrdersB}
 use Rattle.image.specs.Bytes.{bytesOf, valueOf}
 use Rattle.image.specs.Image.{wordBytes, imageOf, wordsOf, numberIn, countIn, wordsIn, imageB}
 use Rattle.layout.specs.Sound.{soundB}

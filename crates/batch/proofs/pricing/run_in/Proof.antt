@@ -6,7 +6,7 @@ use mathlib.Core.List.{List}
 use Prim.Native.Nat.{ℕ}
 use native.Mathlib.Omega.{arith}
 use lib.ListN.{length, length-replicate}
-use Rattle.batch.specs.Running.{priced}
+use Rattle.order_runs.specs.Running.{priced}
 use Rattle.batch.specs.Batches.{fitting}
 use Rattle.batch.proofs.BatchChecks.{whole-copy, ready, went, stopped, tell-fails, tell-same}
 use borrow.Author.Needs.{needs}

@@ -6,9 +6,9 @@ use Prim.Native.Nat.{ℕ}
 use native.Mathlib.Omega.{arith}
 use lib.ListN.{length, drop}
 use lib.Seq.{length-take-le}
-use Rattle.batch.specs.Working.{marked}
+use Rattle.order_runs.specs.Working.{marked}
 use Rattle.batch.proofs.BatchChecks.{fits, too-short, tell-fails, tell-done}
-use Rattle.batch.proofs.Gathering.{marked-count}
+use Rattle.order_runs.proofs.Gathering.{marked-count}
 use borrow.Author.Needs.{needs}
 use Rattle.batch.proofs.pricing.write.Statement.{statement}
 use Rattle.batch.proofs.pricing.write.Tie as tie

@@ -10,8 +10,8 @@ use native.Mathlib.Omega.{arith}
 use lib.ListN.{length, getD, take, drop, set, length-append, length-set, drop-of-length-le}
 use lib.Seq.{drop-cons, take-all, take-set-le, take-suc-set, append-snoc, length-take-le}
 use mir.Val.{boolByte}
-use Rattle.batch.specs.Working.{marked, markCount}
-use Rattle.batch.proofs.Marks.{marked-none, marked-yes, marked-no, marked-end, marked-here, unmarked-here}
+use Rattle.order_runs.specs.Working.{marked, markCount}
+use Rattle.order_runs.proofs.Marks.{marked-none, marked-yes, marked-no, marked-end, marked-here, unmarked-here}
 
 -- a mark as a number
 pub byte-few : (m : Bool) → boolByte m ≤ 1

@@ -7,9 +7,9 @@ use Prim.Native.Nat.{_-_}
 use borrow.Author.Needs.{needs}
 use native.Mathlib.Omega.{arith}
 use lib.ListN.{length, length-replicate}
-use Rattle.batch.proofs.Turns.{Turning, turning, turned, turn-fails, turn-goes}
-use Rattle.batch.proofs.running.run.Statement.{statement}
-use Rattle.batch.proofs.running.run.Tie as tie
+use Rattle.order_runs.proofs.Turns.{Turning, turning, turned, turn-fails, turn-goes}
+use Rattle.order_runs.proofs.running.run.Statement.{statement}
+use Rattle.order_runs.proofs.running.run.Tie as tie
 
 abbrev Inv-loop : tie.InvT-loop
 Inv-loop orders places words₀ marks₀ k₀ words marks k = Turning words₀ orders words marks k

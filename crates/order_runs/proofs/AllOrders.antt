@@ -8,7 +8,7 @@ use native.Mathlib.Omega.{arith}
 use lib.ListN.{length, getD, drop, drop-of-length-le}
 use Rattle.changes.proofs.ListTest.{and-both}
 use Rattle.words.proofs.Parts.{next}
-use Rattle.batch.specs.Tests.{allB}
+use Rattle.order_runs.specs.Tests.{allB}
 
 module _ (test : ℕ → Bool) where
   pub all-none : allB test [] ≡ true

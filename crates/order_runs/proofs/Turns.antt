@@ -25,9 +25,9 @@ use Rattle.orders.specs.declared.effects.Effect.{Effect}
 use Rattle.orders.specs.declared.effects.Effect.the-variants.{Change, Fails}
 use Rattle.orders.specs.Orders.{orderOffer}
 use Rattle.orders.specs.Effects.{effect}
-use Rattle.batch.specs.Running.{done, fails, next, run, priced}
-use Rattle.batch.specs.Working.{At, marked, Ready}
-use Rattle.batch.proofs.Marks.{marked-set, unmarked}
+use Rattle.order_runs.specs.Running.{done, fails, next, run, priced}
+use Rattle.order_runs.specs.Working.{At, marked, Ready}
+use Rattle.order_runs.proofs.Marks.{marked-set, unmarked}
 use Rattle.orders.proofs.OneOrder.{effect-names}
 
 -- what an order on a read set sees after changes

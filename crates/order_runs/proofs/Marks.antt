@@ -14,7 +14,7 @@ use Rattle.changes.specs.Lists.{From}
 use Rattle.changes.proofs.Merging.{compose-nil, nil-compose, compose-below, compose-same, compose-above}
 use Rattle.changes.proofs.Rising.{from-lower, from-cons, from-head, from-tail, from-nil}
 use Rattle.changes.proofs.Find.{least-at}
-use Rattle.batch.specs.Working.{marked}
+use Rattle.order_runs.specs.Working.{marked}
 
 module _ (marks : List Bool) where
   pub marked-none : marked [] marks ≡ []

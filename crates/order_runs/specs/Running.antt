@@ -6,6 +6,8 @@ use Rattle.changes.specs.declared.search.Found.{Found}
 use Rattle.changes.specs.Calculus.{find, compose}
 use Rattle.changes.specs.ReadSets.{over}
 use Rattle.grounds.specs.Numbers.{numberOf}
+use Rattle.order_runs.specs.declared.running.Check.{Check}
+use Rattle.order_runs.specs.declared.running.Check.the-variants.{Passed, Stops}
 use Rattle.orders.specs.declared.effects.Effect.{Effect}
 use Rattle.orders.specs.declared.effects.Effect.the-variants.{Change, Fails}
 use Rattle.orders.specs.Orders.{orderOffer}
@@ -29,3 +31,8 @@ run see d (o ∷ os) = next (effect o (see d (orderOffer o))) (λ w. run see (co
 -- the changes of the orders, run on a read set
 unfoldable pub priced : List ℕ → List ℕ → Ran
 priced reads orders = run (λ d offer. find offer (over reads d)) [] orders
+
+-- what comes of a check that passed, or the number of the ground that stops it
+abbrev pub after : Check → Ran → Ran
+after Passed ran = ran
+after (Stops ground) ran = fails (numberOf ground)

@@ -5,9 +5,9 @@ use borrow.Author.Needs.{needs}
 use native.Mathlib.Omega.{arith}
 use lib.ListN.{length, getD}
 use mathlib.Core.Bool.{false}
-use Rattle.batch.proofs.Gathering.{byte-few, Counting, count-start, count-next, count-end}
-use Rattle.batch.proofs.running.count.Statement.{statement}
-use Rattle.batch.proofs.running.count.Tie as tie
+use Rattle.order_runs.proofs.Gathering.{byte-few, Counting, count-start, count-next, count-end}
+use Rattle.order_runs.proofs.running.count.Statement.{statement}
+use Rattle.order_runs.proofs.running.count.Tie as tie
 
 abbrev Inv-loop : tie.InvT-loop
 Inv-loop marks n₀ i₀ n i = Counting marks i n

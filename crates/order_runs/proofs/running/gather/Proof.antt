@@ -6,9 +6,9 @@ use Prim.Native.Nat.{_-_}
 use borrow.Author.Needs.{needs}
 use native.Mathlib.Omega.{arith}
 use lib.ListN.{length, getD}
-use Rattle.batch.proofs.Gathering.{byte-few, Gathering, gather-start, gather-inside, gather-next, gather-end}
-use Rattle.batch.proofs.running.gather.Statement.{statement}
-use Rattle.batch.proofs.running.gather.Tie as tie
+use Rattle.order_runs.proofs.Gathering.{byte-few, Gathering, gather-start, gather-inside, gather-next, gather-end}
+use Rattle.order_runs.proofs.running.gather.Statement.{statement}
+use Rattle.order_runs.proofs.running.gather.Tie as tie
 
 abbrev Inv-loop : tie.InvT-loop
 Inv-loop words marks out₀ i₀ n₀ out i n = Gathering words marks out i n

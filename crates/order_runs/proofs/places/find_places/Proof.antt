@@ -6,9 +6,9 @@ use borrow.Author.Needs.{needs}
 use native.Mathlib.Omega.{arith}
 use lib.ListN.{length}
 use Rattle.lists.proofs.Halving.{none-there, other-there}
-use Rattle.batch.proofs.OrderPlaces.{Finding, finding, finding-end, finding-stops, finding-goes, not-found}
-use Rattle.batch.proofs.places.find_places.Statement.{statement}
-use Rattle.batch.proofs.places.find_places.Tie as tie
+use Rattle.order_runs.proofs.OrderPlaces.{Finding, finding, finding-end, finding-stops, finding-goes, not-found}
+use Rattle.order_runs.proofs.places.find_places.Statement.{statement}
+use Rattle.order_runs.proofs.places.find_places.Tie as tie
 
 abbrev Inv-loop : tie.InvT-loop
 Inv-loop reads orders places₀ k₀ places k = Finding reads orders places places₀ k

@@ -15,9 +15,9 @@ use Rattle.changes.specs.Calculus.{find}
 use Rattle.changes.specs.Lists.{From}
 use Rattle.changes.proofs.Find.{found-at}
 use Rattle.orders.specs.Orders.{orderOffer}
-use Rattle.batch.specs.Tests.{allB, foundB, readB}
-use Rattle.batch.specs.Working.{At, Placed}
-use Rattle.batch.proofs.AllOrders.{Left, left-all, left-end, left-stop, left-next}
+use Rattle.order_runs.specs.Tests.{allB, foundB, readB}
+use Rattle.order_runs.specs.Working.{At, Placed}
+use Rattle.order_runs.proofs.AllOrders.{Left, left-all, left-end, left-stop, left-next}
 
 -- whether an order's offer is in a read set, from what was found there
 read-as : (reads : List ℕ) (o k : ℕ) → k ≡ orderOffer o → {found : Found} → find k reads ≡ found → readB reads o ≡ foundB found

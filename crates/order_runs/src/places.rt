@@ -8,8 +8,8 @@ ghost use mathlib.Core.Bool.{true};
 ghost use Prim.Native.Nat.{_≤_};
 ghost use lib.ListN.{length};
 ghost use Rattle.changes.specs.Lists.{From};
-ghost use Rattle.batch.specs.Tests.{allB, readB};
-ghost use Rattle.batch.specs.Working.{Placed};
+ghost use Rattle.order_runs.specs.Tests.{allB, readB};
+ghost use Rattle.order_runs.specs.Working.{Placed};
 
 // Whether the read set has the offer of every order. Where it has, the first places are then theirs, order by order; where it
 // has not, what `places` holds is left to chance.

@@ -1,0 +1,5 @@
+pub mod AllOrders
+pub mod Gathering
+pub mod Marks
+pub mod OrderPlaces
+pub mod Turns
