@@ -31,7 +31,7 @@ Replacement = collections.namedtuple("Replacement", "file old new")
 FOLLOWS = re.compile(r"was not admitted \(it has holes|which is not proved")
 # An error that says that the proof no longer fits the code, and so nothing of a fact.
 UNFIT = re.compile(
-    r"has no `[^`]*` that can be named from here|a dimension .*is expected here|is applied to an argument but|Scope: |Parse: "
+    r"has no `[^`]*` that can be named from here|^record `[^`]*` has no field|a dimension .*is expected here|is applied to an argument but|Scope: |Parse: "
     r"|is not in scope|expected type `[^`]*Need-[^`]*`,? *but this has type `[^`]*Need-"
 )
 # The verdict on a function that has no proof file, where the proof that the prover makes by itself leaves a fact open.

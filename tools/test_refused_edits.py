@@ -101,8 +101,10 @@ class Logs(Repository):
         self.assertOneFault(self.faults(LOW + HIGH, log), "high_of_another: parts::high is not refused for its own sake: the log has no error")
 
     def test_the_proof_no_longer_fits(self):
-        log = LOW_FAILS + HIGH_UNFIT + verdicts("not proved", CALLS)
-        self.assertOneFault(self.faults(LOW + HIGH, log), "its proof no longer fits the code")
+        other = HIGH_UNFIT.replace("this place", "record `After-low`").replace("has no `Need-add` that can be named from here", "has no field `x`")
+        for unfit in (HIGH_UNFIT, other):
+            log = LOW_FAILS + unfit + verdicts("not proved", CALLS)
+            self.assertOneFault(self.faults(LOW + HIGH, log), "its proof no longer fits the code")
 
     def test_a_name_that_the_log_does_not_have(self):
         self.assertOneFault(self.faults(LOW, "fn sums::parts::high: proved\n"), "the log has no such function")
