@@ -11,11 +11,11 @@ use Rattle.walkthrough.proofs.compose_and_apply.Tie as tie
 is-list-requires : tie.Need-is-list-requires
 is-list-requires c κs = search needs
 
-slice-aggregate-write-all : tie.Need-slice-aggregate-write-all
-slice-aggregate-write-all c = search needs
+slice-aggregate-show-text : tie.Need-slice-aggregate-show-text
+slice-aggregate-show-text c = search needs
 
-write-all-requires : tie.Need-write-all-requires
-write-all-requires c κs = search needs
+show-text-requires : tie.Need-show-text-requires
+show-text-requires c κs = search needs
 
 returns : tie.Need-returns
 returns c = search needs
@@ -23,11 +23,11 @@ returns c = search needs
 is-list-requires-2 : tie.Need-is-list-requires-2
 is-list-requires-2 c κs = search needs
 
-slice-aggregate-write-all-2 : tie.Need-slice-aggregate-write-all-2
-slice-aggregate-write-all-2 c = search needs
+slice-aggregate-show-text-2 : tie.Need-slice-aggregate-show-text-2
+slice-aggregate-show-text-2 c = search needs
 
-write-all-requires-2 : tie.Need-write-all-requires-2
-write-all-requires-2 c κs = search needs
+show-text-requires-2 : tie.Need-show-text-requires-2
+show-text-requires-2 c κs = search needs
 
 returns-2 : tie.Need-returns-2
 returns-2 c = search needs
@@ -76,12 +76,12 @@ compose-and-apply-spec =
     tie.close
     (tie.spec
     is-list-requires
-    slice-aggregate-write-all
-    write-all-requires
+    slice-aggregate-show-text
+    show-text-requires
     returns
     is-list-requires-2
-    slice-aggregate-write-all-2
-    write-all-requires-2
+    slice-aggregate-show-text-2
+    show-text-requires-2
     returns-2
     slice-aggregate-compose
     compose-requires

@@ -3,8 +3,8 @@
 use Prim.Native.Nat.{_-_, _≤_}
 use lib.ListN.{length}
 use borrow.Author.Needs.{needs}
-use Rattle.walkthrough.proofs.show.Statement.{statement}
-use Rattle.walkthrough.proofs.show.Tie as tie
+use Rattle.walkthrough.proofs.print.show.Statement.{statement}
+use Rattle.walkthrough.proofs.print.show.Tie as tie
 
 abbrev Inv-loop : tie.InvT-loop
 Inv-loop title words i₀ i = i ≤ length words
@@ -12,8 +12,8 @@ Inv-loop title words i₀ i = i ≤ length words
 abbrev μ-loop : tie.MeasureT-loop
 μ-loop title words i₀ i = length words - i
 
-write-all-requires : tie.Need-write-all-requires Inv-loop μ-loop
-write-all-requires c κs = search needs
+show-text-requires : tie.Need-show-text-requires Inv-loop μ-loop
+show-text-requires c κs = search needs
 
 loop-holds : tie.Need-loop-holds Inv-loop μ-loop
 loop-holds c = search needs
@@ -45,7 +45,7 @@ show-spec =
     (tie.spec
     Inv-loop
     μ-loop
-    write-all-requires
+    show-text-requires
     loop-holds
     mul-show-word
     shared-slice-read-show-word
