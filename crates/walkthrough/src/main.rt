@@ -1,5 +1,6 @@
 // Shows the two lowest layers at work on a small feed: entry words, the composition of two lists of changes, and
 // its application to a read set. A list that breaks the rules is refused.
+mod door;
 mod print;
 
 use crate::print::show;
