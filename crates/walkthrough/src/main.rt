@@ -1,10 +1,13 @@
-// Shows the two lowest layers at work on a small feed: entry words, the composition of two lists of changes, and
-// its application to a read set. A list that breaks the rules is refused.
+// Shows the unit at work on a small feed. First its two lowest layers: entry words, the composition of two lists of
+// changes, and its application to a read set; a list that breaks the rules is refused. Then the same feed through
+// the one door of the unit: the read set that is forwarded is the one that the composition gave.
 mod door;
 mod print;
+mod store;
 
 use crate::print::show;
 use crate::print::show_text;
+use crate::store::follow;
 use composing::compose;
 use entry::Entry;
 use lists::read_sets::apply_to_reads;
@@ -43,4 +46,6 @@ fn main() {
     show(b"earlier changes\n", &earlier);
     show(b"later changes\n", &later);
     compose_feed(earlier, later, falling);
+    show_text(b"the same through the one door\n");
+    follow(earlier, later, falling);
 }

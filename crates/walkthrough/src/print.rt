@@ -1,6 +1,10 @@
 // What the program prints, a line at a time.
 use entry::Entry;
+use grounds::number;
+use layout::head::Head;
 use libc::STDOUT_FILENO;
+use unit::Answer;
+use unit::Tally;
 
 pub fn show_text(text: &[u8]) {
     io::write_all(STDOUT_FILENO, text);
@@ -32,4 +36,48 @@ pub fn show(title: &[u8], words: &[u64]) {
         show_word(words[i]);
         i += 1;
     }
+}
+
+fn show_byte(byte: u8) {
+    show_text(b" ");
+    io::print_hex(STDOUT_FILENO, byte as u64, 2);
+}
+
+// The bytes in hexadecimal, as one line.
+pub fn show_bytes(bytes: &[u8]) {
+    show_text(b"bytes");
+    let mut i = 0;
+    while i < bytes.len() {
+        show_byte(bytes[i]);
+        i += 1;
+    }
+    show_text(b"\n");
+}
+
+fn show_answer(answer: Answer) {
+    match answer {
+        Answer::Done => show_text(b": ok"),
+        Answer::Price(price) => show_count(b": ok ", price as u64),
+        Answer::NoPrice => show_text(b": none"),
+        Answer::Count(count) => show_count(b": ok ", count as u64),
+        Answer::Refused(ground) => show_count(b": refused ", number(ground) as u64),
+    }
+}
+
+// The name of a call and its answer, as one line.
+pub fn show_call(name: &[u8], answer: Answer) {
+    show_text(name);
+    show_answer(answer);
+    show_text(b"\n");
+}
+
+// The numbers of the states, and the tally, as two lines.
+pub fn show_states(head: Head, tally: Tally) {
+    show_count(b"oldest ", head.oldest as u64);
+    show_count(b" checkpoint ", head.checkpoint as u64);
+    show_count(b" tip ", head.tip as u64);
+    show_count(b"\ntally committed ", tally.committed);
+    show_count(b" rolled back ", tally.rolled_back);
+    show_count(b" flushed ", tally.flushed);
+    show_text(b"\n");
 }

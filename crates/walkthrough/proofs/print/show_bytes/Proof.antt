@@ -1,0 +1,64 @@
+-- `show_bytes` meets its contract: the bytes left fall with each turn.
+-- Assumes nothing.
+use Prim.Native.Nat.{_-_, _≤_}
+use lib.ListN.{length}
+use borrow.Author.Needs.{needs}
+use Rattle.walkthrough.proofs.print.show_bytes.Statement.{statement}
+use Rattle.walkthrough.proofs.print.show_bytes.Tie as tie
+
+abbrev Inv-loop : tie.InvT-loop
+Inv-loop bytes i₀ t4 i = i ≤ length bytes
+
+abbrev μ-loop : tie.MeasureT-loop
+μ-loop bytes i₀ t4 i = length bytes - i
+
+slice-aggregate-show-text : tie.Need-slice-aggregate-show-text Inv-loop μ-loop
+slice-aggregate-show-text c = search needs
+
+show-text-requires : tie.Need-show-text-requires Inv-loop μ-loop
+show-text-requires c κs = search needs
+
+loop-holds : tie.Need-loop-holds Inv-loop μ-loop
+loop-holds c = search needs
+
+shared-slice-read-show-byte : tie.Need-shared-slice-read-show-byte Inv-loop μ-loop
+shared-slice-read-show-byte c = search needs
+
+show-byte-requires : tie.Need-show-byte-requires Inv-loop μ-loop
+show-byte-requires c κs = search needs
+
+add-i : tie.Need-add-i Inv-loop μ-loop
+add-i c = search needs
+
+loop-less : tie.Need-loop-less Inv-loop μ-loop
+loop-less c = search needs
+
+loop-again : tie.Need-loop-again Inv-loop μ-loop
+loop-again c = search needs
+
+slice-aggregate-show-text-2 : tie.Need-slice-aggregate-show-text-2 Inv-loop μ-loop
+slice-aggregate-show-text-2 c = search needs
+
+show-text-requires-2 : tie.Need-show-text-requires-2 Inv-loop μ-loop
+show-text-requires-2 c κs = search needs
+
+returns : tie.Need-returns Inv-loop μ-loop
+returns c = search needs
+
+pub show-bytes-spec : {M : Type 1} → statement M
+show-bytes-spec =
+    tie.close
+    (tie.spec
+    Inv-loop
+    μ-loop
+    slice-aggregate-show-text
+    show-text-requires
+    loop-holds
+    shared-slice-read-show-byte
+    show-byte-requires
+    add-i
+    loop-less
+    loop-again
+    slice-aggregate-show-text-2
+    show-text-requires-2
+    returns)

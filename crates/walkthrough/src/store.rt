@@ -1,0 +1,167 @@
+// The feed once more, through the one door of the unit, on a small store.
+use crate::door::turn;
+use crate::print::show;
+use crate::print::show_bytes;
+use crate::print::show_call;
+use crate::print::show_states;
+use entry::Entry;
+use layout::head::Head;
+use unit::Call;
+use unit::Tally;
+
+// What a caller hands from one call to the next: the memory of the store, a read set, bytes for an image, the head and
+// the tally.
+struct Store {
+    table: [u64; 4],
+    journal: [u64; 8],
+    reads: [u64; 3],
+    bytes: [u8; 22],
+    head: Head,
+    tally: Tally,
+}
+
+// All zeros, and the read set names its offers.
+fn unused() -> Store {
+    let head = Head {
+        used: 0,
+        oldest: 0,
+        checkpoint: 0,
+        tip: 0,
+        held: [false; 8],
+        issued: [0; 8],
+        ends: [0; 64],
+    };
+    let tally = Tally {
+        committed: 0,
+        rolled_back: 0,
+        flushed: 0,
+    };
+    Store {
+        table: [0; 4],
+        journal: [0; 8],
+        reads: [Entry::none(5), Entry::none(7), Entry::none(9)],
+        bytes: [0; 22],
+        head,
+        tally,
+    }
+}
+
+// Makes a call with these words, and prints its name and answer.
+fn make(name: &[u8], store: Store, call: Call, words: &mut [u64]) -> Store {
+    let mut table = store.table;
+    let mut journal = store.journal;
+    let mut bytes = store.bytes;
+    let after = turn(
+        store.tally,
+        &mut table,
+        &mut journal,
+        words,
+        &mut bytes,
+        store.head,
+        call,
+    );
+    let reply = after.reply;
+    let answer = reply.answer;
+    show_call(name, answer);
+    let reads = store.reads;
+    let head = reply.head;
+    let tally = after.tally;
+    Store {
+        table,
+        journal,
+        reads,
+        bytes,
+        head,
+        tally,
+    }
+}
+
+// Makes a call that takes no words.
+fn ask(name: &[u8], store: Store, call: Call) -> Store {
+    let mut none = [0u64; 0];
+    make(name, store, call, &mut none)
+}
+
+// Makes a call on the read set, and prints it.
+fn read(name: &[u8], store: Store, call: Call) -> Store {
+    let mut reads = store.reads;
+    let mut s = make(name, store, call, &mut reads);
+    show(b"read set\n", &reads);
+    s.reads = reads;
+    s
+}
+
+// State 1 has offer 5 at 1200.
+fn start() -> Store {
+    let mut first = [Entry::put(5, 1200)];
+    let mut s = ask(b"clear", unused(), Call::Clear);
+    s = make(b"commit", s, Call::Commit, &mut first);
+    ask(b"flush to 1", s, Call::Flush(1))
+}
+
+// States 2 and 3.
+fn feed(store: Store, mut earlier: [u64; 2], mut later: [u64; 2]) -> Store {
+    let s = make(b"commit", store, Call::Commit, &mut earlier);
+    make(b"commit", s, Call::Commit, &mut later)
+}
+
+// Each state is quoted as it is; price 0 is a price.
+fn quote(store: Store) -> Store {
+    let mut s = ask(b"look up 5 at 2", store, Call::LookUp(5, 2));
+    s = ask(b"look up 5 at 3", s, Call::LookUp(5, 3));
+    ask(b"look up 7 at 3", s, Call::LookUp(7, 3))
+}
+
+// A read starts at state 1, before states 2 and 3, and is carried across them. The flush keeps the steps that it needs.
+fn read_early(earlier: [u64; 2], later: [u64; 2]) -> Store {
+    let issued = read(b"issue slot 0", start(), Call::Issue(0));
+    let quoted = quote(feed(issued, earlier, later));
+    let flushed = ask(b"flush to 3", quoted, Call::Flush(3));
+    show_states(flushed.head, flushed.tally);
+    read(b"forward slot 0 to 3", flushed, Call::Forward(0, 3))
+}
+
+// Two calls that are turned away change nothing.
+fn refuse(store: Store, mut falling: [u64; 2]) -> Store {
+    let mut s = make(b"commit", store, Call::Commit, &mut falling);
+    s = ask(b"roll back to 2", s, Call::RollBack(2));
+    show_states(s.head, s.tally);
+    s
+}
+
+// State 4 is committed and rolled back.
+fn correct(store: Store) -> Store {
+    let mut wrong = [Entry::put(5, 900)];
+    let s = make(b"commit", store, Call::Commit, &mut wrong);
+    ask(b"roll back to 3", s, Call::RollBack(3))
+}
+
+// A slot is opened and closed.
+fn release(store: Store) -> Store {
+    let s = ask(b"issue slot 1", store, Call::Issue(1));
+    ask(b"release slot 1", s, Call::Release(1))
+}
+
+// The image of state 3.
+fn write(store: Store) -> Store {
+    let s = ask(b"write image", store, Call::WriteImage);
+    let bytes = s.bytes;
+    show_bytes(&bytes);
+    show_states(s.head, s.tally);
+    s
+}
+
+// The store starts anew from its image, twice.
+fn renew(store: Store) {
+    let mut s = ask(b"restart", store, Call::Restart);
+    s = ask(b"load", s, Call::Load);
+    show_states(s.head, s.tally);
+}
+
+// Makes every call of the unit at least once.
+pub fn follow(earlier: [u64; 2], later: [u64; 2], falling: [u64; 2]) {
+    let read = read_early(earlier, later);
+    let refused = refuse(read, falling);
+    let released = release(correct(refused));
+    renew(write(released));
+}
