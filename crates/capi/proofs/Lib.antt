@@ -1,5 +1,1 @@
-pub mod Arrays
-pub mod Below
-pub mod Packing
 pub mod Serving
-pub mod Theorems

@@ -18,14 +18,11 @@ use Rattle.unit.specs.declared.serve.Served.{Served}
 use Rattle.tallies.specs.Tally.{acceptedB}
 use Rattle.calls.specs.Calls as unit
 use Rattle.unit.specs.Serve.{served}
-use Rattle.capi.specs.HeadWords.{headOf, headB, wordsOf}
-use Rattle.capi.specs.Lent.{testsStore, lentB, unfit, answerTo, tableAfter, journalAfter, wordsAfter, bytesAfter, headAfter, tallyWordsAfter}
-
-pub chosen : {A : Type 0} {t : Bool} → t ≡ true → (x y : A) → cond t x y ≡ x
-chosen e x y = ap (λ (t : Bool). cond t x y) e
-
-pub passed : {A : Type 0} {t : Bool} → t ≡ false → (x y : A) → cond t x y ≡ y
-passed e x y = ap (λ (t : Bool). cond t x y) e
+use Rattle.head_words.specs.HeadWords.{headOf, headB, wordsOf}
+use Rattle.calls.specs.Answers.{answerAs}
+use Rattle.lent.specs.Codes.{codeOf}
+use Rattle.lent.proofs.Choices.{chosen, passed}
+use Rattle.lent.specs.Lent.{testsStore, lentB, unfit, answerTo, tableAfter, journalAfter, wordsAfter, bytesAfter, headAfter, tallyWordsAfter, Leaves, Serves}
 
 refused-by : (t : Bool) → acceptedB (cond t (Refused Unsound) (Refused Lengths)) ≡ false
 refused-by true = refl
@@ -39,24 +36,13 @@ module _ (head tally : List ℕ) (call : Call) (e : lentB head tally call ≡ tr
   tally-long = eqb-true (length tally) 3 (all-first (eqb (length tally) 3) _ (all-rest (eqb (length head) 84) _ e))
 
 module _ (table journal words bytes head tally : List ℕ) (call : Call) where
-  -- the promise, of an answer and what is left
-  abbrev pub Left : Answer → List ℕ → List ℕ → List ℕ → List ℕ → List ℕ → List ℕ → Type 0
-  Left r table' journal' words' bytes' head' tally' =
-      (r ≡ answerTo table journal words bytes head tally call)
-      × (table' ≡ tableAfter table journal words bytes head tally call)
-      × (journal' ≡ journalAfter table journal words bytes head tally call)
-      × (words' ≡ wordsAfter table journal words bytes head tally call)
-      × (bytes' ≡ bytesAfter table journal words bytes head tally call)
-      × (head' ≡ headAfter table journal words bytes head tally call)
-      × (tally' ≡ tallyWordsAfter table journal words bytes head tally call)
-
-  pub not-served : {r : Answer} → lentB head tally call ≡ false → r ≡ unfit (length table) (length journal) → Left r table journal words bytes head tally
+  pub not-served : {r : Answer} → lentB head tally call ≡ false → r ≡ unfit (length table) (length journal) → Leaves table journal words bytes head tally call r table journal words bytes head tally
   not-served {r} unfits e =
       let answered : r ≡ answerTo table journal words bytes head tally call = e ∙ sym (passed unfits _ _) in
       let away : acceptedB (answerTo table journal words bytes head tally call) ≡ false = ap acceptedB (sym answered ∙ e) ∙ refused-by (lengthsB (length table) (length journal)) in
       (answered, sym (passed unfits _ _), sym (passed unfits _ _), sym (passed unfits _ _), sym (passed unfits _ _), sym (passed away _ _), sym (passed unfits _ _))
 
-  pub was-served : {s : Served} {u : Head} {t j w b h a : List ℕ}
+  pub was-served : {r : Answer} {s : Served} {u : Head} {t j w b h a : List ℕ}
       → lentB head tally call ≡ true
       → u ≡ headOf head
       → s ≡ served (getD tally 0 0) (getD tally 1 0) (getD tally 2 0) table journal words bytes u call
@@ -64,13 +50,14 @@ module _ (table journal words bytes head tally : List ℕ) (call : Call) where
       → j ≡ unit.journalAfter table journal words bytes u call
       → w ≡ unit.wordsAfter table journal words bytes u call
       → b ≡ unit.bytesAfter table journal words bytes u call
-      → a ≡ s .committed ∷ s .«rolled_back» ∷ s .flushed ∷ []
+      → r ≡ s .reply .answer
       → h ≡ cond (acceptedB (s .reply .answer)) (wordsOf (s .reply .head)) head
-      → Left (s .reply .answer) t j w b h a
-  was-served {s} {u} fits eu es et ej ew eb ea eh =
+      → a ≡ s .committed ∷ s .«rolled_back» ∷ s .flushed ∷ []
+      → Leaves table journal words bytes head tally call r t j w b h a
+  was-served {r} {s} {u} fits eu es et ej ew eb er eh ea =
       let whole : s ≡ served (getD tally 0 0) (getD tally 1 0) (getD tally 2 0) table journal words bytes (headOf head) call = es ∙ ap (λ (x : Head). served (getD tally 0 0) (getD tally 1 0) (getD tally 2 0) table journal words bytes x call) eu in
       let answered : s .reply .answer ≡ answerTo table journal words bytes head tally call = ap (λ (x : Served). x .reply .answer) whole ∙ sym (chosen fits _ _) in (
-        answered,
+        er ∙ answered,
         et ∙ ap (λ (x : Head). unit.tableAfter table journal words bytes x call) eu ∙ sym (chosen fits _ _),
         ej ∙ ap (λ (x : Head). unit.journalAfter table journal words bytes x call) eu ∙ sym (chosen fits _ _),
         ew ∙ ap (λ (x : Head). unit.wordsAfter table journal words bytes x call) eu ∙ sym (chosen fits _ _),
@@ -78,3 +65,7 @@ module _ (table journal words bytes head tally : List ℕ) (call : Call) where
         eh ∙ ap₂ (λ (r : Answer) (x : Served). cond (acceptedB r) (wordsOf (x .reply .head)) head) answered whole,
         ea ∙ ap (λ (x : Served). x .committed ∷ x .«rolled_back» ∷ x .flushed ∷ []) whole ∙ sym (chosen fits _ _),
       )
+
+  -- the code in place of the answer, and the store alone
+  pub serves : {r : Answer} {code : ℕ} {t j w b h a : List ℕ} → code ≡ codeOf (answerAs r) → Leaves table journal words bytes head tally call r t j w b h a → Serves table journal words bytes head tally call code t j h a
+  serves coded left = (coded ∙ ap (λ (a : Answer). codeOf (answerAs a)) (left .0), left .1, left .2, left .5, left .6)

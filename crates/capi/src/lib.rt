@@ -1,7 +1,5 @@
 // The unit as a static library for C programs: one function for each call, with the prefix `cechnuol_`. The head and the
 // tally are lent as words (include/cechnuol.h has their layout).
-pub mod answers;
-pub mod head_words;
-pub mod lent;
+mod memory;
 pub mod pricing;
 pub mod store;

@@ -1,11 +1,11 @@
 // Pricing a batch, for C.
-use crate::answers::batch_code;
-use crate::answers::batch_value;
 use batch::pricing::price_batch;
+use lent::answers::batch_code;
+use lent::answers::batch_value;
 ghost use mathlib.Core.Path.{_≡_};
 ghost use lib.ListN.{length};
 ghost use Rattle.batch.specs.Batches.{batch, answer, output};
-ghost use Rattle.capi.specs.Codes.{codeOf, valueOf};
+ghost use Rattle.lent.specs.Codes.{codeOf, valueOf};
 
 // Prices the orders on the read set; the changes go to the start of `out`, and their count to `count`.
 #[no_mangle]

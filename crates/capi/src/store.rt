@@ -1,14 +1,16 @@
-// The calls on a store, for C. A call that needs no words or no bytes is given none.
-use crate::answers::code_of;
-use crate::answers::value_of;
-use crate::lent::call_on;
+// The calls on a store, for C.
+use crate::memory::call_on;
+use crate::memory::serve_store;
+use crate::memory::serve_words;
 use calls::call::Call;
+use lent::answers::code_of;
+use lent::answers::value_of;
 ghost use mathlib.Core.Path.{_≡_};
 ghost use mathlib.Core.List.{[]};
 ghost use Rattle.calls.specs.declared.call.Call.the-variants.{Clear, Load, WriteImage, Restart, Commit, RollBack, Flush, LookUp, Issue, Forward, Release};
 ghost use Rattle.calls.specs.Answers.{answerAs};
-ghost use Rattle.capi.specs.Codes.{valueOf};
-ghost use Rattle.capi.specs.Lent.{Serves, answerTo, wordsAfter, bytesAfter};
+ghost use Rattle.lent.specs.Codes.{valueOf};
+ghost use Rattle.lent.specs.Lent.{Serves, answerTo, wordsAfter, bytesAfter};
 
 // The empty map as state 0.
 #[no_mangle]
@@ -20,18 +22,7 @@ pub extern "C" fn cechnuol_clear(
 ) -> u64
     ensures { λ r. ⌜ Serves (now (table .entry)) (now (journal .entry)) [] [] (now (head .entry)) (now (tally .entry)) Clear r (now (table .exit)) (now (journal .exit)) (now (head .exit)) (now (tally .exit)) ⌝ }
 {
-    let mut words = [0u64; 0];
-    let mut bytes = [0u8; 0];
-    let answer = call_on(
-        table,
-        journal,
-        &mut words,
-        &mut bytes,
-        head,
-        tally,
-        Call::Clear,
-    );
-    code_of(answer)
+    serve_store(table, journal, head, tally, Call::Clear)
 }
 
 // Loads the image that the bytes are.
@@ -111,9 +102,7 @@ pub extern "C" fn cechnuol_commit(
 ) -> u64
     ensures { λ r. ⌜ Serves (now (table .entry)) (now (journal .entry)) (now (words .entry)) [] (now (head .entry)) (now (tally .entry)) Commit r (now (table .exit)) (now (journal .exit)) (now (head .exit)) (now (tally .exit)) × (now (words .exit) ≡ wordsAfter (now (table .entry)) (now (journal .entry)) (now (words .entry)) [] (now (head .entry)) (now (tally .entry)) Commit) ⌝ }
 {
-    let mut bytes = [0u8; 0];
-    let answer = call_on(table, journal, words, &mut bytes, head, tally, Call::Commit);
-    code_of(answer)
+    serve_words(table, journal, head, tally, words, Call::Commit)
 }
 
 // Goes back to a state.
@@ -127,18 +116,7 @@ pub extern "C" fn cechnuol_roll_back(
 ) -> u64
     ensures { λ r. ⌜ Serves (now (table .entry)) (now (journal .entry)) [] [] (now (head .entry)) (now (tally .entry)) (RollBack state) r (now (table .exit)) (now (journal .exit)) (now (head .exit)) (now (tally .exit)) ⌝ }
 {
-    let mut words = [0u64; 0];
-    let mut bytes = [0u8; 0];
-    let answer = call_on(
-        table,
-        journal,
-        &mut words,
-        &mut bytes,
-        head,
-        tally,
-        Call::RollBack(state),
-    );
-    code_of(answer)
+    serve_store(table, journal, head, tally, Call::RollBack(state))
 }
 
 // Makes the table the map at a state.
@@ -152,18 +130,7 @@ pub extern "C" fn cechnuol_flush(
 ) -> u64
     ensures { λ r. ⌜ Serves (now (table .entry)) (now (journal .entry)) [] [] (now (head .entry)) (now (tally .entry)) (Flush state) r (now (table .exit)) (now (journal .exit)) (now (head .exit)) (now (tally .exit)) ⌝ }
 {
-    let mut words = [0u64; 0];
-    let mut bytes = [0u8; 0];
-    let answer = call_on(
-        table,
-        journal,
-        &mut words,
-        &mut bytes,
-        head,
-        tally,
-        Call::Flush(state),
-    );
-    code_of(answer)
+    serve_store(table, journal, head, tally, Call::Flush(state))
 }
 
 // Writes the price of an offer at a state to `price`, or finds none.
@@ -206,17 +173,7 @@ pub extern "C" fn cechnuol_issue(
 ) -> u64
     ensures { λ r. ⌜ Serves (now (table .entry)) (now (journal .entry)) (now (words .entry)) [] (now (head .entry)) (now (tally .entry)) (Issue slot) r (now (table .exit)) (now (journal .exit)) (now (head .exit)) (now (tally .exit)) × (now (words .exit) ≡ wordsAfter (now (table .entry)) (now (journal .entry)) (now (words .entry)) [] (now (head .entry)) (now (tally .entry)) (Issue slot)) ⌝ }
 {
-    let mut bytes = [0u8; 0];
-    let answer = call_on(
-        table,
-        journal,
-        words,
-        &mut bytes,
-        head,
-        tally,
-        Call::Issue(slot),
-    );
-    code_of(answer)
+    serve_words(table, journal, head, tally, words, Call::Issue(slot))
 }
 
 // Forwards a read to a state; the words are the read set.
@@ -232,17 +189,14 @@ pub extern "C" fn cechnuol_forward(
 ) -> u64
     ensures { λ r. ⌜ Serves (now (table .entry)) (now (journal .entry)) (now (words .entry)) [] (now (head .entry)) (now (tally .entry)) (Forward slot state) r (now (table .exit)) (now (journal .exit)) (now (head .exit)) (now (tally .exit)) × (now (words .exit) ≡ wordsAfter (now (table .entry)) (now (journal .entry)) (now (words .entry)) [] (now (head .entry)) (now (tally .entry)) (Forward slot state)) ⌝ }
 {
-    let mut bytes = [0u8; 0];
-    let answer = call_on(
+    serve_words(
         table,
         journal,
-        words,
-        &mut bytes,
         head,
         tally,
+        words,
         Call::Forward(slot, state),
-    );
-    code_of(answer)
+    )
 }
 
 // Closes a slot (document 01: drop).
@@ -256,16 +210,5 @@ pub extern "C" fn cechnuol_release(
 ) -> u64
     ensures { λ r. ⌜ Serves (now (table .entry)) (now (journal .entry)) [] [] (now (head .entry)) (now (tally .entry)) (Release slot) r (now (table .exit)) (now (journal .exit)) (now (head .exit)) (now (tally .exit)) ⌝ }
 {
-    let mut words = [0u64; 0];
-    let mut bytes = [0u8; 0];
-    let answer = call_on(
-        table,
-        journal,
-        &mut words,
-        &mut bytes,
-        head,
-        tally,
-        Call::Release(slot),
-    );
-    code_of(answer)
+    serve_store(table, journal, head, tally, Call::Release(slot))
 }

@@ -2,7 +2,7 @@
 -- Assumes nothing.
 use mathlib.Core.Path.{ap, _∙_}
 use Rattle.grounds.specs.Numbers.{Answer}
-use Rattle.capi.specs.Codes.{codeOf, valueOf}
+use Rattle.lent.specs.Codes.{codeOf, valueOf}
 use borrow.Author.Needs.{needs}
 use Rattle.capi.proofs.pricing.cechnuol_price_batch.Statement.{statement}
 use Rattle.capi.proofs.pricing.cechnuol_price_batch.Tie as tie

@@ -1,9 +1,8 @@
 -- `store::cechnuol_load` meets its contract: it has what the call on lent memory promises.
 -- Assumes nothing.
-use mathlib.Core.Path.{ap, _∙_}
-use Rattle.calls.specs.declared.call.Answer.{Answer}
-use Rattle.calls.specs.Answers.{answerAs}
-use Rattle.capi.specs.Codes.{codeOf}
+use mathlib.Core.List.{[]}
+use Rattle.calls.specs.declared.call.Call.the-variants.{Load}
+use Rattle.capi.proofs.Serving.{serves}
 use borrow.Author.Needs.{needs}
 use Rattle.capi.proofs.store.cechnuol_load.Statement.{statement}
 use Rattle.capi.proofs.store.cechnuol_load.Tie as tie
@@ -33,7 +32,7 @@ same-length-5 : tie.Need-same-length-5
 same-length-5 c = search needs
 
 returns : tie.Need-returns
-returns c = (((c .code-of .ensures) ∙ ap (λ (a : Answer). codeOf (answerAs a)) (c .before .before .before .before .before .before .before .before .before .before .before .before .call-on .ensures .0), (c .before .before .before .before .before .before .before .before .before .before .before .before .call-on .ensures .1), (c .before .before .before .before .before .before .before .before .before .before .before .before .call-on .ensures .2), (c .before .before .before .before .before .before .before .before .before .before .before .before .call-on .ensures .5), (c .before .before .before .before .before .before .before .before .before .before .before .before .call-on .ensures .6)), (c .before .before .before .before .before .before .before .before .before .before .before .before .call-on .ensures .4))
+returns c = (serves (c .before .before .before .before .before .before .before .before .before .before .before .before .before .before .before .before .before .before .before .before .before .before .before .before .args .table .now) (c .before .before .before .before .before .before .before .before .before .before .before .before .before .before .before .before .before .before .before .before .before .before .before .before .args .journal .now) [] (c .before .before .before .before .before .before .before .before .before .before .before .before .before .before .before .before .before .before .before .before .before .before .before .before .args .bytes .now) (c .before .before .before .before .before .before .before .before .before .before .before .before .before .before .before .before .before .before .before .before .before .before .before .before .args .head .now) (c .before .before .before .before .before .before .before .before .before .before .before .before .before .before .before .before .before .before .before .before .before .before .before .before .args .tally .now) Load (c .code-of .ensures) (c .before .before .before .before .before .before .before .before .before .before .before .before .call-on .ensures), (c .before .before .before .before .before .before .before .before .before .before .before .before .call-on .ensures .4))
 
 pub cechnuol-load-spec : {M : Type 1} → statement M
 cechnuol-load-spec = tie.close (tie.spec slice-aggregate-call-on call-on-requires code-of-requires same-length same-length-2 same-length-3 same-length-4 same-length-5 returns)

@@ -1,0 +1,37 @@
+-- `memory::serve_words` meets its contract: it lends no bytes.
+-- Assumes nothing.
+use mathlib.Core.List.{[]}
+use Rattle.capi.proofs.Serving.{serves}
+use borrow.Author.Needs.{needs}
+use Rattle.capi.proofs.memory.serve_words.Statement.{statement}
+use Rattle.capi.proofs.memory.serve_words.Tie as tie
+
+slice-aggregate-call-on : tie.Need-slice-aggregate-call-on
+slice-aggregate-call-on c = search needs
+
+call-on-requires : tie.Need-call-on-requires
+call-on-requires c κs = search needs
+
+code-of-requires : tie.Need-code-of-requires
+code-of-requires c κs = search needs
+
+same-length : tie.Need-same-length
+same-length c = search needs
+
+same-length-2 : tie.Need-same-length-2
+same-length-2 c = search needs
+
+same-length-3 : tie.Need-same-length-3
+same-length-3 c = search needs
+
+same-length-4 : tie.Need-same-length-4
+same-length-4 c = search needs
+
+same-length-5 : tie.Need-same-length-5
+same-length-5 c = search needs
+
+returns : tie.Need-returns
+returns c = (serves (c .before .before .before .before .before .before .before .before .before .before .before .before .before .before .before .before .before .before .before .before .before .before .before .before .args .table .now) (c .before .before .before .before .before .before .before .before .before .before .before .before .before .before .before .before .before .before .before .before .before .before .before .before .args .journal .now) (c .before .before .before .before .before .before .before .before .before .before .before .before .before .before .before .before .before .before .before .before .before .before .before .before .args .words .now) [] (c .before .before .before .before .before .before .before .before .before .before .before .before .before .before .before .before .before .before .before .before .before .before .before .before .args .head .now) (c .before .before .before .before .before .before .before .before .before .before .before .before .before .before .before .before .before .before .before .before .before .before .before .before .args .tally .now) (c .before .before .before .before .before .before .before .before .before .before .before .before .before .before .before .before .before .before .before .before .before .before .before .before .args .call) (c .code-of .ensures) (c .before .before .before .before .before .before .before .before .before .before .before .before .call-on .ensures), (c .before .before .before .before .before .before .before .before .before .before .before .before .call-on .ensures .3))
+
+pub serve-words-spec : {M : Type 1} → statement M
+serve-words-spec = tie.close (tie.spec slice-aggregate-call-on call-on-requires code-of-requires same-length same-length-2 same-length-3 same-length-4 same-length-5 returns)

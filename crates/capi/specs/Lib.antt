@@ -1,3 +1,0 @@
-pub mod HeadWords
-pub mod Codes
-pub mod Lent

@@ -1,0 +1,72 @@
+// A call on memory that a C program lends: with words and bytes, with words alone, and with neither. A call that needs no
+// words or no bytes is given none.
+use calls::call::Answer;
+use calls::call::Call;
+use head_words::unpack;
+use lent::answers::code_of;
+use lent::fit::is_lent;
+use lent::fit::unfit_answer;
+use lent::storing::put_served;
+use unit::serve::serve_core;
+ghost use mathlib.Core.Path.{_≡_};
+ghost use mathlib.Core.List.{[]};
+ghost use Rattle.lent.specs.Lent.{Leaves, Serves, wordsAfter};
+
+// Serves a call on lent memory.
+pub(crate) fn call_on(
+    table: &mut [u64],
+    journal: &mut [u64],
+    words: &mut [u64],
+    bytes: &mut [u8],
+    head: &mut [u64],
+    tally: &mut [u64],
+    call: Call,
+) -> Answer
+    ensures { λ r. ⌜ Leaves (now (table .entry)) (now (journal .entry)) (now (words .entry)) (now (bytes .entry)) (now (head .entry)) (now (tally .entry)) call r (now (table .exit)) (now (journal .exit)) (now (words .exit)) (now (bytes .exit)) (now (head .exit)) (now (tally .exit)) ⌝ }
+{
+    if !is_lent(head, tally, call) {
+        return unfit_answer(table.len(), journal.len());
+    }
+    let served = serve_core(
+        tally[0],
+        tally[1],
+        tally[2],
+        table,
+        journal,
+        words,
+        bytes,
+        unpack(head),
+        call,
+    );
+    put_served(head, tally, served)
+}
+
+// Serves a call that is lent words and no bytes.
+pub(crate) fn serve_words(
+    table: &mut [u64],
+    journal: &mut [u64],
+    head: &mut [u64],
+    tally: &mut [u64],
+    words: &mut [u64],
+    call: Call,
+) -> u64
+    ensures { λ r. ⌜ Serves (now (table .entry)) (now (journal .entry)) (now (words .entry)) [] (now (head .entry)) (now (tally .entry)) call r (now (table .exit)) (now (journal .exit)) (now (head .exit)) (now (tally .exit)) × (now (words .exit) ≡ wordsAfter (now (table .entry)) (now (journal .entry)) (now (words .entry)) [] (now (head .entry)) (now (tally .entry)) call) ⌝ }
+{
+    let mut bytes = [0u8; 0];
+    let answer = call_on(table, journal, words, &mut bytes, head, tally, call);
+    code_of(answer)
+}
+
+// Serves a call that is lent neither words nor bytes.
+pub(crate) fn serve_store(
+    table: &mut [u64],
+    journal: &mut [u64],
+    head: &mut [u64],
+    tally: &mut [u64],
+    call: Call,
+) -> u64
+    ensures { λ r. ⌜ Serves (now (table .entry)) (now (journal .entry)) [] [] (now (head .entry)) (now (tally .entry)) call r (now (table .exit)) (now (journal .exit)) (now (head .exit)) (now (tally .exit)) ⌝ }
+{
+    let mut words = [0u64; 0];
+    serve_words(table, journal, head, tally, &mut words, call)
+}

@@ -1,0 +1,4 @@
+pub mod Arrays
+pub mod Below
+pub mod Packing
+pub mod Theorems
