@@ -63,12 +63,13 @@ def follow(lines, of, out):
 
 
 def seconds_in(log):
-    """The seconds of each crate, and of each crate's edit files, in the order of the log."""
+    """The seconds of each crate, and of each crate's edit files with their names, in the order of the log."""
     proofs, edits = {}, {}
     for line in log.splitlines():
         match = EDITS.match(line)
         if match and match["seconds"]:
-            edits.setdefault(match["name"].partition("/")[0], []).append(int(match["seconds"]))
+            crate, _, file = match["name"].partition("/")
+            edits.setdefault(crate, []).append((file, int(match["seconds"])))
             continue
         match = CRATE.match(line)
         if match and match["seconds"]:
@@ -76,16 +77,21 @@ def seconds_in(log):
     return proofs, edits
 
 
+def cells(proofs, edits, crate):
+    """A crate's cells in a table: the seconds of its proof, and those of each edit file."""
+    return f" {proofs.get(crate, '')} | {', '.join(f'{file} {seconds}' for file, seconds in edits.get(crate, []))} |"
+
+
 def profile(logs):
     """A table with a row for each crate: its proof, and its edit files one by one, in each of the logs."""
     parts = [seconds_in(log) for log in logs]
-    names = list(dict.fromkeys(name for proofs, _ in reversed(parts) for name in proofs))
+    crates = list(dict.fromkeys(crate for proofs, _ in reversed(parts) for crate in proofs))
     yield "| crate |" + " proof, s | edit files, s |" * len(parts)
     yield "|---|" + "---:|---|" * len(parts)
-    for name in names:
-        cells = (f" {proofs.get(name, '')} | {' '.join(map(str, edits.get(name, [])))} |" for proofs, edits in parts)
-        yield f"| `{name}` |" + "".join(cells)
-    sums = (f" {sum(proofs.values())} | {sum(map(sum, edits.values()))} in {sum(map(len, edits.values()))} files |" for proofs, edits in parts)
+    for crate in crates:
+        yield f"| `{crate}` |" + "".join(cells(proofs, edits, crate) for proofs, edits in parts)
+    files = [[seconds for found in edits.values() for _, seconds in found] for _, edits in parts]
+    sums = (f" {sum(proofs.values())} | {sum(found)} in {len(found)} files |" for (proofs, _), found in zip(parts, files))
     yield "| together |" + "".join(sums)
 
 

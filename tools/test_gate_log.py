@@ -50,7 +50,7 @@ class Repository(unittest.TestCase):
 
 class Profile(unittest.TestCase):
     def test_seconds(self):
-        self.assertEqual(gate_log.seconds_in(LOG), ({"sums": 6, "more": 4}, {"sums": [12, 3]}))
+        self.assertEqual(gate_log.seconds_in(LOG), ({"sums": 6, "more": 4}, {"sums": [("functions", 12), ("definition", 3)]}))
 
     def test_seconds_of_counted_lines(self):
         counted = LOG.replace("rt: must", "[edits 1 of 2] rt: must").replace("rt: sums", "[proof 1 of 3] rt: sums")
@@ -58,7 +58,7 @@ class Profile(unittest.TestCase):
 
     def test_two_logs_side_by_side(self):
         rows = list(gate_log.profile([LOG, "rt: sums proved (2 s)\n"]))
-        self.assertIn("| `sums` | 6 | 12 3 | 2 |  |", rows)
+        self.assertIn("| `sums` | 6 | functions 12, definition 3 | 2 |  |", rows)
         self.assertIn("| `more` | 4 |  |  |  |", rows)
         self.assertEqual(rows[-1], "| together | 10 | 15 in 2 files | 2 | 0 in 0 files |")
 
