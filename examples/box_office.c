@@ -1,5 +1,6 @@
-/* Two of document 01's moments from C: a read that starts before the state that it serves (5), and a flush into a table of one
- * word (12). Then every call on no memory at all. It stops with status 1 at an answer that is not the expected one. */
+/* Two of document 01's moments from C: a read that starts before the state that it serves (5), and a flush into a table
+ * of one word (12). Then every call on no memory at all. It stops with status 1 at an answer that is not the expected
+ * one. */
 #include "cechnuol.h"
 
 #include <inttypes.h>
@@ -15,9 +16,11 @@ struct store {
     uint64_t tally[CECHNUOL_TALLY_WORDS];
 };
 
-#define LENT(s) \
-    (s)->table, (s)->table_words, (s)->journal, 16, (s)->head, CECHNUOL_HEAD_WORDS, (s)->tally, CECHNUOL_TALLY_WORDS
-#define NOTHING NULL, 0, NULL, 0, NULL, 0, NULL, 0
+/* What a query is lent, and what every other call on a store is lent: the tally too. */
+#define TO_READ(s) (s)->table, (s)->table_words, (s)->journal, 16, (s)->head, CECHNUOL_HEAD_WORDS
+#define LENT(s) TO_READ(s), (s)->tally, CECHNUOL_TALLY_WORDS
+#define NOTHING_TO_READ NULL, 0, NULL, 0, NULL, 0
+#define NOTHING NOTHING_TO_READ, NULL, 0
 
 static void expect(uint64_t got, uint64_t want, const char *what)
 {
@@ -64,9 +67,9 @@ static void a_table_of_one_word(void)
     expect(cechnuol_flush(LENT(&s), 1), CECHNUOL_TABLE_FULL, "flush to 1");
     expect(cechnuol_commit(LENT(&s), &cut, 1), CECHNUOL_OK, "commit the removal of 5");
     expect(cechnuol_flush(LENT(&s), 2), CECHNUOL_OK, "flush to 2");
-    expect(cechnuol_look_up(LENT(&s), 9, 2, &price), CECHNUOL_OK, "look up 9 at 2");
+    expect(cechnuol_look_up(TO_READ(&s), 9, 2, &price), CECHNUOL_OK, "look up 9 at 2");
     expect(price, 700, "its price");
-    expect(cechnuol_look_up(LENT(&s), 5, 2, &price), CECHNUOL_NO_PRICE, "look up 5 at 2");
+    expect(cechnuol_look_up(TO_READ(&s), 5, 2, &price), CECHNUOL_NO_PRICE, "look up 5 at 2");
 }
 
 /* Null pointers with length 0: no memory is lent, and none is touched. */
@@ -77,12 +80,12 @@ static void on_nothing(void)
     puts("null pointers with length 0");
     expect(cechnuol_clear(NOTHING), CECHNUOL_LENGTHS, "clear");
     expect(cechnuol_load(NOTHING, NULL, 0), CECHNUOL_LENGTHS, "load");
-    expect(cechnuol_write_image(NOTHING, NULL, 0, &value), CECHNUOL_LENGTHS, "write_image");
+    expect(cechnuol_write_image(NOTHING_TO_READ, NULL, 0, &value), CECHNUOL_LENGTHS, "write_image");
     expect(cechnuol_restart(NOTHING, NULL, 0), CECHNUOL_LENGTHS, "restart");
     expect(cechnuol_commit(NOTHING, NULL, 0), CECHNUOL_LENGTHS, "commit");
     expect(cechnuol_roll_back(NOTHING, 0), CECHNUOL_LENGTHS, "roll_back");
     expect(cechnuol_flush(NOTHING, 0), CECHNUOL_LENGTHS, "flush");
-    expect(cechnuol_look_up(NOTHING, 0, 0, &value), CECHNUOL_LENGTHS, "look_up");
+    expect(cechnuol_look_up(NOTHING_TO_READ, 0, 0, &value), CECHNUOL_LENGTHS, "look_up");
     expect(cechnuol_issue(NOTHING, 0, NULL, 0), CECHNUOL_LENGTHS, "issue");
     expect(cechnuol_forward(NOTHING, 0, 0, NULL, 0), CECHNUOL_LENGTHS, "forward");
     expect(cechnuol_release(NOTHING, 0), CECHNUOL_LENGTHS, "release");

@@ -1,10 +1,10 @@
 /*
  * cechnuol.h: the price unit for C programs (C99).
  *
- * Link with libcechnuol's static library, target/staticlib/libcapi.a (`rt staticlib capi`). Every function here is proved to
- * meet its contract in crates/capi for every content and every length of what it is lent; the duties of the caller are those of
- * C: each pointer and length name memory of the caller's, and what one call is lent does not overlap. A length of 0 may come
- * with a null pointer.
+ * Link with libcechnuol's static library, target/staticlib/libcapi.a (`rt staticlib capi`). Every function here is
+ * proved to meet its contract in crates/capi for every content and every length of what it is lent; the duties of the
+ * caller are those of C: each pointer and length name memory of the caller's, and what one call is lent does not
+ * overlap. A length of 0 may come with a null pointer.
  *
  * Lent memory. The caller owns all of it; the unit keeps nothing between calls.
  *   table    1 to 8,000 words (document 01: the book)
@@ -14,14 +14,20 @@
  *   words    a list or a read set, whole
  *   bytes    an image to be loaded, whole, or memory for one to be written
  *
- * A new store: lend any table, journal, head and tally of the right lengths to cechnuol_clear or cechnuol_load; what they hold
- * before does not matter.
+ * A new store: lend any table, journal, head and tally of the right lengths to cechnuol_clear or cechnuol_load; what
+ * they hold before does not matter.
  *
- * Answers. CECHNUOL_OK, or the number of the ground on which the call was turned away (document 01); then everything lent is as
- * it came. cechnuol_look_up alone also answers CECHNUOL_NO_PRICE. A value (a price, a count) goes to the word that is lent for
- * it, on CECHNUOL_OK only.
+ * Queries. cechnuol_look_up and cechnuol_write_image take a store to read only: table, journal and head are const, and
+ * no tally is lent. They store nothing but their output: the price, or the bytes and the count. So the store may lie in
+ * read-only memory, and several threads may query one store at once, each with an output of its own, as long as no
+ * other call changes the store meanwhile.
  *
- * A head or a tally of another length, and head words that do not fit their fields, are ground 2, after ground 1.
+ * Answers. CECHNUOL_OK, or the number of the ground on which the call was turned away (document 01); then everything
+ * lent is as it came. cechnuol_look_up alone also answers CECHNUOL_NO_PRICE. A value (a price, a count) goes to the
+ * word that is lent for it, on CECHNUOL_OK only.
+ *
+ * A head of another length, head words that do not fit their fields, and a tally of another length where one is lent
+ * are ground 2, after ground 1.
  *
  * Stack. A flush needs up to 160 KiB of it, whatever it is lent; any other call less than 32 KiB.
  */
@@ -78,22 +84,29 @@ enum {
     CECHNUOL_NO_PRICE = 100      /* a lookup: the offer has no price at that state */
 };
 
-/* The parameters that every call on a store begins with. */
+/* The parameters that every call that may change a store begins with. */
 #define CECHNUOL_STORE \
     uint64_t *table, size_t table_words, uint64_t *journal, size_t journal_words, uint64_t *head, size_t head_words, \
         uint64_t *tally, size_t tally_words
 
+/* The parameters that every query begins with: a store to read only, without its tally. */
+#define CECHNUOL_STORE_TO_READ \
+    const uint64_t *table, size_t table_words, const uint64_t *journal, size_t journal_words, const uint64_t *head, \
+        size_t head_words
+
 uint64_t cechnuol_clear(CECHNUOL_STORE);
 uint64_t cechnuol_load(CECHNUOL_STORE, uint8_t *bytes, size_t byte_count);
-/* The image of the checkpoint; its length in bytes goes to *count. */
-uint64_t cechnuol_write_image(CECHNUOL_STORE, uint8_t *bytes, size_t byte_count, uint64_t *count);
+/* A query. The image of the checkpoint goes to the start of the bytes, and its length in bytes to *count; nothing else
+ * is stored, and the store is only read. */
+uint64_t cechnuol_write_image(CECHNUOL_STORE_TO_READ, uint8_t *bytes, size_t byte_count, uint64_t *count);
 /* The same image, which is then loaded: the checkpoint becomes the tip, all slots close. */
 uint64_t cechnuol_restart(CECHNUOL_STORE, uint8_t *bytes, size_t byte_count);
 uint64_t cechnuol_commit(CECHNUOL_STORE, uint64_t *words, size_t word_count);
 uint64_t cechnuol_roll_back(CECHNUOL_STORE, uint32_t state);
 uint64_t cechnuol_flush(CECHNUOL_STORE, uint32_t state);
-/* The price goes to *price; CECHNUOL_NO_PRICE if there is none. */
-uint64_t cechnuol_look_up(CECHNUOL_STORE, uint32_t offer, uint32_t state, uint64_t *price);
+/* A query. The price goes to *price; CECHNUOL_NO_PRICE if there is none. Nothing else is stored, and the store is only
+ * read. */
+uint64_t cechnuol_look_up(CECHNUOL_STORE_TO_READ, uint32_t offer, uint32_t state, uint64_t *price);
 /* Fills the words, a list of kind 0, from the table, and opens the slot. */
 uint64_t cechnuol_issue(CECHNUOL_STORE, size_t slot, uint64_t *words, size_t word_count);
 /* Brings the read set in the words forward to the state, and closes the slot. */

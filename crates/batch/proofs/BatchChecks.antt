@@ -10,11 +10,12 @@ use lib.Dec.{leb}
 use lib.ListN.{length, take, drop, replicate, drop-of-length-le}
 use Rattle.changes.specs.Lists.{listB, From}
 use Rattle.changes.proofs.ListTest.{list-facts}
-use Rattle.grounds.specs.declared.Refusal.the-variants.{BadList, BadOrder, OfferNotRead, OutputShort}
-use Rattle.grounds.specs.declared.Refusal.{Refusal}
-use Rattle.grounds.specs.Numbers.{numberOf, Answer, accepted, refused}
-use Rattle.order_runs.specs.declared.running.Check.{Check}
-use Rattle.order_runs.specs.declared.running.Check.the-variants.{Passed, Stops}
+use Rattle.answers.specs.declared.refusal.Refusal.the-variants.{BadList, BadOrder, OfferNotRead, OutputShort}
+use Rattle.answers.specs.declared.refusal.Refusal.{Refusal}
+use Rattle.answers.specs.Answers.{Said, accepted, refused}
+use Rattle.answers.specs.Numbers.{numberOf}
+use Rattle.answers.specs.declared.answer.Check.{Check}
+use Rattle.answers.specs.declared.answer.Check.the-variants.{Passed, Refused}
 use Rattle.orders.specs.Orders.{allowedB}
 use Rattle.order_runs.specs.Tests.{allB, readB}
 use Rattle.order_runs.specs.Running.{Ran, done, fails, priced, after}
@@ -22,22 +23,22 @@ use Rattle.batch.specs.Batches.{checked, fitting, batch, answer, output}
 use Rattle.order_runs.specs.Working.{Accepted, Placed, Ready, Room}
 
 module _ (reads orders : List ℕ) where
-  pub stop-list : listB reads ≡ false → checked reads orders ≡ Stops BadList
+  pub stop-list : listB reads ≡ false → checked reads orders ≡ Refused BadList
   unfolding checked
   stop-list e = rw e
 
   module _ (list : listB reads ≡ true) where
-    pub stop-many : 64 < length orders → checked reads orders ≡ Stops BadList
+    pub stop-many : 64 < length orders → checked reads orders ≡ Refused BadList
     unfolding checked
     stop-many h = rw (list, lt-leb (length orders) 64 h)
 
     module _ (few : length orders ≤ 64) where
-      pub stop-order : allB allowedB orders ≡ false → checked reads orders ≡ Stops BadOrder
+      pub stop-order : allB allowedB orders ≡ false → checked reads orders ≡ Refused BadOrder
       unfolding checked
       stop-order e = rw (list, le-leb (length orders) 64 few, e)
 
       module _ (allowed : allB allowedB orders ≡ true) where
-        pub stop-read : allB (readB reads) orders ≡ false → checked reads orders ≡ Stops OfferNotRead
+        pub stop-read : allB (readB reads) orders ≡ false → checked reads orders ≡ Refused OfferNotRead
         unfolding checked
         stop-read e = rw (list, le-leb (length orders) 64 few, allowed, e)
 
@@ -46,7 +47,7 @@ module _ (reads orders : List ℕ) where
         passes e = rw (list, le-leb (length orders) 64 few, allowed, e)
 
 -- what is known of a batch that passes
-tests : (a b c d : Bool) → cond (a && b) (cond c (cond d Passed (Stops OfferNotRead)) (Stops BadOrder)) (Stops BadList) ≡ Passed → (a ≡ true) × (b ≡ true) × (d ≡ true)
+tests : (a b c d : Bool) → cond (a && b) (cond c (cond d Passed (Refused OfferNotRead)) (Refused BadOrder)) (Refused BadList) ≡ Passed → (a ≡ true) × (b ≡ true) × (d ≡ true)
 tests true true true true e = (refl, refl, refl)
 tests true true true false e = absurd (let z : _≡_ {A = ℕ} 0 1 = cc in omega arith)
 tests true true false d e = absurd (let z : _≡_ {A = ℕ} 0 1 = cc in omega arith)
@@ -73,7 +74,7 @@ accepted-at reads orders places e s p =
     record { short = facts .short; rises = facts .rises; enough = omega (arith, facts .few); placed = p }
 
 -- a ground stops a batch, so that it does not pass
-pub not-passed : {ground : Refusal} {P : Type 0} → Stops ground ≡ Passed → P
+pub not-passed : {ground : Refusal} {P : Type 0} → Refused ground ≡ Passed → P
 not-passed e = absurd (let z : _≡_ {A = ℕ} 0 1 = cc in omega arith)
 
 -- the output's length
@@ -85,7 +86,7 @@ too-short room d h = rw (lt-leb (length d) room h)
 
 -- a batch that is stopped, and one whose orders run
 module _ (reads orders : List ℕ) (room : ℕ) where
-  pub batch-stopped : {ground : Refusal} → checked reads orders ≡ Stops ground → batch reads orders room ≡ fails (numberOf ground)
+  pub batch-stopped : {ground : Refusal} → checked reads orders ≡ Refused ground → batch reads orders room ≡ fails (numberOf ground)
   unfolding batch
   batch-stopped e = ap (λ (c : Check). after c (fitting room (priced reads orders))) e
 
@@ -97,7 +98,7 @@ module _ (reads orders : List ℕ) (room : ℕ) where
 pub went : {check : Check} (d : List ℕ) {ran : Ran} → check ≡ Passed → after check (done d) ≡ ran → done d ≡ ran
 went d e i = sym (ap (λ (c : Check). after c (done d)) e) ∙ i
 
-pub stopped : {check : Check} {ground : Refusal} (d : List ℕ) {ran : Ran} → check ≡ Stops ground → after check (done d) ≡ ran → fails (numberOf ground) ≡ ran
+pub stopped : {check : Check} {ground : Refusal} (d : List ℕ) {ran : Ran} → check ≡ Refused ground → after check (done d) ≡ ran → fails (numberOf ground) ≡ ran
 stopped d e i = sym (ap (λ (c : Check). after c (done d)) e) ∙ i
 
 pub tell-fails : {n : ℕ} {ran : Ran} (out : List ℕ) → fails n ≡ ran → (refused n ≡ answer ran) × (out ≡ output ran out)
@@ -108,7 +109,7 @@ tell-done {d} list₀ e count i =
     (ap accepted count ∙ ap answer e, i ∙ ap (λ (k : ℕ). d ++ drop k list₀) count ∙ ap (λ (r : Ran). output r list₀) e)
 
 -- the answer and the memory of a run are those of another that it equals
-pub tell-same : {ran ran′ : Ran} → ran ≡ ran′ → (out : List ℕ) {told : Answer} {list : List ℕ} → (told ≡ answer ran) × (list ≡ output ran out) → (told ≡ answer ran′) × (list ≡ output ran′ out)
+pub tell-same : {ran ran′ : Ran} → ran ≡ ran′ → (out : List ℕ) {told : Said} {list : List ℕ} → (told ≡ answer ran) × (list ≡ output ran out) → (told ≡ answer ran′) × (list ≡ output ran′ out)
 tell-same e out h = (h .0 ∙ ap answer e, h .1 ∙ ap (λ (r : Ran). output r out) e)
 
 -- a copy of a read set in memory of its length

@@ -15,8 +15,8 @@ use Rattle.changes.proofs.Find.{find-empty}
 use Rattle.changes.proofs.Laws.{apply-zero}
 use Rattle.changes.proofs.ReadWords.{prices-map, prices-shown}
 use Rattle.changes.proofs.Single.{changes-none}
-use Rattle.order_runs.specs.declared.running.Check.{Check}
-use Rattle.order_runs.specs.declared.running.Check.the-variants.{Passed, Stops}
+use Rattle.answers.specs.declared.answer.Check.{Check}
+use Rattle.answers.specs.declared.answer.Check.the-variants.{Passed, Refused}
 use Rattle.order_runs.specs.Tests.{allB, readB, foundB}
 use Rattle.order_runs.specs.Running.{Ran, done, fails, priced, after}
 use Rattle.batch.specs.OnMaps.{difference, runOnMap, onDone, Agrees, namedB}
@@ -91,7 +91,7 @@ accepted-runs reads orders d room e = by-check (checked reads orders) refl e
 
     by-check : (c : Check) → checked reads orders ≡ c → after c (fitting room (priced reads orders)) ≡ done d → Accepts reads orders d
     by-check Passed c r = by-run (priced reads orders) refl c r
-    by-check (Stops ground) c r = absurd (let z : _≡_ {A = ℕ} 0 1 = cc in omega arith)
+    by-check (Refused ground) c r = absurd (let z : _≡_ {A = ℕ} 0 1 = cc in omega arith)
 
 module _ (reads orders d : List ℕ) (room : ℕ) (accepted : batch reads orders room ≡ done d) where
   -- its output applied to any map that agrees with the read set is what running the orders on that map gives,

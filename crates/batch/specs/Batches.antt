@@ -6,10 +6,11 @@ use Prim.Native.Nat.{ℕ}
 use lib.Dec.{leb}
 use lib.ListN.{length, drop}
 use Rattle.changes.specs.Lists.{listB}
-use Rattle.grounds.specs.declared.Refusal.the-variants.{BadList, BadOrder, OfferNotRead, OutputShort}
-use Rattle.grounds.specs.Numbers.{numberOf, Answer, accepted, refused}
-use Rattle.order_runs.specs.declared.running.Check.{Check}
-use Rattle.order_runs.specs.declared.running.Check.the-variants.{Passed, Stops}
+use Rattle.answers.specs.declared.refusal.Refusal.the-variants.{BadList, BadOrder, OfferNotRead, OutputShort}
+use Rattle.answers.specs.Answers.{Said, accepted, refused}
+use Rattle.answers.specs.Numbers.{numberOf}
+use Rattle.answers.specs.declared.answer.Check.{Check}
+use Rattle.answers.specs.declared.answer.Check.the-variants.{Passed, Refused}
 use Rattle.orders.specs.Orders.{allowedB}
 use Rattle.order_runs.specs.Tests.{readB, allB}
 use Rattle.order_runs.specs.Running.{Ran, done, fails, priced, after}
@@ -19,8 +20,8 @@ use Rattle.order_runs.specs.Running.{Ran, done, fails, priced, after}
 unfoldable pub checked : List ℕ → List ℕ → Check
 checked reads orders =
     cond (listB reads && leb (length orders) 64)
-    (cond (allB allowedB orders) (cond (allB (readB reads) orders) Passed (Stops OfferNotRead)) (Stops BadOrder))
-    (Stops BadList)
+    (cond (allB allowedB orders) (cond (allB (readB reads) orders) Passed (Refused OfferNotRead)) (Refused BadOrder))
+    (Refused BadList)
 
 -- Ground 17: "Output is shorter than what is to be written."
 abbrev pub fitting : ℕ → Ran → Ran
@@ -32,7 +33,7 @@ unfoldable pub batch : List ℕ → List ℕ → ℕ → Ran
 batch reads orders room = after (checked reads orders) (fitting room (priced reads orders))
 
 -- the answer: the count of the words, or the number alone
-abbrev pub answer : Ran → Answer
+abbrev pub answer : Ran → Said
 answer (done d) = accepted (length d)
 answer (fails n) = refused n
 

@@ -1,8 +1,8 @@
 // What turns a batch away before any order runs (document 01, grounds 6 to 8).
-use grounds::Refusal;
+use answers::answer::Check;
+use answers::refusal::Refusal;
 use lists::rules::is_list;
 use order_runs::places::find_places;
-use order_runs::running::Check;
 use orders::is_allowed;
 ghost use mathlib.Core.Path.{_≡_};
 ghost use Prim.Native.Nat.{_≤_};
@@ -10,7 +10,7 @@ ghost use lib.ListN.{length};
 ghost use Rattle.orders.specs.Orders.{allowedB};
 ghost use Rattle.order_runs.specs.Tests.{allB};
 ghost use Rattle.batch.specs.Batches.{checked};
-ghost use Rattle.order_runs.specs.declared.running.Check.the-variants.{Passed};
+ghost use Rattle.answers.specs.declared.answer.Check.the-variants.{Passed};
 ghost use Rattle.order_runs.specs.Working.{Placed};
 
 // The most orders of a batch.
@@ -35,16 +35,16 @@ pub fn check_batch(reads: &[u64], orders: &[u64], places: &mut [usize]) -> Check
     ensures { λ r. ⌜ (r ≡ checked (now (reads .entry)) (now (orders .entry))) × (r ≡ Passed → Placed (now (reads .entry)) (now (orders .entry)) (now (places .exit)) (length (now (orders .entry)))) ⌝ }
 {
     if !is_list(reads) {
-        return Check::Stops(Refusal::BadList);
+        return Check::Refused(Refusal::BadList);
     }
     if BATCH_ORDERS < orders.len() {
-        return Check::Stops(Refusal::BadList);
+        return Check::Refused(Refusal::BadList);
     }
     if !all_allowed(orders) {
-        return Check::Stops(Refusal::BadOrder);
+        return Check::Refused(Refusal::BadOrder);
     }
     if !find_places(reads, orders, places) {
-        return Check::Stops(Refusal::OfferNotRead);
+        return Check::Refused(Refusal::OfferNotRead);
     }
     Check::Passed
 }

@@ -1,2 +1,2 @@
-pub mod Answers
-pub mod Calls
+pub mod Lent
+pub mod Meaning

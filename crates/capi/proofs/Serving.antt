@@ -2,27 +2,31 @@
 -- Assumes nothing.
 use mathlib.Core.Path.{_≡_, refl, sym, ap, ap₂, _∙_}
 use mathlib.Core.Bool.{Bool, true, false, cond}
-use mathlib.Core.List.{List, [], _∷_}
+use mathlib.Core.List.{List}
 use Prim.Native.Nat.{ℕ}
 use borrow.Author.Tests.{eqb-true}
 use lib.Dec.{eqb}
-use lib.ListN.{length, getD}
-use Rattle.grounds.specs.declared.Refusal.the-variants.{Lengths, Unsound}
+use lib.ListN.{length}
+use Rattle.answers.specs.declared.answer.Answer.{Answer}
+use Rattle.answers.specs.declared.answer.Answer.the-variants.{Refused}
+use Rattle.answers.specs.declared.call.Call.{Call}
+use Rattle.answers.specs.declared.call.Call.the-variants.{Ask}
+use Rattle.answers.specs.declared.call.Query.{Query}
+use Rattle.answers.specs.declared.refusal.Refusal.the-variants.{Lengths, Unsound}
+use Rattle.answers.specs.declared.tally.Tally.{Tally}
+use Rattle.answers.specs.Answers.{acceptedB, saidBy}
 use Rattle.layout.specs.declared.head.Head.{Head}
-use Rattle.layout.specs.Sound.{lengthsB}
+use Rattle.layout.specs.Clauses.{lengthsB}
 use Rattle.layout.proofs.Holds.{all-first, all-rest}
-use Rattle.calls.specs.declared.call.Answer.{Answer}
-use Rattle.calls.specs.declared.call.Answer.the-variants.{Refused}
-use Rattle.calls.specs.declared.call.Call.{Call}
+use Rattle.calls.specs.Lent.{Lent, lent, Performs}
+use Rattle.calls.specs.Meaning.{performed}
 use Rattle.unit.specs.declared.serve.Served.{Served}
-use Rattle.tallies.specs.Tally.{acceptedB}
-use Rattle.calls.specs.Calls as unit
+use Rattle.unit.specs.Serve as Unit
 use Rattle.unit.specs.Serve.{served}
 use Rattle.head_words.specs.HeadWords.{headOf, headB, wordsOf}
-use Rattle.calls.specs.Answers.{answerAs}
-use Rattle.lent.specs.Codes.{codeOf}
+use Rattle.lent.specs.Codes.{codeOf, valueOf}
+use Rattle.lent.specs.Lent.{lentB, unfit, tallyOf, tallyWords, answerTo, Leaves, Serves, Asks, Tells}
 use Rattle.lent.proofs.Choices.{chosen, passed}
-use Rattle.lent.specs.Lent.{testsStore, lentB, unfit, answerTo, tableAfter, journalAfter, wordsAfter, bytesAfter, headAfter, tallyWordsAfter, Leaves, Serves}
 
 refused-by : (t : Bool) → acceptedB (cond t (Refused Unsound) (Refused Lengths)) ≡ false
 refused-by true = refl
@@ -42,30 +46,58 @@ module _ (table journal words bytes head tally : List ℕ) (call : Call) where
       let away : acceptedB (answerTo table journal words bytes head tally call) ≡ false = ap acceptedB (sym answered ∙ e) ∙ refused-by (lengthsB (length table) (length journal)) in
       (answered, sym (passed unfits _ _), sym (passed unfits _ _), sym (passed unfits _ _), sym (passed unfits _ _), sym (passed away _ _), sym (passed unfits _ _))
 
-  pub was-served : {r : Answer} {s : Served} {u : Head} {t j w b h a : List ℕ}
+  pub was-served : {r : Answer} {s : Served} {u : Head} {y : Tally} {t j w b h a : List ℕ}
       → lentB head tally call ≡ true
       → u ≡ headOf head
-      → s ≡ served (getD tally 0 0) (getD tally 1 0) (getD tally 2 0) table journal words bytes u call
-      → t ≡ unit.tableAfter table journal words bytes u call
-      → j ≡ unit.journalAfter table journal words bytes u call
-      → w ≡ unit.wordsAfter table journal words bytes u call
-      → b ≡ unit.bytesAfter table journal words bytes u call
+      → y ≡ tallyOf tally
+      → Unit.Serves y (lent table journal words bytes u) call s t j w b
       → r ≡ s .reply .answer
       → h ≡ cond (acceptedB (s .reply .answer)) (wordsOf (s .reply .head)) head
-      → a ≡ s .committed ∷ s .«rolled_back» ∷ s .flushed ∷ []
+      → a ≡ tallyWords (s .tally)
       → Leaves table journal words bytes head tally call r t j w b h a
-  was-served {r} {s} {u} fits eu es et ej ew eb er eh ea =
-      let whole : s ≡ served (getD tally 0 0) (getD tally 1 0) (getD tally 2 0) table journal words bytes (headOf head) call = es ∙ ap (λ (x : Head). served (getD tally 0 0) (getD tally 1 0) (getD tally 2 0) table journal words bytes x call) eu in
+  was-served {r} {s} {u} {y} fits eu ey es er eh ea =
+      let l : Head → Lent = λ x. lent table journal words bytes x in
+      let whole : s ≡ served (tallyOf tally) (l (headOf head)) call = es .0 .0 ∙ ap₂ (λ (x : Tally) (z : Head). served x (l z) call) ey eu in
       let answered : s .reply .answer ≡ answerTo table journal words bytes head tally call = ap (λ (x : Served). x .reply .answer) whole ∙ sym (chosen fits _ _) in (
         er ∙ answered,
-        et ∙ ap (λ (x : Head). unit.tableAfter table journal words bytes x call) eu ∙ sym (chosen fits _ _),
-        ej ∙ ap (λ (x : Head). unit.journalAfter table journal words bytes x call) eu ∙ sym (chosen fits _ _),
-        ew ∙ ap (λ (x : Head). unit.wordsAfter table journal words bytes x call) eu ∙ sym (chosen fits _ _),
-        eb ∙ ap (λ (x : Head). unit.bytesAfter table journal words bytes x call) eu ∙ sym (chosen fits _ _),
-        eh ∙ ap₂ (λ (r : Answer) (x : Served). cond (acceptedB r) (wordsOf (x .reply .head)) head) answered whole,
-        ea ∙ ap (λ (x : Served). x .committed ∷ x .«rolled_back» ∷ x .flushed ∷ []) whole ∙ sym (chosen fits _ _),
+        es .1 ∙ ap (λ (x : Head). performed (l x) call .lent .table) eu ∙ sym (chosen fits _ _),
+        es .2 ∙ ap (λ (x : Head). performed (l x) call .lent .journal) eu ∙ sym (chosen fits _ _),
+        es .3 ∙ ap (λ (x : Head). performed (l x) call .lent .words) eu ∙ sym (chosen fits _ _),
+        es .4 ∙ ap (λ (x : Head). performed (l x) call .lent .bytes) eu ∙ sym (chosen fits _ _),
+        eh ∙ ap₂ (λ (x : Answer) (z : Served). cond (acceptedB x) (wordsOf (z .reply .head)) head) answered whole,
+        ea ∙ ap (λ (x : Served). tallyWords (x .tally)) whole ∙ sym (chosen fits _ _),
       )
 
   -- the code in place of the answer, and the store alone
-  pub serves : {r : Answer} {code : ℕ} {t j w b h a : List ℕ} → code ≡ codeOf (answerAs r) → Leaves table journal words bytes head tally call r t j w b h a → Serves table journal words bytes head tally call code t j h a
-  serves coded left = (coded ∙ ap (λ (a : Answer). codeOf (answerAs a)) (left .0), left .1, left .2, left .5, left .6)
+  pub serves : {r : Answer} {code : ℕ} {t j w b h a : List ℕ} → code ≡ codeOf (saidBy r) → Leaves table journal words bytes head tally call r t j w b h a → Serves table journal words bytes head tally call code t j h a
+  serves coded left = (coded ∙ ap (λ (a : Answer). codeOf (saidBy a)) (left .0), left .1, left .2, left .5, left .6)
+
+-- a query: where the head is not fit, and where it is
+pub head-fits : (head : List ℕ) → headB head ≡ true → length head ≡ 84
+head-fits head e = eqb-true (length head) 84 (all-first (eqb (length head) 84) _ e)
+
+module _ (table journal words bytes head : List ℕ) (query : Query) where
+  pub not-asked : {r : Answer} → headB head ≡ false → r ≡ unfit (length table) (length journal) → Asks table journal words bytes head query r words bytes
+  not-asked unfits e = (e ∙ sym (passed unfits _ _), sym (passed unfits _ _), sym (passed unfits _ _))
+
+  pub was-asked : {r : Answer} {u : Head} {w b : List ℕ}
+      → headB head ≡ true
+      → u ≡ headOf head
+      → Performs (performed (lent table journal words bytes u) (Ask query)) r table journal w b u
+      → Asks table journal words bytes head query r w b
+  was-asked fits eu es = (
+    es .0 .0 ∙ ap (λ (x : Head). performed (lent table journal words bytes x) (Ask query) .answer) eu ∙ sym (chosen fits _ _),
+    es .3 ∙ ap (λ (x : Head). performed (lent table journal words bytes x) (Ask query) .lent .words) eu ∙ sym (chosen fits _ _),
+    es .4 ∙ ap (λ (x : Head). performed (lent table journal words bytes x) (Ask query) .lent .bytes) eu ∙ sym (chosen fits _ _),
+  )
+
+  -- its code and its value in place of the answer
+  pub tells : {r : Answer} {code value : ℕ} {w b : List ℕ} (old : ℕ)
+      → code ≡ codeOf (saidBy r)
+      → value ≡ valueOf (saidBy r) old
+      → Asks table journal words bytes head query r w b
+      → Tells table journal words bytes head query code value old
+  tells old coded valued asked = (
+    coded ∙ ap (λ (a : Answer). codeOf (saidBy a)) (asked .0),
+    valued ∙ ap (λ (a : Answer). valueOf (saidBy a) old) (asked .0),
+  )

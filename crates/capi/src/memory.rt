@@ -1,16 +1,20 @@
-// A call on memory that a C program lends: with words and bytes, with words alone, and with neither. A call that needs no
-// words or no bytes is given none.
-use calls::call::Answer;
-use calls::call::Call;
+// A call on memory that a C program lends: with words and bytes, with words alone, and with neither; and a query, which is lent the
+// store to read. A call that needs no words or no bytes is given none.
+use answers::answer::Answer;
+use answers::call::Call;
+use answers::call::Query;
+use calls::ask::ask;
+use head_words::is_head;
 use head_words::unpack;
-use lent::answers::code_of;
+use lent::codes::code_of;
 use lent::fit::is_lent;
 use lent::fit::unfit_answer;
 use lent::storing::put_served;
+use lent::storing::tally_in;
 use unit::serve::serve_core;
 ghost use mathlib.Core.Path.{_≡_};
 ghost use mathlib.Core.List.{[]};
-ghost use Rattle.lent.specs.Lent.{Leaves, Serves, wordsAfter};
+ghost use Rattle.lent.specs.Lent.{Leaves, Serves, Asks, wordsAfter};
 
 // Serves a call on lent memory.
 pub(crate) fn call_on(
@@ -28,9 +32,7 @@ pub(crate) fn call_on(
         return unfit_answer(table.len(), journal.len());
     }
     let served = serve_core(
-        tally[0],
-        tally[1],
-        tally[2],
+        tally_in(tally),
         table,
         journal,
         words,
@@ -69,4 +71,21 @@ pub(crate) fn serve_store(
 {
     let mut words = [0u64; 0];
     serve_words(table, journal, head, tally, &mut words, call)
+}
+
+// Answers a query on a store that is lent to read.
+pub(crate) fn ask_on(
+    table: &[u64],
+    journal: &[u64],
+    words: &mut [u64],
+    bytes: &mut [u8],
+    head: &[u64],
+    query: Query,
+) -> Answer
+    ensures { λ r. ⌜ Asks (now (table .entry)) (now (journal .entry)) (now (words .entry)) (now (bytes .entry)) (now (head .entry)) query r (now (words .exit)) (now (bytes .exit)) ⌝ }
+{
+    if !is_head(head) {
+        return unfit_answer(table.len(), journal.len());
+    }
+    ask(table, journal, words, bytes, unpack(head), query)
 }

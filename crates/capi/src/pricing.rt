@@ -1,7 +1,7 @@
 // Pricing a batch, for C.
 use batch::pricing::price_batch;
-use lent::answers::batch_code;
-use lent::answers::batch_value;
+use lent::codes::code_of;
+use lent::codes::value_of;
 ghost use mathlib.Core.Path.{_≡_};
 ghost use lib.ListN.{length};
 ghost use Rattle.batch.specs.Batches.{batch, answer, output};
@@ -18,6 +18,6 @@ pub extern "C" fn cechnuol_price_batch(
     ensures { λ r. ⌜ (r ≡ codeOf (answer (batch (now (reads .entry)) (now (orders .entry)) (length (now (out .entry)))))) × (now (out .exit) ≡ output (batch (now (reads .entry)) (now (orders .entry)) (length (now (out .entry)))) (now (out .entry))) × (now (count .exit) ≡ valueOf (answer (batch (now (reads .entry)) (now (orders .entry)) (length (now (out .entry))))) (now (count .entry))) ⌝ }
 {
     let written = price_batch(reads, orders, out);
-    *count = batch_value(written, *count);
-    batch_code(written)
+    *count = value_of(written, *count);
+    code_of(written)
 }

@@ -1,16 +1,21 @@
 // The calls on a store, for C.
+use crate::memory::ask_on;
 use crate::memory::call_on;
 use crate::memory::serve_store;
 use crate::memory::serve_words;
-use calls::call::Call;
-use lent::answers::code_of;
-use lent::answers::value_of;
+use answers::call::Call;
+use answers::call::LookUp;
+use answers::call::Query;
+use answers::call::Read;
+use answers::call::Reader;
+use answers::call::Reset;
+use answers::call::Step;
+use lent::codes::code_of;
+use lent::codes::value_of;
 ghost use mathlib.Core.Path.{_≡_};
 ghost use mathlib.Core.List.{[]};
-ghost use Rattle.calls.specs.declared.call.Call.the-variants.{Clear, Load, WriteImage, Restart, Commit, RollBack, Flush, LookUp, Issue, Forward, Release};
-ghost use Rattle.calls.specs.Answers.{answerAs};
-ghost use Rattle.lent.specs.Codes.{valueOf};
-ghost use Rattle.lent.specs.Lent.{Serves, answerTo, wordsAfter, bytesAfter};
+ghost use Rattle.lent.specs.Asked.{clear, load, restart, commit, rollBack, flush, issue, forward, release, lookUp, writeImage};
+ghost use Rattle.lent.specs.Lent.{Serves, Tells, wordsAfter, bytesAfter, bytesWritten};
 
 // The empty map as state 0.
 #[no_mangle]
@@ -20,9 +25,9 @@ pub extern "C" fn cechnuol_clear(
     head: &mut [u64],
     tally: &mut [u64],
 ) -> u64
-    ensures { λ r. ⌜ Serves (now (table .entry)) (now (journal .entry)) [] [] (now (head .entry)) (now (tally .entry)) Clear r (now (table .exit)) (now (journal .exit)) (now (head .exit)) (now (tally .exit)) ⌝ }
+    ensures { λ r. ⌜ Serves (now (table .entry)) (now (journal .entry)) [] [] (now (head .entry)) (now (tally .entry)) clear r (now (table .exit)) (now (journal .exit)) (now (head .exit)) (now (tally .exit)) ⌝ }
 {
-    serve_store(table, journal, head, tally, Call::Clear)
+    serve_store(table, journal, head, tally, Call::Reset(Reset::Clear))
 }
 
 // Loads the image that the bytes are.
@@ -34,24 +39,7 @@ pub extern "C" fn cechnuol_load(
     tally: &mut [u64],
     bytes: &mut [u8],
 ) -> u64
-    ensures { λ r. ⌜ Serves (now (table .entry)) (now (journal .entry)) [] (now (bytes .entry)) (now (head .entry)) (now (tally .entry)) Load r (now (table .exit)) (now (journal .exit)) (now (head .exit)) (now (tally .exit)) × (now (bytes .exit) ≡ bytesAfter (now (table .entry)) (now (journal .entry)) [] (now (bytes .entry)) (now (head .entry)) (now (tally .entry)) Load) ⌝ }
-{
-    let mut words = [0u64; 0];
-    let answer = call_on(table, journal, &mut words, bytes, head, tally, Call::Load);
-    code_of(answer)
-}
-
-// Writes the image of the checkpoint to the start of the bytes, and its length to `count`.
-#[no_mangle]
-pub extern "C" fn cechnuol_write_image(
-    table: &mut [u64],
-    journal: &mut [u64],
-    head: &mut [u64],
-    tally: &mut [u64],
-    bytes: &mut [u8],
-    count: &mut u64,
-) -> u64
-    ensures { λ r. ⌜ Serves (now (table .entry)) (now (journal .entry)) [] (now (bytes .entry)) (now (head .entry)) (now (tally .entry)) WriteImage r (now (table .exit)) (now (journal .exit)) (now (head .exit)) (now (tally .exit)) × (now (bytes .exit) ≡ bytesAfter (now (table .entry)) (now (journal .entry)) [] (now (bytes .entry)) (now (head .entry)) (now (tally .entry)) WriteImage) × (now (count .exit) ≡ valueOf (answerAs (answerTo (now (table .entry)) (now (journal .entry)) [] (now (bytes .entry)) (now (head .entry)) (now (tally .entry)) WriteImage)) (now (count .entry))) ⌝ }
+    ensures { λ r. ⌜ Serves (now (table .entry)) (now (journal .entry)) [] (now (bytes .entry)) (now (head .entry)) (now (tally .entry)) load r (now (table .exit)) (now (journal .exit)) (now (head .exit)) (now (tally .exit)) × (now (bytes .exit) ≡ bytesAfter (now (table .entry)) (now (journal .entry)) [] (now (bytes .entry)) (now (head .entry)) (now (tally .entry)) load) ⌝ }
 {
     let mut words = [0u64; 0];
     let answer = call_on(
@@ -61,8 +49,24 @@ pub extern "C" fn cechnuol_write_image(
         bytes,
         head,
         tally,
-        Call::WriteImage,
+        Call::Reset(Reset::Load),
     );
+    code_of(answer)
+}
+
+// Writes the image of the checkpoint to the start of the bytes, and its length to `count`.
+#[no_mangle]
+pub extern "C" fn cechnuol_write_image(
+    table: &[u64],
+    journal: &[u64],
+    head: &[u64],
+    bytes: &mut [u8],
+    count: &mut u64,
+) -> u64
+    ensures { λ r. ⌜ Tells (now (table .entry)) (now (journal .entry)) [] (now (bytes .entry)) (now (head .entry)) writeImage r (now (count .exit)) (now (count .entry)) × (now (bytes .exit) ≡ bytesWritten (now (table .entry)) (now (journal .entry)) [] (now (bytes .entry)) (now (head .entry)) writeImage) ⌝ }
+{
+    let mut words = [0u64; 0];
+    let answer = ask_on(table, journal, &mut words, bytes, head, Query::WriteImage);
     *count = value_of(answer, *count);
     code_of(answer)
 }
@@ -76,7 +80,7 @@ pub extern "C" fn cechnuol_restart(
     tally: &mut [u64],
     bytes: &mut [u8],
 ) -> u64
-    ensures { λ r. ⌜ Serves (now (table .entry)) (now (journal .entry)) [] (now (bytes .entry)) (now (head .entry)) (now (tally .entry)) Restart r (now (table .exit)) (now (journal .exit)) (now (head .exit)) (now (tally .exit)) × (now (bytes .exit) ≡ bytesAfter (now (table .entry)) (now (journal .entry)) [] (now (bytes .entry)) (now (head .entry)) (now (tally .entry)) Restart) ⌝ }
+    ensures { λ r. ⌜ Serves (now (table .entry)) (now (journal .entry)) [] (now (bytes .entry)) (now (head .entry)) (now (tally .entry)) restart r (now (table .exit)) (now (journal .exit)) (now (head .exit)) (now (tally .exit)) × (now (bytes .exit) ≡ bytesAfter (now (table .entry)) (now (journal .entry)) [] (now (bytes .entry)) (now (head .entry)) (now (tally .entry)) restart) ⌝ }
 {
     let mut words = [0u64; 0];
     let answer = call_on(
@@ -86,7 +90,7 @@ pub extern "C" fn cechnuol_restart(
         bytes,
         head,
         tally,
-        Call::Restart,
+        Call::Reset(Reset::Restart),
     );
     code_of(answer)
 }
@@ -100,9 +104,9 @@ pub extern "C" fn cechnuol_commit(
     tally: &mut [u64],
     words: &mut [u64],
 ) -> u64
-    ensures { λ r. ⌜ Serves (now (table .entry)) (now (journal .entry)) (now (words .entry)) [] (now (head .entry)) (now (tally .entry)) Commit r (now (table .exit)) (now (journal .exit)) (now (head .exit)) (now (tally .exit)) × (now (words .exit) ≡ wordsAfter (now (table .entry)) (now (journal .entry)) (now (words .entry)) [] (now (head .entry)) (now (tally .entry)) Commit) ⌝ }
+    ensures { λ r. ⌜ Serves (now (table .entry)) (now (journal .entry)) (now (words .entry)) [] (now (head .entry)) (now (tally .entry)) commit r (now (table .exit)) (now (journal .exit)) (now (head .exit)) (now (tally .exit)) × (now (words .exit) ≡ wordsAfter (now (table .entry)) (now (journal .entry)) (now (words .entry)) [] (now (head .entry)) (now (tally .entry)) commit) ⌝ }
 {
-    serve_words(table, journal, head, tally, words, Call::Commit)
+    serve_words(table, journal, head, tally, words, Call::Step(Step::Commit))
 }
 
 // Goes back to a state.
@@ -114,9 +118,15 @@ pub extern "C" fn cechnuol_roll_back(
     tally: &mut [u64],
     state: u32,
 ) -> u64
-    ensures { λ r. ⌜ Serves (now (table .entry)) (now (journal .entry)) [] [] (now (head .entry)) (now (tally .entry)) (RollBack state) r (now (table .exit)) (now (journal .exit)) (now (head .exit)) (now (tally .exit)) ⌝ }
+    ensures { λ r. ⌜ Serves (now (table .entry)) (now (journal .entry)) [] [] (now (head .entry)) (now (tally .entry)) (rollBack state) r (now (table .exit)) (now (journal .exit)) (now (head .exit)) (now (tally .exit)) ⌝ }
 {
-    serve_store(table, journal, head, tally, Call::RollBack(state))
+    serve_store(
+        table,
+        journal,
+        head,
+        tally,
+        Call::Step(Step::RollBack(state)),
+    )
 }
 
 // Makes the table the map at a state.
@@ -128,34 +138,33 @@ pub extern "C" fn cechnuol_flush(
     tally: &mut [u64],
     state: u32,
 ) -> u64
-    ensures { λ r. ⌜ Serves (now (table .entry)) (now (journal .entry)) [] [] (now (head .entry)) (now (tally .entry)) (Flush state) r (now (table .exit)) (now (journal .exit)) (now (head .exit)) (now (tally .exit)) ⌝ }
+    ensures { λ r. ⌜ Serves (now (table .entry)) (now (journal .entry)) [] [] (now (head .entry)) (now (tally .entry)) (flush state) r (now (table .exit)) (now (journal .exit)) (now (head .exit)) (now (tally .exit)) ⌝ }
 {
-    serve_store(table, journal, head, tally, Call::Flush(state))
+    serve_store(table, journal, head, tally, Call::Step(Step::Flush(state)))
 }
 
 // Writes the price of an offer at a state to `price`, or finds none.
 #[no_mangle]
 pub extern "C" fn cechnuol_look_up(
-    table: &mut [u64],
-    journal: &mut [u64],
-    head: &mut [u64],
-    tally: &mut [u64],
+    table: &[u64],
+    journal: &[u64],
+    head: &[u64],
     offer: u32,
     state: u32,
     price: &mut u64,
 ) -> u64
-    ensures { λ r. ⌜ Serves (now (table .entry)) (now (journal .entry)) [] [] (now (head .entry)) (now (tally .entry)) (LookUp offer state) r (now (table .exit)) (now (journal .exit)) (now (head .exit)) (now (tally .exit)) × (now (price .exit) ≡ valueOf (answerAs (answerTo (now (table .entry)) (now (journal .entry)) [] [] (now (head .entry)) (now (tally .entry)) (LookUp offer state))) (now (price .entry))) ⌝ }
+    ensures { λ r. ⌜ Tells (now (table .entry)) (now (journal .entry)) [] [] (now (head .entry)) (lookUp offer state) r (now (price .exit)) (now (price .entry)) ⌝ }
 {
     let mut words = [0u64; 0];
     let mut bytes = [0u8; 0];
-    let answer = call_on(
+    let asked = LookUp { offer, state };
+    let answer = ask_on(
         table,
         journal,
         &mut words,
         &mut bytes,
         head,
-        tally,
-        Call::LookUp(offer, state),
+        Query::LookUp(asked),
     );
     *price = value_of(answer, *price);
     code_of(answer)
@@ -171,9 +180,16 @@ pub extern "C" fn cechnuol_issue(
     slot: usize,
     words: &mut [u64],
 ) -> u64
-    ensures { λ r. ⌜ Serves (now (table .entry)) (now (journal .entry)) (now (words .entry)) [] (now (head .entry)) (now (tally .entry)) (Issue slot) r (now (table .exit)) (now (journal .exit)) (now (head .exit)) (now (tally .exit)) × (now (words .exit) ≡ wordsAfter (now (table .entry)) (now (journal .entry)) (now (words .entry)) [] (now (head .entry)) (now (tally .entry)) (Issue slot)) ⌝ }
+    ensures { λ r. ⌜ Serves (now (table .entry)) (now (journal .entry)) (now (words .entry)) [] (now (head .entry)) (now (tally .entry)) (issue slot) r (now (table .exit)) (now (journal .exit)) (now (head .exit)) (now (tally .exit)) × (now (words .exit) ≡ wordsAfter (now (table .entry)) (now (journal .entry)) (now (words .entry)) [] (now (head .entry)) (now (tally .entry)) (issue slot)) ⌝ }
 {
-    serve_words(table, journal, head, tally, words, Call::Issue(slot))
+    serve_words(
+        table,
+        journal,
+        head,
+        tally,
+        words,
+        Call::Read(Read::Issue(Reader { slot })),
+    )
 }
 
 // Forwards a read to a state; the words are the read set.
@@ -187,7 +203,7 @@ pub extern "C" fn cechnuol_forward(
     state: u32,
     words: &mut [u64],
 ) -> u64
-    ensures { λ r. ⌜ Serves (now (table .entry)) (now (journal .entry)) (now (words .entry)) [] (now (head .entry)) (now (tally .entry)) (Forward slot state) r (now (table .exit)) (now (journal .exit)) (now (head .exit)) (now (tally .exit)) × (now (words .exit) ≡ wordsAfter (now (table .entry)) (now (journal .entry)) (now (words .entry)) [] (now (head .entry)) (now (tally .entry)) (Forward slot state)) ⌝ }
+    ensures { λ r. ⌜ Serves (now (table .entry)) (now (journal .entry)) (now (words .entry)) [] (now (head .entry)) (now (tally .entry)) (forward slot state) r (now (table .exit)) (now (journal .exit)) (now (head .exit)) (now (tally .exit)) × (now (words .exit) ≡ wordsAfter (now (table .entry)) (now (journal .entry)) (now (words .entry)) [] (now (head .entry)) (now (tally .entry)) (forward slot state)) ⌝ }
 {
     serve_words(
         table,
@@ -195,7 +211,7 @@ pub extern "C" fn cechnuol_forward(
         head,
         tally,
         words,
-        Call::Forward(slot, state),
+        Call::Read(Read::Forward(Reader { slot }, state)),
     )
 }
 
@@ -208,7 +224,13 @@ pub extern "C" fn cechnuol_release(
     tally: &mut [u64],
     slot: usize,
 ) -> u64
-    ensures { λ r. ⌜ Serves (now (table .entry)) (now (journal .entry)) [] [] (now (head .entry)) (now (tally .entry)) (Release slot) r (now (table .exit)) (now (journal .exit)) (now (head .exit)) (now (tally .exit)) ⌝ }
+    ensures { λ r. ⌜ Serves (now (table .entry)) (now (journal .entry)) [] [] (now (head .entry)) (now (tally .entry)) (release slot) r (now (table .exit)) (now (journal .exit)) (now (head .exit)) (now (tally .exit)) ⌝ }
 {
-    serve_store(table, journal, head, tally, Call::Release(slot))
+    serve_store(
+        table,
+        journal,
+        head,
+        tally,
+        Call::Read(Read::Release(Reader { slot })),
+    )
 }

@@ -1,6 +1,6 @@
 -- What an accepted commit knows of its memory, and what its acting half leaves there.
 -- Assumes nothing.
-use mathlib.Core.Path.{_≡_, sym, ap, _∙_}
+use mathlib.Core.Path.{_≡_, refl, sym, ap, ap₂, _∙_}
 use mathlib.Core.Bool.{true}
 use mathlib.Core.List.{List, _++_, append-assoc}
 use Prim.Native.Nat.{ℕ, _+_, _-_, _≤_, _<_}
@@ -11,17 +11,21 @@ use borrow.Rule.Slice.PartMut.{putMid}
 use lib.ListN.{length, take, drop, length-drop}
 use lib.Seq.{drop-drop}
 use Rattle.changes.specs.Lists.{listB}
+use Rattle.changes.specs.Runs.{startOf}
 use Rattle.words.proofs.Parts.{part, put-part}
-use Rattle.grounds.specs.declared.Outcome.{Outcome}
-use Rattle.grounds.specs.declared.Outcome.the-variants.{Done, Refused}
-use Rattle.grounds.specs.declared.Refusal.{Refusal}
-use Rattle.grounds.specs.Numbers.{Gives}
-use Rattle.grounds.proofs.Firsts.{done-not, gives, if-refused, if-done}
+use Rattle.answers.specs.declared.answer.Check.{Check}
+use Rattle.answers.specs.declared.answer.Check.the-variants.{Passed, Refused}
+use Rattle.answers.specs.declared.refusal.Refusal.{Refusal}
+use Rattle.answers.specs.declared.answer.Answer.{Answer}
+use Rattle.answers.specs.declared.answer.Answer.the-variants.{Done, Refused as Away}
+use Rattle.answers.specs.Answers.{Gives, answered}
+use Rattle.answers.proofs.Firsts.{passed-not, gives-refused, gives-passed, if-refused, if-passed}
 use Rattle.layout.specs.declared.head.Head.{Head}
-use Rattle.layout.specs.Sound.{heldOf}
-use Rattle.layout.proofs.HeadTests.{InRange, lengths-facts}
+use Rattle.layout.specs.States.{heldOf}
+use Rattle.layout.proofs.HeadTests.{InRange}
 use Rattle.views.proofs.SoundFacts.{inside}
-use Rattle.views.proofs.Sounds.{Sound, sound-facts}
+use Rattle.soundness.proofs.Passed.{store-passed}
+use Rattle.soundness.proofs.Sounds.{Sound}
 use Rattle.commits.specs.Commit.{usedOf, commitCheck, commitHead, commitJournal, withList, withStep}
 
 -- a commit
@@ -33,22 +37,20 @@ pub record CommitOk (table journal : List ℕ) (head : Head) (list : List ℕ) :
   pub room : heldOf head < 64
   pub fits : length list ≤ length journal - usedOf head
 
-pub commit-ok : (table journal : List ℕ) (head : Head) (list : List ℕ) → commitCheck table journal head list ≡ Done → CommitOk table journal head list
+pub commit-ok : (table journal : List ℕ) (head : Head) (list : List ℕ) → commitCheck table journal head list ≡ Passed → CommitOk table journal head list
 commit-ok table journal head list e =
-    let a = done-not _ _ _ e in
-    let b = done-not _ _ _ (a .1) in
-    let c = done-not _ _ _ (b .1) in
-    let d = done-not _ _ _ (c .1) in
-    let f = done-not _ _ _ (d .1) in
-    let g = done-not _ _ _ (f .1) in
-    let s = sound-facts table journal head (not-false _ (b .0)) in
+    let a = store-passed table journal head _ e in
+    let c = passed-not _ _ _ (a .1) in
+    let d = passed-not _ _ _ (c .1) in
+    let f = passed-not _ _ _ (d .1) in
+    let g = passed-not _ _ _ (f .1) in
     let full : heldOf head ≡ 64 → ⊥ = eqb-false (heldOf head) 64 (f .0) in
     record {
-      range = lengths-facts (length table) (length journal) (not-false _ (a .0));
-      sound = s;
+      range = a .0 .range;
+      sound = a .0 .sound;
       is-list = not-false _ (c .0);
       not-last = eqb-false (head .tip) 4294967295 (d .0);
-      room = omega (arith, s .few);
+      room = omega (arith, a .0 .sound .few);
       fits = ltb-false (length journal - usedOf head) (length list) (g .0);
     }
 
@@ -74,18 +76,25 @@ with-list journal list last u h e =
     ∙ sym (append-assoc (take u journal) list (drop (u + length list) journal))
 
 -- from what the test of a commit answers: what is known, and what the call gives back
-module _ (table journal : List ℕ) (head : Head) (list : List ℕ) {r : Outcome} (e : r ≡ commitCheck table journal head list) where
-  pub commit-known : r ≡ Done → CommitOk table journal head list
+module _ (table journal : List ℕ) (head : Head) (list : List ℕ) {r : Check} (e : r ≡ commitCheck table journal head list) where
+  -- the reply and the journal that are meant
+  abbrev Commits : Answer → Head → List ℕ → Type 0
+  Commits answer next left =
+      Gives answer (answered (commitCheck table journal head list) Done)
+      × (next ≡ commitHead table journal head list)
+      × (left ≡ commitJournal table journal head list)
+
+  pub commit-known : r ≡ Passed → CommitOk table journal head list
   commit-known d = commit-ok table journal head list (sym e ∙ d)
 
-  pub commit-refused : {why : Refusal} → r ≡ Refused why
-      → Gives r (commitCheck table journal head list) × (head ≡ commitHead table journal head list) × (journal ≡ commitJournal table journal head list)
-  commit-refused d = (gives e, if-refused (sym e ∙ d) _ _, if-refused (sym e ∙ d) _ _)
+  pub commit-refused : {why : Refusal} → r ≡ Refused why → Commits (Away why) head journal
+  commit-refused d = (gives-refused (sym e ∙ d) Done, if-refused (sym e ∙ d) _ _, if-refused (sym e ∙ d) _ _)
 
-  pub commit-done : r ≡ Done → {next : Head} {left : List ℕ} (u : ℕ) → u ≡ usedOf head → next ≡ withStep head (heldOf head) (u + length list) → left ≡ withList journal u list
-      → Gives Done (commitCheck table journal head list) × (next ≡ commitHead table journal head list) × (left ≡ commitJournal table journal head list)
-  commit-done d u f n l = (
-    gives (sym d ∙ e),
-    if-done (sym e ∙ d) _ _ (n ∙ ap (λ (k : ℕ). withStep head (heldOf head) (k + length list)) f),
-    if-done (sym e ∙ d) _ _ (l ∙ ap (λ (k : ℕ). withList journal k list) f),
-  )
+  pub commit-done : r ≡ Passed → {next : Head} {left : List ℕ} (k u : ℕ) → k ≡ heldOf head → u ≡ startOf (head .ends) k
+      → next ≡ withStep head k (u + length list) → left ≡ withList journal u list → Commits Done next left
+  commit-done d k u h f n l =
+      let used : u ≡ usedOf head = f ∙ ap (startOf (head .ends)) h in (
+        gives-passed (sym e ∙ d) refl,
+        if-passed (sym e ∙ d) _ _ (n ∙ ap₂ (λ (j v : ℕ). withStep head j (v + length list)) h used),
+        if-passed (sym e ∙ d) _ _ (l ∙ ap (λ (v : ℕ). withList journal v list) used),
+      )

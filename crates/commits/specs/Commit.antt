@@ -8,31 +8,32 @@ use lib.Dec.{ltb, eqb}
 use lib.ListN.{length, take, drop, set}
 use Rattle.changes.specs.Lists.{listB}
 use Rattle.changes.specs.Runs.{startOf}
-use Rattle.grounds.specs.declared.Outcome.{Outcome}
-use Rattle.grounds.specs.declared.Refusal.the-variants.{Lengths, Unsound, BadList, LastState, StepsFull, JournalFull}
-use Rattle.grounds.specs.First.{met, first, ifDone}
+use Rattle.answers.specs.declared.answer.Check.{Check}
+use Rattle.answers.specs.declared.refusal.Refusal.the-variants.{BadList, LastState, StepsFull, JournalFull}
+use Rattle.answers.specs.First.{met, first, ifPassed}
 use Rattle.layout.specs.declared.head.Head.{Head}
-use Rattle.layout.specs.Sound.{lengthsB, soundB, heldOf}
+use Rattle.layout.specs.Heads.{withSteps}
+use Rattle.soundness.specs.Checks.{storeGrounds}
+use Rattle.layout.specs.States.{heldOf}
 
 -- how many journal words the held steps take
 abbrev pub usedOf : Head → ℕ
 usedOf head = startOf (head .ends) (heldOf head)
 
 -- grounds 1, 2, 6, 12, 13, 14
-abbrev pub commitCheck : List ℕ → List ℕ → Head → List ℕ → Outcome
+abbrev pub commitCheck : List ℕ → List ℕ → Head → List ℕ → Check
 commitCheck table journal head list =
     first
-    (met (not (lengthsB (length table) (length journal))) Lengths
-    ∷ met (not (soundB table journal head)) Unsound
+    (storeGrounds table journal head
     -- "A list breaks its rules"
-    ∷ met (not (listB list)) BadList
+    ++ (met (not (listB list)) BadList
     -- "The tip is 2^32 − 1 at a commit."
     ∷ met (eqb (head .tip) 4294967295) LastState
     -- "64 steps are held at a commit."
     ∷ met (eqb (heldOf head) 64) StepsFull
     -- "The commit's words exceed the unused change words."
     ∷ met (ltb (length journal - usedOf head) (length list)) JournalFull
-    ∷ [])
+    ∷ []))
 
 -- "A commit writes only the unused end of change memory."
 abbrev pub withList : List ℕ → ℕ → List ℕ → List ℕ
@@ -40,18 +41,10 @@ withList journal used list = take used journal ++ list ++ drop (used + length li
 
 -- "A mark is the count of change words through the end of its step": the head with one more step, which ends there
 unfoldable pub withStep : Head → ℕ → ℕ → Head
-withStep head held end = record {
-  used = head .used;
-  oldest = head .oldest;
-  checkpoint = head .checkpoint;
-  tip = head .tip + 1;
-  held = head .held;
-  issued = head .issued;
-  ends = set (head .ends) held end;
-}
+withStep head held end = withSteps head (head .tip + 1) (set (head .ends) held end)
 
 abbrev pub commitJournal : List ℕ → List ℕ → Head → List ℕ → List ℕ
-commitJournal table journal head list = ifDone (commitCheck table journal head list) (withList journal (usedOf head) list) journal
+commitJournal table journal head list = ifPassed (commitCheck table journal head list) (withList journal (usedOf head) list) journal
 
 abbrev pub commitHead : List ℕ → List ℕ → Head → List ℕ → Head
-commitHead table journal head list = ifDone (commitCheck table journal head list) (withStep head (heldOf head) (usedOf head + length list)) head
+commitHead table journal head list = ifPassed (commitCheck table journal head list) (withStep head (heldOf head) (usedOf head + length list)) head

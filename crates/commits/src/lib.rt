@@ -1,47 +1,47 @@
 // Commit: a list is appended as the state after the tip.
-use grounds::Outcome;
-use grounds::Refusal;
+use answers::answer::Answer;
+use answers::answer::Check;
+use answers::refusal::Refusal;
 use layout::head::Head;
+use layout::head::Reply;
 use layout::head::STEPS;
-use layout::head::Stored;
-use layout::sound::end_of;
-use layout::sound::is_sound;
-use layout::sound::lengths_fit;
+use layout::states::end_of;
+use layout::states::held_count;
 use lists::rules::is_list;
+use soundness::store_check;
 use words::copy;
 ghost use mathlib.Core.Path.{_≡_};
 ghost use Prim.Native.Nat.{_<_};
-ghost use Rattle.grounds.specs.Numbers.{Gives};
+ghost use Rattle.answers.specs.declared.answer.Answer.the-variants.{Done};
+ghost use Rattle.answers.specs.Answers.{Gives, answered};
 ghost use Rattle.commits.specs.Commit.{commitCheck, commitJournal, commitHead, withStep};
 
 // The number that no state follows.
 const LAST_STATE: u32 = 4294967295;
 
 // The first ground on which a commit is turned away.
-fn commit_check(table: &[u64], journal: &[u64], head: Head, list: &[u64]) -> Outcome
+fn commit_check(table: &[u64], journal: &[u64], head: Head, list: &[u64]) -> Check
     ensures { λ r. ⌜ r ≡ commitCheck (now (table .entry)) (now (journal .entry)) head (now (list .entry)) ⌝ }
 {
-    if !lengths_fit(table.len(), journal.len()) {
-        return Outcome::Refused(Refusal::Lengths);
-    }
-    if !is_sound(table, journal, head) {
-        return Outcome::Refused(Refusal::Unsound);
-    }
+    let store = store_check(table, journal, head);
+    let Check::Passed = store else {
+        return store;
+    };
     if !is_list(list) {
-        return Outcome::Refused(Refusal::BadList);
+        return Check::Refused(Refusal::BadList);
     }
     if head.tip == LAST_STATE {
-        return Outcome::Refused(Refusal::LastState);
+        return Check::Refused(Refusal::LastState);
     }
-    let held = (head.tip - head.oldest) as usize;
+    let held = held_count(head);
     if held == STEPS {
-        return Outcome::Refused(Refusal::StepsFull);
+        return Check::Refused(Refusal::StepsFull);
     }
     let used = end_of(&head.ends, held);
     if journal.len() - used < list.len() {
-        return Outcome::Refused(Refusal::JournalFull);
+        return Check::Refused(Refusal::JournalFull);
     }
-    Outcome::Done
+    Check::Passed
 }
 
 // The head with one more step, which is the held-th and ends at this journal word.
@@ -55,19 +55,22 @@ fn with_step(head: Head, held: usize, end: usize) -> Head
     next
 }
 
-pub fn commit(table: &[u64], journal: &mut [u64], head: Head, list: &[u64]) -> Stored
-    ensures { λ r. ⌜ Gives (r .outcome) (commitCheck (now (table .entry)) (now (journal .entry)) head (now (list .entry))) × (r .head ≡ commitHead (now (table .entry)) (now (journal .entry)) head (now (list .entry))) × (now (journal .exit) ≡ commitJournal (now (table .entry)) (now (journal .entry)) head (now (list .entry))) ⌝ }
+pub fn commit(table: &[u64], journal: &mut [u64], head: Head, list: &[u64]) -> Reply
+    ensures { λ r. ⌜ Gives (r .answer) (answered (commitCheck (now (table .entry)) (now (journal .entry)) head (now (list .entry))) Done) × (r .head ≡ commitHead (now (table .entry)) (now (journal .entry)) head (now (list .entry))) × (now (journal .exit) ≡ commitJournal (now (table .entry)) (now (journal .entry)) head (now (list .entry))) ⌝ }
 {
-    let outcome = commit_check(table, journal, head, list);
-    let Outcome::Done = outcome else {
-        return Stored { outcome, head };
-    };
-    let held = (head.tip - head.oldest) as usize;
+    let check = commit_check(table, journal, head, list);
+    if let Check::Refused(ground) = check {
+        return Reply {
+            answer: Answer::Refused(ground),
+            head,
+        };
+    }
+    let held = held_count(head);
     let used = end_of(&head.ends, held);
     copy(list, &mut journal[used..]);
     let next = with_step(head, held, used + list.len());
-    Stored {
-        outcome: Outcome::Done,
+    Reply {
+        answer: Answer::Done,
         head: next,
     }
 }

@@ -1,11 +1,14 @@
 -- What a flush knows of its memory when the map is worked out and when it is accepted, and what it leaves.
 -- Assumes nothing.
-use mathlib.Core.Path.{_≡_, refl, sym, ap, _∙_}
+use mathlib.Core.Path.{_≡_, refl, sym, ap, subst, _∙_}
 use mathlib.Core.Bool.{Bool, true, not, cond}
 use mathlib.Core.List.{List, [], _∷_, _++_, append-assoc}
+use mathlib.Core.Logic.{inl, inr}
 use Prim.Native.Nat.{ℕ, _+_, _-_, _≤_, _<_, max}
 use native.Mathlib.Decide.{decLt}
 use native.Mathlib.Omega.{arith}
+use denote.Enum.Declared.{tagOf}
+use types.Run.{OneOf}
 use borrow.Author.Tests.{ltb-false, lt-ltb, le-ltb, not-false}
 use lib.Dec.{ltb}
 use lib.ListN.{length, take, drop, replicate, length-drop, length-take, replicate-append-replicate, take-append-drop}
@@ -15,90 +18,141 @@ use Rattle.changes.specs.Runs.{startOf}
 use Rattle.changes.proofs.Laws.{apply-zero}
 use Rattle.changes.proofs.Running.{marked-fewer}
 use Rattle.words.proofs.Parts.{zeros-from}
-use Rattle.grounds.specs.declared.Outcome.{Outcome}
-use Rattle.grounds.specs.declared.Outcome.the-variants.{Done, Refused}
-use Rattle.grounds.specs.declared.Written.{Written}
-use Rattle.grounds.specs.declared.Written.the-variants.{Count, Refused as NotWritten}
-use Rattle.grounds.specs.declared.Refusal.{Refusal}
-use Rattle.grounds.specs.declared.Refusal.the-variants.{TableFull}
-use Rattle.grounds.specs.First.{met, first}
-use Rattle.grounds.specs.Numbers.{Gives}
-use Rattle.grounds.proofs.Firsts.{done-not, first-met, first-not, none-met, gives, if-refused, if-done}
+use Rattle.answers.specs.declared.answer.Check.{Check}
+use Rattle.answers.specs.declared.answer.Check.the-variants.{Passed, Refused}
+use Rattle.answers.specs.declared.answer.Answer.{Answer}
+use Rattle.answers.specs.declared.answer.Answer.the-variants.{Done, Count, Refused as Away}
+use Rattle.answers.specs.declared.refusal.Refusal.{Refusal}
+use Rattle.answers.specs.declared.refusal.Refusal.the-variants.{TableFull}
+use Rattle.answers.specs.First.{met, first}
+use Rattle.answers.specs.Answers.{Gives, answered}
+use Rattle.answers.proofs.answer.Answer.{the-type}
+use Rattle.answers.proofs.Firsts.{passed-not, first-met, first-not, none-met, first-stops}
+use Rattle.answers.proofs.Firsts.{gives, gives-passed, if-refused, if-passed}
 use Rattle.layout.specs.declared.head.Head.{Head}
 use Rattle.layout.specs.Tests.{zerosB}
-use Rattle.layout.proofs.HeadTests.{InRange, lengths-facts}
+use Rattle.layout.proofs.HeadTests.{InRange}
 use Rattle.layout.proofs.WordTests.{zeros-fact}
-use Rattle.views.specs.States.{stepIndex, stepsBetween, mapHere}
+use Rattle.layout.specs.States.{stepIndex, stepsBetween, mapHere}
 use Rattle.views.specs.Trim.{Trimmable, trimmedHead, trimmedJournal}
 use Rattle.views.specs.View.{padded, Shaped}
 use Rattle.views.proofs.SlotLists.{least-up-to, least-later}
-use Rattle.views.proofs.SoundFacts.{used-long}
-use Rattle.views.proofs.Sounds.{Sound, sound-facts, sound-marked}
+use Rattle.views.proofs.SoundFacts.{used-long, sound-marked}
+use Rattle.soundness.specs.Checks.{storeGrounds, stateGrounds}
+use Rattle.soundness.proofs.Passed.{store-passed, state-passed}
+use Rattle.soundness.proofs.Sounds.{Sound}
 use Rattle.state_maps.specs.Held.{HeldState, MapRoom, wordsTo}
 use Rattle.state_maps.proofs.Working.{StateFacts, run-few}
-use Rattle.flushes.specs.Flush.{flushCheck, sizeOr, flushSize, tableAt, flushHead, flushTable, flushJournal, flushedHead}
+use Rattle.flushes.specs.Flush.{flushCheck, flushSize, tableAt, flushHead, flushTable, flushJournal, flushedHead}
 
--- the size or the ground, told from the outcome
-pub refused-of : {g : Refusal} (o : Outcome) (n : ℕ) → NotWritten g ≡ sizeOr o n → o ≡ Refused g
-refused-of Done n e = absurd (let z : _≡_ {A = ℕ} 0 1 = cc in omega arith)
-refused-of (Refused h) n e = cc
+-- an answer that is no count
+abbrev pub NoCount : Answer → Type 0
+NoCount answer = OneOf (0 ∷ 1 ∷ 2 ∷ 4 ∷ []) (tagOf the-type answer)
 
-pub counted-of : {k : ℕ} (o : Outcome) (n : ℕ) → Count k ≡ sizeOr o n → (o ≡ Done) × (k ≡ n)
-counted-of Done n e = (refl, cc)
-counted-of (Refused h) n e = absurd (let z : _≡_ {A = ℕ} 0 1 = cc in omega arith)
+counted-not : (n : ℕ) → NoCount (Count n) → ⊥
+counted-not n (inl e) = omega arith
+counted-not n (inr (inl e)) = omega arith
+counted-not n (inr (inr (inl e))) = omega arith
+counted-not n (inr (inr (inr e))) = omega arith
+
+-- a check that found a ground, and the answer that names it
+pub record TurnedAway (check : Check) (answer : Answer) : Type 0 where
+  pub ground : Refusal
+  pub found : check ≡ Refused ground
+  pub told : answer ≡ Away ground
+
+-- a count or a ground, told from the check
+pub refused-of : {answer : Answer} (check : Check) (n : ℕ) → answer ≡ answered check (Count n) → NoCount answer → TurnedAway check answer
+refused-of Passed n e h = absurd (counted-not n (subst NoCount e h))
+refused-of (Refused g) n e h = record { ground = g; found = refl; told = e }
+
+pub counted-of : {k : ℕ} (check : Check) (n : ℕ) → Count k ≡ answered check (Count n) → (check ≡ Passed) × (k ≡ n)
+counted-of Passed n e = (refl, cc)
+counted-of (Refused g) n e = absurd (let z : _≡_ {A = ℕ} 0 1 = cc in omega arith)
 
 module _ (table journal : List ℕ) (head : Head) (state : ℕ) where
   -- the map at the state has no room in the table, or has it
   pub table-stays : length table < length (mapHere table journal head state) → table ≡ tableAt table journal head state
   table-stays h = rw (lt-ltb (length table) (length (mapHere table journal head state)) h)
 
-  pub table-moves : length (mapHere table journal head state) ≤ length table → tableAt table journal head state ≡ padded (length table) (mapHere table journal head state)
+  pub table-moves : length (mapHere table journal head state) ≤ length table
+      → tableAt table journal head state ≡ padded (length table) (mapHere table journal head state)
   table-moves h = rw (le-ltb (length table) (length (mapHere table journal head state)) h)
 
+  -- the answer and the table that are meant
+  abbrev Moves : Answer → List ℕ → Type 0
+  Moves answer left = (answer ≡ flushSize table journal head state) × (left ≡ flushTable table journal head state)
+
   -- what is done with the table where a ground is met
-  pub turned-away : {g : Refusal} → flushCheck table journal head state ≡ Refused g → (NotWritten g ≡ flushSize table journal head state) × (table ≡ flushTable table journal head state)
-  turned-away e = (sym (ap (λ (o : Outcome). sizeOr o (length (mapHere table journal head state))) e), if-refused e _ _)
+  turned-away : {g : Refusal} → flushCheck table journal head state ≡ Refused g → Moves (Away g) table
+  turned-away e = (sym (ap (λ (o : Check). answered o (Count (length (mapHere table journal head state)))) e), if-refused e _ _)
+
+  -- the check of the store and the state: what is done where it finds a ground, and what is known where it finds none
+  module _ {check : Check} (e : check ≡ first (storeGrounds table journal head ++ stateGrounds head state)) where
+    pub held-not : {g : Refusal} → check ≡ Refused g → Moves (Away g) table
+    held-not d = turned-away (first-stops (storeGrounds table journal head ++ stateGrounds head state) _ (sym e ∙ d))
+
+    pub held-known : check ≡ Passed → HeldState table journal head state
+    held-known d =
+        let a = passed-not _ _ _ (sym e ∙ d) in
+        let b = passed-not _ _ _ (a .1) in
+        let s = state-passed head state [] (b .1) in
+        record { lengths = not-false _ (a .0); sound = not-false _ (b .0); low = s .0 .0; high = s .0 .1 }
 
   -- and where none is met but perhaps ground 16
-  module _ (h : HeldState table journal head state) {size : ℕ} {made : List ℕ} (es : size ≡ length (mapHere table journal head state)) (em : made ≡ tableAt table journal head state) where
-    but-room : flushCheck table journal head state ≡ first (met (ltb (length table) (length (mapHere table journal head state))) TableFull ∷ [])
+  module _ (h : HeldState table journal head state) {size : ℕ} {made : List ℕ} (es : size ≡ length (mapHere table journal head state))
+      (em : made ≡ tableAt table journal head state) where
+    but-room : flushCheck table journal head state
+        ≡ first (met (ltb (length table) (length (mapHere table journal head state))) TableFull ∷ [])
     but-room =
         first-not _ _ _ (ap not (h .lengths))
         ∙ first-not _ _ _ (ap not (h .sound))
         ∙ first-not _ _ _ (le-ltb state (head .checkpoint) (h .low))
         ∙ first-not _ _ _ (le-ltb (head .tip) state (h .high))
 
-    pub no-room : length table < size → (NotWritten TableFull ≡ flushSize table journal head state) × (made ≡ flushTable table journal head state)
+    pub no-room : length table < size → Moves (Away TableFull) made
     no-room l =
         let full : length table < length (mapHere table journal head state) = omega arith in
         let t = turned-away (but-room ∙ first-met _ _ _ (lt-ltb (length table) (length (mapHere table journal head state)) full)) in
         (t .0, em ∙ sym (table-stays full) ∙ t .1)
 
-    pub room : size ≤ length table → (Count size ≡ flushSize table journal head state) × (made ≡ flushTable table journal head state)
+    pub room : size ≤ length table → Moves (Count size) made
     room l =
         let fits : length (mapHere table journal head state) ≤ length table = omega arith in
         let e = but-room ∙ first-not _ _ _ (le-ltb (length table) (length (mapHere table journal head state)) fits) ∙ none-met in
-        (ap Count es ∙ sym (ap (λ (o : Outcome). sizeOr o (length (mapHere table journal head state))) e), if-done e _ _ (em ∙ table-moves fits))
+        let counted = ap (λ (o : Check). answered o (Count (length (mapHere table journal head state)))) e in
+        (ap Count es ∙ sym counted, if-passed e _ _ (em ∙ table-moves fits))
 
-    pub sized : {made-long : ℕ} {r : Written} → made-long ≡ length table → r ≡ cond (ltb made-long size) (NotWritten TableFull) (Count size)
-        → (r ≡ flushSize table journal head state) × (made ≡ flushTable table journal head state)
+    pub sized : {made-long : ℕ} {r : Answer} → made-long ≡ length table → r ≡ cond (ltb made-long size) (Away TableFull) (Count size)
+        → Moves r made
     sized {made-long} {r} el er = go (decLt (length table) size)
       where
-        go : Dec (length table < size) → (r ≡ flushSize table journal head state) × (made ≡ flushTable table journal head state)
-        go (yes l) = let t = no-room l in (er ∙ ap (λ (b : Bool). cond b (NotWritten TableFull) (Count size)) (lt-ltb made-long size (omega arith)) ∙ t .0, t .1)
-        go (no l) = let t = room (omega arith) in (er ∙ ap (λ (b : Bool). cond b (NotWritten TableFull) (Count size)) (le-ltb made-long size (omega arith)) ∙ t .0, t .1)
+        by : {b c : Bool} → b ≡ c → cond b (Away TableFull) (Count size) ≡ cond c (Away TableFull) (Count size)
+        by e = ap (λ (b : Bool). cond b (Away TableFull) (Count size)) e
+
+        go : Dec (length table < size) → Moves r made
+        go (yes l) = let t = no-room l in (er ∙ by (lt-ltb made-long size (omega arith)) ∙ t .0, t .1)
+        go (no l) = let t = room (omega arith) in (er ∙ by (le-ltb made-long size (omega arith)) ∙ t .0, t .1)
+
+  -- the reply and the journal that are meant
+  abbrev Flushes : Answer → Head → List ℕ → Type 0
+  Flushes answer next left =
+      Gives answer (answered (flushCheck table journal head state) Done)
+      × (next ≡ flushHead table journal head state)
+      × (left ≡ flushJournal table journal head state)
 
   -- what a flush gives back: where it is turned away all as it came, where it is accepted what it made
-  pub flush-refused : {g : Refusal} → flushCheck table journal head state ≡ Refused g
-      → Gives (Refused g) (flushCheck table journal head state) × (head ≡ flushHead table journal head state) × (journal ≡ flushJournal table journal head state)
-  flush-refused e = (gives (sym e), if-refused e _ _, if-refused e _ _)
+  pub flush-refused : {answer : Answer} → TurnedAway (flushCheck table journal head state) answer → Flushes answer head journal
+  flush-refused t =
+      let away = ap (λ (o : Check). answered o Done) (t .found) in
+      (gives (t .told ∙ sym away), if-refused (t .found) _ _, if-refused (t .found) _ _)
 
-  pub flush-done : {size : ℕ} → flushCheck table journal head state ≡ Done → size ≡ length (mapHere table journal head state) → {next end : Head} {left : List ℕ}
-      → next ≡ flushedHead head size state → end ≡ trimmedHead next → left ≡ trimmedJournal next journal
-      → Gives Done (flushCheck table journal head state) × (end ≡ flushHead table journal head state) × (left ≡ flushJournal table journal head state)
+  pub flush-done : {size : ℕ} → flushCheck table journal head state ≡ Passed → size ≡ length (mapHere table journal head state)
+      → {next end : Head} {left : List ℕ} → next ≡ flushedHead head size state → end ≡ trimmedHead next → left ≡ trimmedJournal next journal
+      → Flushes Done end left
   flush-done e es n t l =
       let is = n ∙ ap (λ (u : ℕ). flushedHead head u state) es in
-      (gives (sym e), if-done e _ _ (t ∙ ap trimmedHead is), if-done e _ _ (l ∙ ap (λ (x : Head). trimmedJournal x journal) is))
+      (gives-passed e refl, if-passed e _ _ (t ∙ ap trimmedHead is), if-passed e _ _ (l ∙ ap (λ (x : Head). trimmedJournal x journal) is))
 
 -- a flush
 pub record FlushOk (table journal : List ℕ) (head : Head) (state : ℕ) : Type 0 where
@@ -108,19 +162,18 @@ pub record FlushOk (table journal : List ℕ) (head : Head) (state : ℕ) : Type
   pub high : state ≤ head .tip
   pub fits : length (mapHere table journal head state) ≤ length table
 
-pub flush-ok : (table journal : List ℕ) (head : Head) (state : ℕ) → flushCheck table journal head state ≡ Done → FlushOk table journal head state
+pub flush-ok : (table journal : List ℕ) (head : Head) (state : ℕ) → flushCheck table journal head state ≡ Passed
+    → FlushOk table journal head state
 flush-ok table journal head state e =
-    let a = done-not _ _ _ e in
-    let b = done-not _ _ _ (a .1) in
-    let c = done-not _ _ _ (b .1) in
-    let d = done-not _ _ _ (c .1) in
-    let f = done-not _ _ _ (d .1) in
+    let a = store-passed table journal head _ e in
+    let b = state-passed head state _ (a .1) in
+    let c = passed-not _ _ _ (b .1) in
     record {
-      range = lengths-facts (length table) (length journal) (not-false _ (a .0));
-      sound = sound-facts table journal head (not-false _ (b .0));
-      low = ltb-false state (head .checkpoint) (c .0);
-      high = ltb-false (head .tip) state (d .0);
-      fits = ltb-false (length table) (length (mapHere table journal head state)) (f .0);
+      range = a .0 .range;
+      sound = a .0 .sound;
+      low = b .0 .0;
+      high = b .0 .1;
+      fits = ltb-false (length table) (length (mapHere table journal head state)) (c .0);
     }
 
 -- words with zeros behind: from a place on there are zeros only, and a map written to their start, with zeros up to the used words, is
@@ -150,26 +203,32 @@ nothing-in (x ∷ l) h = absurd (omega arith)
 
 module _ {table journal : List ℕ} {head : Head} {state : ℕ} (ok : StateFacts table journal head state) where
   -- the map at the state, written to the table
-  module _ {size : ℕ} (map : List ℕ) (es : size ≡ length (mapHere table journal head state)) (em : take size map ≡ mapHere table journal head state) where
+  module _ {size : ℕ} (map : List ℕ) (es : size ≡ length (mapHere table journal head state))
+      (em : take size map ≡ mapHere table journal head state) where
     pub map-long : size ≡ length (take size map)
     map-long = es ∙ ap length (sym em)
 
     pub map-in : size ≤ length map
     map-in = omega (arith, map-long, length-take size map)
 
-    pub table-is : size ≤ length table → {last : List ℕ} → last ≡ take size map ++ replicate (head .used - length (take size map)) 0 ++ drop (max (head .used) (length (take size map))) table
+    pub table-is : size ≤ length table → {last : List ℕ}
+        → last
+        ≡ take size map ++ replicate (head .used - length (take size map)) 0 ++ drop (max (head .used) (length (take size map))) table
         → last ≡ tableAt table journal head state
     table-is h el =
         let fits : length (mapHere table journal head state) ≤ length table = omega arith in
         el
         ∙ ap (λ (m : List ℕ). m ++ replicate (head .used - length m) 0 ++ drop (max (head .used) (length m)) table) em
-        ∙ zeros-join table (head .used) (mapHere table journal head state) (length (mapHere table journal head state)) refl (ok .sound .used-in, fits) (ok .sound .table-zeros)
+        ∙ zeros-join table (head .used) (mapHere table journal head state) (length (mapHere table journal head state)) refl
+        (ok .sound .used-in, fits) (ok .sound .table-zeros)
         ∙ sym (table-moves table journal head state fits)
 
   -- what the steps to the state have of words
   module _ (p : Shaped head) where
     pub starts-rise : startOf (head .ends) (stepIndex head (head .checkpoint)) ≤ startOf (head .ends) (stepIndex head state)
-    starts-rise = sound-marked table journal head p (ok .sound) .rises (stepIndex head (head .checkpoint)) (stepIndex head state) (omega (arith, ok .low)) (omega (arith, ok .high))
+    starts-rise =
+        let m = sound-marked table journal head p (ok .sound) in
+        m .rises (stepIndex head (head .checkpoint)) (stepIndex head state) (omega (arith, ok .low)) (omega (arith, ok .high))
 
     pub most-room : MapRoom head state 4096 12096
     most-room =
@@ -191,7 +250,8 @@ module _ {table journal : List ℕ} {head : Head} {state : ℕ} (ok : StateFacts
     pub table-here : table ≡ tableAt table journal head state
     table-here =
         let fits : length (mapHere table journal head state) ≤ length table = omega (arith, size-here, ok .sound .used-in) in
-        let zeros : replicate (length table - head .used) 0 ≡ drop (head .used) table = sym (zeros-on table (head .used) (head .used) (omega arith) (ok .sound .table-zeros)) in
+        let zeros : replicate (length table - head .used) 0 ≡ drop (head .used) table =
+        sym (zeros-on table (head .used) (head .used) (omega arith) (ok .sound .table-zeros)) in
         sym (take-append-drop (head .used) table)
         ∙ ap (λ (l : List ℕ). take (head .used) table ++ l) (sym zeros)
         ∙ ap (λ (n : ℕ). take (head .used) table ++ replicate (length table - n) 0) (sym (used-long (ok .sound)))
@@ -209,3 +269,9 @@ module _ {table journal : List ℕ} {head : Head} {state : ℕ} (p : Shaped head
         few = ok .sound .few;
         marked = sound-marked table journal head p (ok .sound);
       }
+
+-- the steps to the checkpoint have no words
+pub no-words : (head : Head) (state : ℕ) → state ≡ head .checkpoint → wordsTo head state ≡ 0
+no-words head state e =
+    let same : wordsTo head (head .checkpoint) ≡ 0 = omega arith in
+    ap (wordsTo head) e ∙ same

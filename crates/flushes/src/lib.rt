@@ -1,28 +1,32 @@
 // Flush: the table becomes the map at a named state, which is the checkpoint then, and the steps that no read needs
 // go.
-use grounds::Outcome;
-use grounds::Refusal;
-use grounds::Written;
+use answers::answer::Answer;
+use answers::answer::Check;
+use answers::refusal::Refusal;
 use layout::head::Head;
 use layout::head::JOURNAL_WORDS;
 use layout::head::MAP_WORDS;
-use layout::head::Stored;
-use layout::sound::end_of;
-use layout::sound::is_sound;
-use layout::sound::lengths_fit;
+use layout::head::Reply;
+use layout::states::end_of;
+use layout::states::step_index;
+use soundness::state_check;
+use soundness::store_check;
 use state_maps::map_at;
 use table::replace;
 use views::trim::trim;
 ghost use mathlib.Core.Bool.{cond, _&&_};
+ghost use mathlib.Core.List.{_++_};
 ghost use mathlib.Core.Path.{_≡_};
 ghost use Prim.Native.Nat.{_+_, _≤_};
 ghost use lib.Dec.{leb, ltb};
 ghost use lib.ListN.{length};
 ghost use Rattle.changes.specs.Runs.{startOf};
-ghost use Rattle.grounds.specs.declared.Refusal.the-variants.{TableFull};
-ghost use Rattle.grounds.specs.declared.Written.the-variants.{Count, Refused as NotWritten};
-ghost use Rattle.grounds.specs.Numbers.{Gives};
-ghost use Rattle.views.specs.States.{stepIndex, mapHere};
+ghost use Rattle.answers.specs.declared.refusal.Refusal.the-variants.{TableFull};
+ghost use Rattle.answers.specs.declared.answer.Answer.the-variants.{Done, Count, Refused};
+ghost use Rattle.answers.specs.Answers.{Gives, answered};
+ghost use Rattle.answers.specs.First.{first};
+ghost use Rattle.layout.specs.States.{stepIndex, mapHere};
+ghost use Rattle.soundness.specs.Checks.{storeGrounds, stateGrounds};
 ghost use Rattle.state_maps.specs.Held.{HeldState, MapRoom, wordsTo};
 ghost use Rattle.flushes.specs.Flush.{flushCheck, flushSize, flushedHead, tableAt, flushTable, flushHead, flushJournal};
 
@@ -36,8 +40,8 @@ fn words_to(head: Head, state: u32) -> usize
     requires { ⌜ (head .oldest ≤ head .checkpoint) × (head .checkpoint ≤ state) × (state ≤ head .oldest + 64) × (startOf (head .ends) (stepIndex head (head .checkpoint)) ≤ startOf (head .ends) (stepIndex head state)) ⌝ }
     ensures { λ r. ⌜ r ≡ wordsTo head state ⌝ }
 {
-    let from = (head.checkpoint - head.oldest) as usize;
-    let to = (state - head.oldest) as usize;
+    let from = step_index(head, head.checkpoint);
+    let to = step_index(head, state);
     end_of(&head.ends, to) - end_of(&head.ends, from)
 }
 
@@ -93,35 +97,37 @@ fn are_few(used: usize, words: usize) -> bool
 }
 
 // The size of a map, or ground 16 where a table of so many words has no room for it.
-fn size_if_room(room: usize, size: usize) -> Written
-    ensures { λ r. ⌜ r ≡ cond (ltb room size) (NotWritten TableFull) (Count size) ⌝ }
+fn size_if_room(room: usize, size: usize) -> Answer
+    ensures { λ r. ⌜ r ≡ cond (ltb room size) (Refused TableFull) (Count size) ⌝ }
 {
     if room < size {
-        return Written::Refused(Refusal::TableFull);
+        return Answer::Refused(Refusal::TableFull);
     }
-    Written::Count(size)
+    Answer::Count(size)
 }
 
-// What a flush does with the table: the words that it uses then, or the ground that turns the flush away. Where no step has a
-// word, the table is the map at the state already.
-fn flush_table(table: &mut [u64], journal: &[u64], head: Head, state: u32) -> Written
+// What a flush does with the table: the words that it uses then, or the ground that turns the flush away. Where no step lies above the
+// checkpoint, where the state is the checkpoint and where no step has a word, the table is the map at the state already.
+fn flush_table(table: &mut [u64], journal: &[u64], head: Head, state: u32) -> Answer
     ensures { λ r. ⌜ (r ≡ flushSize (now (table .entry)) (now (journal .entry)) head state) × (now (table .exit) ≡ flushTable (now (table .entry)) (now (journal .entry)) head state) ⌝ }
 {
-    if !lengths_fit(table.len(), journal.len()) {
-        return Written::Refused(Refusal::Lengths);
+    let store = store_check(table, journal, head);
+    if let Check::Refused(ground) = store {
+        return Answer::Refused(ground);
     }
-    if !is_sound(table, journal, head) {
-        return Written::Refused(Refusal::Unsound);
+    let range = state_check(head, state);
+    if let Check::Refused(ground) = range {
+        return Answer::Refused(ground);
     }
-    if state < head.checkpoint {
-        return Written::Refused(Refusal::StateRange);
+    if head.tip == head.checkpoint {
+        return Answer::Count(head.used);
     }
-    if head.tip < state {
-        return Written::Refused(Refusal::StateRange);
+    if state == head.checkpoint {
+        return Answer::Count(head.used);
     }
     let words = words_to(head, state);
     if words == 0 {
-        return Written::Count(head.used);
+        return Answer::Count(head.used);
     }
     if are_few(head.used, words) {
         let size = move_few(table, journal, head, state);
@@ -141,17 +147,16 @@ fn flushed_head(head: Head, used: usize, state: u32) -> Head
     next
 }
 
-pub fn flush(table: &mut [u64], journal: &mut [u64], head: Head, state: u32) -> Stored
-    ensures { λ r. ⌜ Gives (r .outcome) (flushCheck (now (table .entry)) (now (journal .entry)) head state) × (r .head ≡ flushHead (now (table .entry)) (now (journal .entry)) head state) × (now (table .exit) ≡ flushTable (now (table .entry)) (now (journal .entry)) head state) × (now (journal .exit) ≡ flushJournal (now (table .entry)) (now (journal .entry)) head state) ⌝ }
+pub fn flush(table: &mut [u64], journal: &mut [u64], head: Head, state: u32) -> Reply
+    ensures { λ r. ⌜ Gives (r .answer) (answered (flushCheck (now (table .entry)) (now (journal .entry)) head state) Done) × (r .head ≡ flushHead (now (table .entry)) (now (journal .entry)) head state) × (now (table .exit) ≡ flushTable (now (table .entry)) (now (journal .entry)) head state) × (now (journal .exit) ≡ flushJournal (now (table .entry)) (now (journal .entry)) head state) ⌝ }
 {
-    match flush_table(table, journal, head, state) {
-        Written::Refused(ground) => Stored {
-            outcome: Outcome::Refused(ground),
-            head,
-        },
-        Written::Count(size) => Stored {
-            outcome: Outcome::Done,
-            head: trim(journal, flushed_head(head, size, state)),
-        },
+    let made = flush_table(table, journal, head, state);
+    let Answer::Count(size) = made else {
+        return Reply { answer: made, head };
+    };
+    let next = trim(journal, flushed_head(head, size, state));
+    Reply {
+        answer: Answer::Done,
+        head: next,
     }
 }

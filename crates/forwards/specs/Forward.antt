@@ -1,45 +1,40 @@
 -- Forward (document 01, "Laws of changes"): "Forward applies to the lent read set, for its own offers, all steps from the place's
 -- number to the named state, then closes the place."
 -- Assumes nothing.
-use mathlib.Core.Bool.{Bool, false, not}
-use mathlib.Core.List.{List, [], _∷_}
+use mathlib.Core.Bool.{false, not}
+use mathlib.Core.List.{List, _∷_, _++_}
 use Prim.Native.Nat.{ℕ}
-use lib.Dec.{leb, ltb}
-use lib.ListN.{length, getD}
+use lib.ListN.{getD}
 use Rattle.changes.specs.Calculus.{composeAll}
 use Rattle.changes.specs.Lists.{listB}
 use Rattle.changes.specs.ReadSets.{over}
-use Rattle.grounds.specs.declared.Outcome.{Outcome}
-use Rattle.grounds.specs.declared.Refusal.the-variants.{Lengths, Unsound, SlotRange, SlotClosed, BadList, StateRange}
-use Rattle.grounds.specs.First.{Ground, met, first, ifDone}
+use Rattle.answers.specs.declared.answer.Check.{Check}
+use Rattle.answers.specs.declared.call.Reader.{Reader}
+use Rattle.answers.specs.declared.refusal.Refusal.the-variants.{SlotClosed, BadList}
+use Rattle.answers.specs.First.{met, first, ifPassed}
 use Rattle.layout.specs.declared.head.Head.{Head}
-use Rattle.layout.specs.Sound.{lengthsB, soundB}
-use Rattle.views.specs.States.{stepsBetween}
+use Rattle.soundness.specs.Checks.{storeGrounds, stateGrounds}
+use Rattle.layout.specs.States.{stepsBetween}
 use Rattle.views.specs.Trim.{trimmedHead, trimmedJournal}
-use Rattle.slots.specs.Slots.{shut}
+use Rattle.slots.specs.Slots.{slotGrounds, shut}
 
 -- grounds 1, 2, 3, 5, 6 ("A list breaks its rules"), 11 ("below the anchor or above the tip")
-abbrev pub forwardCheck : List ℕ → List ℕ → Head → ℕ → ℕ → List ℕ → Outcome
-forwardCheck table journal head slot state words =
+abbrev pub forwardCheck : List ℕ → List ℕ → Head → Reader → ℕ → List ℕ → Check
+forwardCheck table journal head reader state words =
     first
-    (met (not (lengthsB (length table) (length journal))) Lengths
-    ∷ met (not (soundB table journal head)) Unsound
-    ∷ met (leb 8 slot) SlotRange
-    ∷ met (not (getD (head .held) slot false)) SlotClosed
-    ∷ met (not (listB words)) BadList
-    ∷ met (ltb state (head .checkpoint)) StateRange
-    ∷ met (ltb (head .tip) state) StateRange
-    ∷ [])
+    (storeGrounds table journal head
+    ++ slotGrounds reader
+    ++ (met (not (getD (head .held) (reader .slot) false)) SlotClosed ∷ met (not (listB words)) BadList ∷ stateGrounds head state))
 
 -- the steps from the slot's number, which may lie below the checkpoint, to the state
-abbrev pub stepsFor : List ℕ → Head → ℕ → ℕ → List (List ℕ)
-stepsFor journal head slot state = stepsBetween journal head (getD (head .issued) slot 0) state
+abbrev pub stepsFor : List ℕ → Head → Reader → ℕ → List (List ℕ)
+stepsFor journal head reader state = stepsBetween journal head (getD (head .issued) (reader .slot) 0) state
 
-abbrev pub forwardReads : List ℕ → List ℕ → Head → ℕ → ℕ → List ℕ → List ℕ
-forwardReads table journal head slot state words = ifDone (forwardCheck table journal head slot state words) (over words (composeAll (stepsFor journal head slot state))) words
+abbrev pub forwardReads : List ℕ → List ℕ → Head → Reader → ℕ → List ℕ → List ℕ
+forwardReads table journal head reader state words = ifPassed (forwardCheck table journal head reader state words) (over words (composeAll (stepsFor journal head reader state))) words
 
-abbrev pub forwardHead : List ℕ → List ℕ → Head → ℕ → ℕ → List ℕ → Head
-forwardHead table journal head slot state words = ifDone (forwardCheck table journal head slot state words) (trimmedHead (shut head slot)) head
+abbrev pub forwardHead : List ℕ → List ℕ → Head → Reader → ℕ → List ℕ → Head
+forwardHead table journal head reader state words = ifPassed (forwardCheck table journal head reader state words) (trimmedHead (shut head (reader .slot))) head
 
-abbrev pub forwardJournal : List ℕ → List ℕ → Head → ℕ → ℕ → List ℕ → List ℕ
-forwardJournal table journal head slot state words = ifDone (forwardCheck table journal head slot state words) (trimmedJournal (shut head slot) journal) journal
+abbrev pub forwardJournal : List ℕ → List ℕ → Head → Reader → ℕ → List ℕ → List ℕ
+forwardJournal table journal head reader state words = ifPassed (forwardCheck table journal head reader state words) (trimmedJournal (shut head (reader .slot)) journal) journal

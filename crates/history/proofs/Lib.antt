@@ -1,5 +1,4 @@
 pub mod Alike
-pub mod Door
 pub mod FlushCall
 pub mod Lines
 pub mod Loads

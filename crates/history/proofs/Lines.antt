@@ -1,19 +1,18 @@
 -- A line of whole maps: each is the one before it with the list beside it applied; and what a commit and a rollback leave of it.
 -- Assumes nothing.
 use mathlib.Core.Path.{_≡_, refl, sym, ap, ap₂, subst, _∙_}
-use mathlib.Core.Bool.{true}
 use mathlib.Core.List.{List, [], _∷_, _++_}
 use Prim.Native.Nat.{ℕ, zero, suc, _+_, _-_, _≤_, _<_}
 use native.Mathlib.Decide.{ℕ-discrete}
 use native.Mathlib.Omega.{arith}
-use lib.ListN.{length, getD, take, drop, length-append, length-take, length-drop, take-append-drop, List·getD-append}
+use lib.ListN.{length, getD, take, drop, length-append, length-drop, take-append-drop, List·getD-append}
 use lib.Seq.{take-all, take-suc, take-add, take-take, take-append-le, drop-append-le, drop-drop, drop-at, getD-at, getD-take, getD-drop, length-take-le}
 use Rattle.changes.specs.Calculus.{apply, compose, composeAll}
-use Rattle.changes.specs.Lists.{listB, From, All, Changes, Map}
+use Rattle.changes.specs.Lists.{All, Changes, Map}
 use Rattle.changes.proofs.Applying.{compose-all-nil, compose-all-one}
 use Rattle.changes.proofs.Each.{IsList, list-changes, all-changes, all-at, all-take, all-drop, all-more}
 use Rattle.changes.proofs.Laws.{apply-zero, apply-twice, apply-map, run-changes, run-split}
-use Rattle.history.specs.Plain.{Line, tipOf, mapAt, grown, cutAbove}
+use Rattle.history.specs.Plain.{Line, tipOf, mapAt, listsBetween, grown, cutAbove}
 
 -- each map is the one before it with the list beside it applied, and the lists keep their rules
 pub record Whole (l : Line) : Type 0 where
@@ -22,14 +21,13 @@ pub record Whole (l : Line) : Type 0 where
   pub lists : All IsList (l .lists)
   pub next : (k : ℕ) → k < length (l .lists) → getD (l .maps) (suc k) [] ≡ apply (getD (l .maps) k []) (getD (l .lists) k [])
 
--- the lists that lead from a state to a later one
-unfoldable pub slice : Line → ℕ → ℕ → List (List ℕ)
-slice l a b = take (b - a) (drop (a - l .start) (l .lists))
-
 module _ {l : Line} (w : Whole l) where
-  pub slice-changes : (a b : ℕ) → Changes (composeAll (slice l a b))
-  unfolding slice
-  slice-changes a b = run-changes (slice l a b) (all-changes (slice l a b) (all-take IsList (b - a) (drop (a - l .start) (l .lists)) (all-drop IsList (a - l .start) (l .lists) (w .lists))))
+  pub between-changes : (a b : ℕ) → Changes (composeAll (listsBetween l a b))
+  unfolding listsBetween
+  between-changes a b =
+      let from = drop (a - l .start) (l .lists) in
+      let lists = all-take IsList (b - a) from (all-drop IsList (a - l .start) (l .lists) (w .lists)) in
+      run-changes (listsBetween l a b) (all-changes (listsBetween l a b) lists)
 
   map-here : (k : ℕ) → k ≤ length (l .lists) → Map (getD (l .maps) k [])
   map-here zero h = w .first
@@ -63,40 +61,48 @@ module _ {l : Line} (w : Whole l) where
   map-at s h = map-here (s - l .start) (omega arith)
 
   -- applying the lists from a state to a later one to the map of the first gives the map of the second
-  pub carried : (a b : ℕ) → l .start ≤ a → a ≤ b → b ≤ tipOf l → apply (mapAt l a) (composeAll (slice l a b)) ≡ mapAt l b
-  unfolding slice
+  pub carried : (a b : ℕ) → l .start ≤ a → a ≤ b → b ≤ tipOf l → apply (mapAt l a) (composeAll (listsBetween l a b)) ≡ mapAt l b
+  unfolding listsBetween
   carried a b low order high =
       let same : a - l .start + (b - a) ≡ b - l .start = omega arith in
       carried-on (a - l .start) (b - a) (omega arith) ∙ ap (λ (i : ℕ). getD (l .maps) i []) same
 
 -- lists from a state to a later one: taken together, and in parts
 module _ (l : Line) where
-  pub slice-length : (a b : ℕ) → l .start ≤ a → a ≤ b → b ≤ tipOf l → length (slice l a b) ≡ b - a
-  unfolding slice
-  slice-length a b low order high = length-take-le (b - a) (drop (a - l .start) (l .lists)) (omega (arith, length-drop (a - l .start) (l .lists)))
+  pub between-length : (a b : ℕ) → l .start ≤ a → a ≤ b → b ≤ tipOf l → length (listsBetween l a b) ≡ b - a
+  unfolding listsBetween
+  between-length a b low order high =
+      length-take-le (b - a) (drop (a - l .start) (l .lists)) (omega (arith, length-drop (a - l .start) (l .lists)))
 
-  pub slice-all : (a : ℕ) → l .start ≤ a → a ≤ tipOf l → drop (a - l .start) (l .lists) ≡ slice l a (tipOf l)
-  unfolding slice
-  slice-all a low high = sym (take-all (tipOf l - a) (drop (a - l .start) (l .lists)) (omega (arith, length-drop (a - l .start) (l .lists))))
+  pub between-same : (a : ℕ) → listsBetween l a a ≡ []
+  unfolding listsBetween
+  between-same a =
+      let none : a - a ≡ 0 = omega arith in
+      ap (λ (n : ℕ). take n (drop (a - l .start) (l .lists))) none
 
-  pub slice-join : (a b c : ℕ) → l .start ≤ a → a ≤ b → b ≤ c → slice l a b ++ slice l b c ≡ slice l a c
-  unfolding slice
-  slice-join a b c low h k =
+  pub between-all : (a : ℕ) → l .start ≤ a → a ≤ tipOf l → drop (a - l .start) (l .lists) ≡ listsBetween l a (tipOf l)
+  unfolding listsBetween
+  between-all a low high =
+      sym (take-all (tipOf l - a) (drop (a - l .start) (l .lists)) (omega (arith, length-drop (a - l .start) (l .lists))))
+
+  pub between-join : (a b c : ℕ) → l .start ≤ a → a ≤ b → b ≤ c → listsBetween l a b ++ listsBetween l b c ≡ listsBetween l a c
+  unfolding listsBetween
+  between-join a b c low h k =
       let whole : b - a + (c - b) ≡ c - a = omega arith in
       let place : b - l .start ≡ a - l .start + (b - a) = omega arith in
-      ap (λ (n : ℕ). slice l a b ++ take (c - b) (drop n (l .lists))) place
-      ∙ ap (λ (ds : List (List ℕ)). slice l a b ++ take (c - b) ds) (sym (drop-drop (b - a) (a - l .start) (l .lists)))
+      ap (λ (n : ℕ). listsBetween l a b ++ take (c - b) (drop n (l .lists))) place
+      ∙ ap (λ (ds : List (List ℕ)). listsBetween l a b ++ take (c - b) ds) (sym (drop-drop (b - a) (a - l .start) (l .lists)))
       ∙ sym (take-add (b - a) (c - b) (drop (a - l .start) (l .lists)))
       ∙ ap (λ (n : ℕ). take n (drop (a - l .start) (l .lists))) whole
 
-  pub slice-take : (a b c : ℕ) → a ≤ b → b ≤ c → take (b - a) (slice l a c) ≡ slice l a b
-  unfolding slice
-  slice-take a b c h k = take-take (b - a) (c - a) (drop (a - l .start) (l .lists)) (omega arith)
+  pub between-take : (a b c : ℕ) → a ≤ b → b ≤ c → take (b - a) (listsBetween l a c) ≡ listsBetween l a b
+  unfolding listsBetween
+  between-take a b c h k = take-take (b - a) (c - a) (drop (a - l .start) (l .lists)) (omega arith)
 
-  pub slice-drop : (a b c : ℕ) → l .start ≤ a → a ≤ b → b ≤ c → c ≤ tipOf l → drop (b - a) (slice l a c) ≡ slice l b c
-  slice-drop a b c low h k high =
-      ap (drop (b - a)) (sym (slice-join a b c low h k))
-      ∙ drop-at (slice l a b) (slice l b c) (b - a) (slice-length a b low h (omega arith))
+  pub between-drop : (a b c : ℕ) → l .start ≤ a → a ≤ b → b ≤ c → c ≤ tipOf l → drop (b - a) (listsBetween l a c) ≡ listsBetween l b c
+  between-drop a b c low h k high =
+      ap (drop (b - a)) (sym (between-join a b c low h k))
+      ∙ drop-at (listsBetween l a b) (listsBetween l b c) (b - a) (between-length a b low h (omega arith))
 
 -- a line that has grown by a list: what was there stays, and it is whole
 module _ (l : Line) (w : Whole l) (list : List ℕ) where
@@ -106,17 +112,18 @@ module _ (l : Line) (w : Whole l) (list : List ℕ) where
   pub grown-map : (s : ℕ) → s ≤ tipOf l → mapAt (grown l list) s ≡ mapAt l s
   grown-map s h = List·getD-append (l .maps) _ [] (s - l .start) (omega (arith, w .count))
 
-  pub grown-slice : (a b : ℕ) → l .start ≤ a → a ≤ b → b ≤ tipOf l → slice (grown l list) a b ≡ slice l a b
-  unfolding slice
-  grown-slice a b low h high =
+  pub grown-between : (a b : ℕ) → l .start ≤ a → a ≤ b → b ≤ tipOf l → listsBetween (grown l list) a b ≡ listsBetween l a b
+  unfolding listsBetween
+  grown-between a b low h high =
       ap (take (b - a)) (drop-append-le (a - l .start) (l .lists) (list ∷ []) (omega arith))
       ∙ take-append-le (b - a) (drop (a - l .start) (l .lists)) (list ∷ []) (omega (arith, length-drop (a - l .start) (l .lists)))
 
-  pub grown-last : (a : ℕ) → l .start ≤ a → a ≤ tipOf l → slice (grown l list) a (tipOf (grown l list)) ≡ slice l a (tipOf l) ++ (list ∷ [])
+  pub grown-last : (a : ℕ) → l .start ≤ a → a ≤ tipOf l
+      → listsBetween (grown l list) a (tipOf (grown l list)) ≡ listsBetween l a (tipOf l) ++ (list ∷ [])
   grown-last a low high =
-      sym (slice-all (grown l list) a low (omega (arith, grown-tip)))
+      sym (between-all (grown l list) a low (omega (arith, grown-tip)))
       ∙ drop-append-le (a - l .start) (l .lists) (list ∷ []) (omega arith)
-      ∙ ap (λ (ds : List (List ℕ)). ds ++ (list ∷ [])) (slice-all l a low high)
+      ∙ ap (λ (ds : List (List ℕ)). ds ++ (list ∷ [])) (between-all l a low high)
 
   last-map : getD (grown l list .maps) (suc (length (l .lists))) [] ≡ apply (mapAt l (tipOf l)) list
   last-map = getD-at (l .maps) (apply (mapAt l (tipOf l)) list) [] [] (suc (length (l .lists))) (w .count)
@@ -164,9 +171,9 @@ module _ (l : Line) (w : Whole l) (state : ℕ) (low : l .start ≤ state) (high
   pub cut-map : (s : ℕ) → s ≤ state → mapAt (cutAbove l state) s ≡ mapAt l s
   cut-map s h = getD-take (state - l .start + 1) (l .maps) (s - l .start) [] (omega arith)
 
-  pub cut-slice : (a b : ℕ) → l .start ≤ a → a ≤ b → b ≤ state → slice (cutAbove l state) a b ≡ slice l a b
-  unfolding slice
-  cut-slice a b at-least h most =
+  pub cut-between : (a b : ℕ) → l .start ≤ a → a ≤ b → b ≤ state → listsBetween (cutAbove l state) a b ≡ listsBetween l a b
+  unfolding listsBetween
+  cut-between a b at-least h most =
       let front = take (state - l .start) (l .lists) in
       let back = drop (state - l .start) (l .lists) in
       sym (

@@ -1,38 +1,52 @@
 -- The load: it is accepted or refused as the plain list has it, and leaves the store that follows the plain list.
 -- Assumes nothing.
-use mathlib.Core.Path.{_≡_, refl, sym, ap, ap₂, subst, _∙_}
+use mathlib.Core.Path.{_≡_, refl, sym, ap, subst, _∙_}
 use mathlib.Core.Bool.{true, not}
 use mathlib.Core.List.{List, [], _∷_}
-use Prim.Native.Nat.{ℕ, zero, suc, _+_, _-_, _≤_}
+use Prim.Native.Nat.{ℕ, zero, suc, _+_, _-_}
 use native.Mathlib.Omega.{arith}
 use borrow.Author.Tests.{le-leb}
 use lib.Dec.{ltb}
 use lib.ListN.{length, getD, take, drop, replicate}
 use lib.Seq.{take-nil, drop-nil}
-use Rattle.changes.specs.Lists.{All, Map}
-use Rattle.grounds.specs.declared.Outcome.the-variants.{Done}
-use Rattle.grounds.proofs.Firsts.{first-not}
+use Rattle.changes.specs.Lists.{All}
+use Rattle.answers.specs.declared.answer.Check.{Check}
+use Rattle.answers.specs.declared.answer.Check.the-variants.{Passed}
+use Rattle.answers.specs.declared.call.Reset.the-variants.{Load}
+use Rattle.answers.specs.Answers.{answered}
+use Rattle.answers.specs.First.{ifPassed}
+use Rattle.answers.proofs.Firsts.{first-not}
 use Rattle.image.specs.Image.{imageB, numberIn, wordsIn}
 use Rattle.image.proofs.Words.{words-in-length}
-use Rattle.layout.specs.Sound.{lengthsB}
-use Rattle.views.specs.View.{Store, encode, Good}
+use Rattle.layout.specs.Clauses.{lengthsB}
+use Rattle.views.specs.View.{Store, viewTable, encode, Good}
 use Rattle.layout.proofs.Holds.{first-holds, all-none}
-use Rattle.snapshot.specs.Calls.{loadOutcome}
+use Rattle.snapshot.specs.Calls.{loadCheck}
 use Rattle.snapshot.specs.FreshView.{freshView}
 use Rattle.snapshot.proofs.Accepted.{load-ok}
-use Rattle.snapshot.proofs.OnViews.{load-leaves, load-good}
+use Rattle.snapshot.proofs.OnViews.{load-leaves}
 use Rattle.history.specs.Condition3.{InRange}
-use Rattle.history.specs.Plain.{accept, met, closed, firstOf, leastOf, Line, loadChecked, loadedPlain}
-use Rattle.history.specs.Runs.{Ticket, nothing, lengthsOf}
-use Rattle.history.specs.Served.{loadedStore}
-use Rattle.history.proofs.Lines.{Whole, slice}
+use Rattle.history.specs.Plain.{met, closed, firstOf, leastOf, Line, listsBetween, loadChecked, loadedPlain}
+use Rattle.history.specs.Runs.{nothing, lentWith, storeIn, lengthsOf}
+use Rattle.calls.specs.Lent.{Left}
+use Rattle.calls.specs.Meaning.{resetOf}
 use Rattle.history.proofs.Stored.{storeOf, verdictOf, verdict-of}
 use Rattle.history.proofs.Tickets.{Ticketed, Tickets, of-closed}
 use Rattle.history.proofs.Views.{viewOf, Fit}
 
-slice-none : (l : Line) (a b : ℕ) → l .lists ≡ [] → slice l a b ≡ []
-unfolding slice
-slice-none l a b e = ap (λ (ds : List (List ℕ)). take (b - a) (drop (a - l .start) ds)) e ∙ ap (take (b - a)) (drop-nil (a - l .start)) ∙ take-nil (b - a)
+between-none : (l : Line) (a b : ℕ) → l .lists ≡ [] → listsBetween l a b ≡ []
+unfolding listsBetween
+between-none l a b e =
+    ap (λ (ds : List (List ℕ)). take (b - a) (drop (a - l .start) ds)) e
+    ∙ ap (take (b - a)) (drop-nil (a - l .start))
+    ∙ take-nil (b - a)
+
+-- what a load leaves, by its check
+abbrev pub settledBy : Check → Store → List ℕ → Left
+settledBy c s image =
+    let l = lentWith s [] image in
+    let made = resetOf l Load .accepted in
+    record { answer = answered c (made .answer); lent = ifPassed c (made .lent) l }
 
 module _ (lent : Store) (image : List ℕ) (r : InRange lent) where
   range : lengthsB (length (lent .table)) (length (lent .journal)) ≡ true
@@ -44,7 +58,7 @@ module _ (lent : Store) (image : List ℕ) (r : InRange lent) where
       ∙ all-none
 
   -- ground 1 does not arise, and 15 and 16 are the plain list's
-  pub load-checks : verdictOf (loadOutcome (lent .table) (lent .journal) image) ≡ loadChecked (lengthsOf lent) image
+  pub load-checks : verdictOf (loadCheck (lent .table) (lent .journal) image) ≡ loadChecked (lengthsOf lent) image
   load-checks =
       ap verdictOf (first-not _ _ _ (ap not range))
       ∙ verdict-of _
@@ -60,18 +74,15 @@ module _ (lent : Store) (image : List ℕ) (r : InRange lent) where
   unfolding freshView viewOf leastOf
   fresh-view i =
       let l = loadedPlain (lengthsOf lent) image .line in
-      record {
-        base = sym first-map i;
-        old = sym (slice-none l (numberIn image) (numberIn image) refl) i;
-        steps = sym (slice-none l (numberIn image) (numberIn image + 0) refl) i;
-        checkpoint = numberIn image;
-        slots = freshView (wordsIn image) (numberIn image) (lengthsOf lent) .slots;
-        limits = lengthsOf lent;
-      }
+      viewTable (freshView (wordsIn image) (numberIn image) (lengthsOf lent))
+      (sym first-map i)
+      (sym (between-none l (numberIn image) (numberIn image) refl) i)
+      (sym (between-none l (numberIn image) (numberIn image + 0) refl) i)
+      (numberIn image)
 
-  module _ (e : loadOutcome (lent .table) (lent .journal) image ≡ Done) where
-    pub load-after : loadedStore lent image ≡ storeOf (loadedPlain (lengthsOf lent) image)
-    load-after = load-leaves (lent .table) (lent .journal) (lent .head) image e ∙ ap encode fresh-view
+  module _ (e : loadCheck (lent .table) (lent .journal) image ≡ Passed) where
+    pub load-after : storeIn (settledBy Passed lent image .lent) ≡ storeOf (loadedPlain (lengthsOf lent) image)
+    load-after = load-leaves (lent .table) (lent .journal) image e .is ∙ ap encode fresh-view
 
     pub load-fit : Fit (loadedPlain (lengthsOf lent) image)
     unfolding leastOf All
@@ -86,7 +97,7 @@ module _ (lent : Store) (image : List ℕ) (r : InRange lent) where
           };
           low = omega arith;
           high = omega arith;
-          good = subst Good fresh-view (load-good (lent .table) (lent .journal) (lent .head) image e);
+          good = subst Good fresh-view (load-leaves (lent .table) (lent .journal) image e .good);
         }
 
 -- no read set is out
@@ -98,7 +109,10 @@ closed-at (suc n) (suc slot) = closed-at n slot
 pub no-tickets : (lent : Store) (image : List ℕ) → Tickets (loadedPlain (lengthsOf lent) image) (replicate 8 nothing)
 no-tickets lent image =
     let l = loadedPlain (lengthsOf lent) image .line in
+    let c = numberIn image in
     record {
       eight = refl;
-      each = λ slot. subst (Ticketed l (getD (replicate 8 nothing) slot nothing)) (sym (closed-at 8 slot)) (of-closed l (getD (replicate 8 nothing) slot nothing));
+      each = λ slot.
+          let x = getD (replicate 8 nothing) slot nothing in
+          subst (Ticketed l c x) (sym (closed-at 8 slot)) (of-closed l c x);
     }

@@ -4,7 +4,7 @@
 use mathlib.Core.Path.{_≡_, refl, sym, ap, ap₂, subst, _∙_}
 use mathlib.Core.Bool.{Bool, true, false, not, _&&_}
 use mathlib.Core.List.{List, [], _∷_, _++_, map}
-use Prim.Native.Nat.{ℕ, zero, suc, _+_, _-_, _*_, _^_, _≤_, _<_}
+use Prim.Native.Nat.{ℕ, _+_, _-_, _*_, _^_, _≤_, _<_}
 use native.Mathlib.Omega.{arith}
 use borrow.Author.Tests.{le-leb}
 use lib.Dec.{ltb, leb}
@@ -15,36 +15,40 @@ use Rattle.changes.specs.declared.search.Found.the-variants.{Word, Nothing}
 use Rattle.changes.specs.Calculus.{find, composeAll}
 use Rattle.changes.specs.Lists.{listB, noPutB, Map}
 use Rattle.changes.specs.ReadSets.{foundOr, readOf, over}
-use Rattle.changes.proofs.Laws.{read-changed, read-changes, changes-test}
+use Rattle.changes.proofs.Applying.{compose-all-nil}
+use Rattle.changes.proofs.Laws.{read-changed, over-twice, over-zero, read-changes, run-split, changes-test}
 use Rattle.changes.proofs.ListTest.{list-facts}
-use Rattle.grounds.specs.declared.Outcome.{Outcome}
-use Rattle.grounds.specs.declared.Outcome.the-variants.{Done, Refused}
-use Rattle.grounds.specs.First.{ifDone}
-use Rattle.grounds.proofs.Firsts.{new-is}
+use Rattle.answers.specs.declared.call.LookUp.{LookUp as Asked}
+use Rattle.answers.specs.declared.call.Query.the-variants.{LookUp, WriteImage}
+use Rattle.answers.specs.declared.call.Read.the-variants.{Issue, Forward, Release}
+use Rattle.answers.specs.declared.call.Reader.{Reader}
+use Rattle.answers.specs.Answers.{saidBy}
+use Rattle.answers.specs.declared.answer.Check.the-variants.{Passed}
 use Rattle.image.specs.Image.{imageOf}
 use Rattle.image.proofs.RoundTrip.{image-length}
-use Rattle.views.specs.States.{mapHere}
-use Rattle.views.specs.Trim.{trimmed, trimmedHead, trimmedJournal}
-use Rattle.views.specs.View.{Store, View, Slot, closed as shutSlot, holding, issuedOf, heldSteps, encode, decode, Good, mapAt as viewMapAt}
-use Rattle.forwards.specs.Forward.{forwardCheck, forwardReads, forwardHead, forwardJournal, stepsFor}
-use Rattle.issues.specs.Issue.{issueCheck, issueHead, issueList}
-use Rattle.lookups.specs.LookUp.{lookUpCheck, quoteOf, quoteOr}
-use Rattle.lookups.specs.LookUp as LookUp
+use Rattle.layout.specs.States.{mapHere}
+use Rattle.views.specs.Trim.{trimmed}
+use Rattle.views.specs.View.{Store, View, closed as shutSlot, holding, issuedOf, encode, decode, Good, mapAt as viewMapAt}
+use Rattle.forwards.specs.Forward.{forwardCheck, stepsFor}
+use Rattle.issues.specs.Issue.{issueCheck}
+use Rattle.lookups.specs.LookUp.{lookUpCheck, quoteOf}
 use Rattle.reads.specs.OnView.{withSlot, between}
-use Rattle.releases.specs.Release.{releaseCheck, releaseHead, releaseJournal}
-use Rattle.slots.specs.Slots.{opened, shut}
-use Rattle.lookups.proofs.Accepted.{LookUpOk, look-up-ok}
-use Rattle.issues.proofs.Accepted.{IssueOk, issue-ok}
+use Rattle.releases.specs.Release.{releaseCheck}
+use Rattle.lookups.proofs.Accepted.{look-up-ok}
+use Rattle.issues.proofs.Accepted.{issue-ok}
 use Rattle.forwards.proofs.Accepted.{ForwardOk, forward-ok}
-use Rattle.reads.proofs.ClosingViews.{release-leaves, release-good, forward-leaves, forward-good, forward-slot, forward-shows}
-use Rattle.reads.proofs.OnViews.{look-up-shows, issue-leaves, issue-good, issue-shows}
-use Rattle.snapshot.specs.Calls.{writeCheck, countOr, imageHere, writeAnswer, writeBytes}
-use Rattle.history.specs.Calls.{lookUp, issue, forward, release, writeImage, Reply, Turn, done, price, noPrice, filled, forwarded, written}
-use Rattle.history.specs.Plain.{Ground, met, accept, firstOf, Line, Place, closed, reading, Plain, tipOf, mapAt, leastOf, floorOf, heldLists, shown, quoted, openB, openAt, offersIn, offersAt, imageAt, checked, given, changed, withPlace}
-use Rattle.history.specs.Served.{replyOr, quoteReply, writtenReply, serve}
-use Rattle.history.proofs.Lines.{Whole, slice, map-at, carried, slice-changes, slice-length, slice-take, slice-drop}
+use Rattle.reads.proofs.ClosingViews.{release-leaves, forward-leaves, forward-shows}
+use Rattle.reads.proofs.OnViews.{look-up-shows, issue-leaves, issue-shows}
+use Rattle.snapshot.specs.Calls.{writeCheck, imageHere}
+use Rattle.history.specs.Named.{read, ask, calling, Response, responseTo, Turn, done, filled, forwarded, written}
+use Rattle.history.specs.Runs.{storeTurn}
+use Rattle.history.specs.Plain.{Ground, met, accept, firstOf, Line, Place, closed, reading, Plain, tipOf}
+use Rattle.history.specs.Plain.{mapAt, floorOf, listsBetween, shown, quoted, openB, openAt, offersIn}
+use Rattle.history.specs.Plain.{offersAt, imageAt, slotTests, stateTests, readTests, queryTests, checked, withPlace}
+use Rattle.history.proofs.Lines.{Whole, map-at, carried, between-changes, between-same, between-join}
 use Rattle.history.proofs.Views.{viewOf, Fit, slotOf, place-range, view-map, view-between, issue-view, close-view, floor-same, floor-up}
-use Rattle.history.proofs.Stored.{storeOf, verdictOf, verdict-of, accepted-done, turnBy, settle, view-back, store-shaped, past-two, checkpoint-is, tip-is, open-same}
+use Rattle.history.proofs.Stored.{storeOf, verdictOf, verdict-of, accepted-done, turnBy, settle, view-back}
+use Rattle.history.proofs.Stored.{store-shaped, past-two, checkpoint-is, tip-is, state-same, open-same}
 
 -- a read set shows the offers of a list's words
 pub read-shown : (m ws : List ℕ) → readOf m ws ≡ shown m (map offerOf ws)
@@ -52,12 +56,57 @@ unfolding readOf
 read-shown m [] = refl
 read-shown m (w ∷ ws) = ap (λ (l : List ℕ). foundOr (find (offerOf w) m) (noneOf (offerOf w)) ∷ l) (read-shown m ws)
 
--- the words that the slot's issue filled: the read set, at the offers of a list, of the map at the slot's number
-pub record Shows (l : Line) (n : ℕ) (offers words : List ℕ) : Type 0 where
+-- The words that a slot's issue filled at a state n, with c the checkpoint: brought to the checkpoint, they show the map there at the
+-- slot's offers, which are those of a list. What they show at n itself is not said.
+pub record Shows (l : Line) (c n : ℕ) (offers words : List ℕ) : Type 0 where
   pub list : List ℕ
   pub is-list : listB list ≡ true
   pub offers-are : offers ≡ map offerOf list
-  pub words-are : words ≡ readOf (mapAt l n) list
+  pub words-list : listB words ≡ true
+  pub shown-at : over words (composeAll (listsBetween l n c)) ≡ readOf (mapAt l c) list
+
+-- the words are those that the issue of a slot filled, if the slot is open
+abbrev pub ShowsAt : Plain → ℕ → List ℕ → Type 0
+ShowsAt p slot words =
+    (n : ℕ) (offers : List ℕ) → getD (p .places) slot closed ≡ reading n offers → Shows (p .line) (p .checkpoint) n offers words
+
+module _ {l : Line} {c n : ℕ} {offers words : List ℕ} (t : Shows l c n offers words) where
+  -- in a line that has the same lists up to the checkpoint, and the same map there
+  pub shows-line : (m : Line) → listsBetween m n c ≡ listsBetween l n c → mapAt m c ≡ mapAt l c → Shows m c n offers words
+  shows-line m lists there =
+      record {
+        list = t .list;
+        is-list = t .is-list;
+        offers-are = t .offers-are;
+        words-list = t .words-list;
+        shown-at =
+            ap (λ (ds : List (List ℕ)). over words (composeAll ds)) lists
+            ∙ t .shown-at
+            ∙ ap (λ (x : List ℕ). readOf x (t .list)) (sym there);
+      }
+
+  -- from the checkpoint on: brought to a later state, they show the map of that state
+  module _ (w : Whole l) (from : l .start ≤ n) (below : n ≤ c) (s : ℕ) (order : c ≤ s) (high : s ≤ tipOf l) where
+    pub shown-later : over words (composeAll (listsBetween l n s)) ≡ readOf (mapAt l s) (t .list)
+    shown-later =
+        let before = composeAll (listsBetween l n c) in
+        let after = composeAll (listsBetween l c s) in
+        ap (λ (ds : List (List ℕ)). over words (composeAll ds)) (sym (between-join l n c s from below order))
+        ∙ ap (over words) (run-split (listsBetween l n c) (listsBetween l c s))
+        ∙ sym (over-twice words before after (between-changes w c s .rises))
+        ∙ ap (λ (ws : List ℕ). over ws after) (t .shown-at)
+        ∙ read-changed (mapAt l c) after (map-at w c (omega arith)) (between-changes w c s) (t .list)
+        ∙ ap (λ (x : List ℕ). readOf x (t .list)) (carried w c s (omega arith) order high)
+
+    pub shows-later : Shows l s n offers words
+    shows-later =
+        record {
+          list = t .list;
+          is-list = t .is-list;
+          offers-are = t .offers-are;
+          words-list = t .words-list;
+          shown-at = shown-later;
+        }
 
 -- the read set of a map at the offers of a list is a list
 read-list : (m list : List ℕ) → Map m → listB list ≡ true → listB (readOf m list) ≡ true
@@ -66,9 +115,18 @@ read-list m list h e =
     let long : length (readOf m list) ≡ length list = ap length (read-shown m list) ∙ length-map (map offerOf list) _ ∙ length-map list offerOf in
     ap₂ _&&_ (le-leb (length (readOf m list)) 64 (omega (arith, long, fact .0))) (changes-test (readOf m list) (read-changes m list h (fact .1)))
 
-quote-same : (f : Found) → quoteReply (quoteOf f) ≡ quoted f
-quote-same (Word w) = refl
-quote-same Nothing = refl
+-- "nor 6 at a forward": a test that is not met where the one before it is not, among others
+no-six : (before : List Ground) (b c : Bool) (gs : List Ground) → (b ≡ true → c ≡ true)
+    → firstOf (before ++ (met (not b) 5 ∷ met (not c) 6 ∷ gs)) ≡ firstOf (before ++ (met (not b) 5 ∷ gs))
+unfolding firstOf
+no-six [] false c gs h = refl
+no-six [] true c gs h = rw (h refl)
+no-six (met true n ∷ before) b c gs h = refl
+no-six (met false n ∷ before) b c gs h = no-six before b c gs h
+
+quote-same : (asked : Asked) (found : Found) (words bytes : List ℕ) → responseTo (ask (LookUp asked)) (saidBy (quoteOf found)) words bytes ≡ quoted found
+quote-same asked (Word w) words bytes = refl
+quote-same asked Nothing words bytes = refl
 
 module _ (p : Plain) (f : Fit p) where
   abbrev T : List ℕ
@@ -81,55 +139,56 @@ module _ (p : Plain) (f : Fit p) where
   s = storeOf p
 
   -- lookup
-  module _ (offer state : ℕ) where
-    look-up-checks : verdictOf (lookUpCheck T J (s .head) offer state) ≡ checked p (lookUp offer state)
+  module _ (asked : Asked) where
+    look-up-checks : verdictOf (lookUpCheck T J (s .head) asked) ≡ firstOf (queryTests p (LookUp asked) [])
     look-up-checks =
         ap verdictOf (past-two p f _)
         ∙ verdict-of _
-        ∙ ap₂ (λ (a b : ℕ). firstOf (met (leb (2 ^ 31) offer) 6 ∷ met (ltb state a) 11 ∷ met (ltb b state) 11 ∷ [])) (checkpoint-is p f) (tip-is p f)
+        ∙ ap (λ (gs : List Ground). firstOf (met (leb (2 ^ 31) (asked .offer)) 6 ∷ gs)) (state-same p f (asked .state))
 
-    quote-here : lookUpCheck T J (s .head) offer state ≡ Done → quoteReply (LookUp.lookUp T J (s .head) offer state) ≡ quoted (find offer (mapAt (p .line) state))
-    quote-here e =
-        let ok = look-up-ok T J (s .head) offer state e in
-        ap quoteReply (look-up-shows T J (s .head) offer state e)
-        ∙ quote-same (find offer (viewMapAt (decode s) state))
-        ∙ ap (λ (v : View). quoted (find offer (viewMapAt v state))) (view-back p f)
-        ∙ ap (λ (m : List ℕ). quoted (find offer m)) (view-map p f state (omega (arith, checkpoint-is p f, ok .low)) (omega (arith, tip-is p f, ok .high)))
+    map-there : lookUpCheck T J (s .head) asked ≡ Passed → mapHere T J (s .head) (asked .state) ≡ mapAt (p .line) (asked .state)
+    map-there e =
+        let ok = look-up-ok T J (s .head) asked e in
+        look-up-shows T J (s .head) asked e
+        ∙ ap (λ (v : View). viewMapAt v (asked .state)) (view-back p f)
+        ∙ view-map p f (asked .state) (omega (arith, checkpoint-is p f, ok .low)) (omega (arith, tip-is p f, ok .high))
 
-    pub look-up-agrees : (words : List ℕ) → serve s (lookUp offer state) words ≡ turnBy p (lookUp offer state) (checked p (lookUp offer state))
-    look-up-agrees words =
-        settle p (lookUp offer state)
-        (λ o. record { reply = quoteReply (quoteOr o (find offer (mapHere T J (s .head) state))); next = s })
-        (lookUpCheck T J (s .head) offer state)
-        look-up-checks
-        (λ r. refl)
-        (λ e i. record { reply = quote-here e i; next = s })
+    pub look-up-agrees : (list bytes : List ℕ)
+        → let call = calling (ask (LookUp asked)) list bytes in storeTurn s call list ≡ turnBy p call (checked p call)
+    look-up-agrees list bytes =
+        settle p (calling (ask (LookUp asked)) list bytes) list look-up-checks
+        (λ e.
+        let respond : Response → Turn Store = λ r. record { response = r; next = s } in
+        let named = ask (LookUp asked) in
+        ap (λ (m : List ℕ). respond (responseTo named (saidBy (quoteOf (find (asked .offer) m))) list bytes)) (map-there e)
+        ∙ ap respond (quote-same asked (find (asked .offer) (mapAt (p .line) (asked .state))) list bytes))
 
   -- issue
-  module _ (slot : ℕ) (list : List ℕ) where
-    issue-checks : verdictOf (issueCheck T J (s .head) slot list) ≡ checked p (issue slot list)
+  module _ (reader : Reader) (list : List ℕ) where
+    abbrev slot : ℕ
+    slot = reader .slot
+
+    issue-checks : verdictOf (issueCheck T J (s .head) reader list) ≡ firstOf (readTests p (Issue reader) list)
     issue-checks =
         ap verdictOf (past-two p f _)
         ∙ verdict-of _
-        ∙ ap (λ (b : Bool). firstOf (met (leb 8 slot) 3 ∷ met b 4 ∷ met (not (listB list)) 6 ∷ met (not (noPutB list)) 6 ∷ [])) (open-same p f slot)
+        ∙ ap (λ (b : Bool). firstOf (slotTests reader ++ (met b 4 ∷ met (not (listB list)) 6 ∷ met (not (noPutB list)) 6 ∷ [])))
+        (open-same p f slot)
 
-    module _ (e : issueCheck T J (s .head) slot list ≡ Done) where
+    module _ (e : issueCheck T J (s .head) reader list ≡ Passed) where
       free : openAt p slot ≡ false
-      free = sym (open-same p f slot) ∙ issue-ok T J (s .head) slot list e .free
+      free = sym (open-same p f slot) ∙ issue-ok T J (s .head) reader list e .free
 
       view-opened : withSlot (decode s) slot (holding (s .head .checkpoint)) ≡ viewOf (withPlace p slot (reading (p .checkpoint) (map offerOf list)))
       view-opened =
           ap₂ (λ (v : View) (n : ℕ). withSlot v slot (holding n)) (view-back p f) (checkpoint-is p f)
           ∙ issue-view p f slot (map offerOf list) free
 
-      issue-after : record { table = T; journal = J; head = issueHead T J (s .head) slot list } ≡ storeOf (withPlace p slot (reading (p .checkpoint) (map offerOf list)))
-      issue-after = issue-leaves T J (s .head) (store-shaped p f) slot list e ∙ ap encode view-opened
-
       -- "fills the list from the book"
-      fills : issueList T J (s .head) slot list ≡ shown (mapAt (p .line) (p .checkpoint)) (map offerOf list)
+      fills : readOf (take (s .head .used) T) list ≡ shown (mapAt (p .line) (p .checkpoint)) (map offerOf list)
       unfolding viewOf
       fills =
-          issue-shows T J (s .head) (store-shaped p f) slot list e
+          issue-shows T J (s .head) (store-shaped p f) reader list e
           ∙ ap (λ (v : View). readOf (v .base) list) (view-back p f)
           ∙ read-shown (mapAt (p .line) (p .checkpoint)) list
 
@@ -140,36 +199,43 @@ module _ (p : Plain) (f : Fit p) where
             whole = f .whole;
             low = omega (arith, f .low, floor-same p f slot (map offerOf list) free);
             high = f .high;
-            good = subst Good view-opened (issue-good T J (s .head) (store-shaped p f) slot list e);
+            good = subst Good view-opened (issue-leaves T J (s .head) (store-shaped p f) reader list e .good);
           }
 
-    pub issue-agrees : (words : List ℕ) → serve s (issue slot list) words ≡ turnBy p (issue slot list) (checked p (issue slot list))
-    issue-agrees words =
-        settle p (issue slot list)
-        (λ o. record {
-          reply = replyOr o (filled (ifDone o (readOf (take (s .head .used) T) list) list));
-          next = record { table = T; journal = J; head = ifDone o (opened (s .head) slot) (s .head) };
+    pub issue-agrees : (bytes : List ℕ)
+        → let call = calling (read (Issue reader)) list bytes in storeTurn s call list ≡ turnBy p call (checked p call)
+    issue-agrees bytes =
+        settle p (calling (read (Issue reader)) list bytes) list issue-checks
+        (λ e i. record {
+          response = filled (fills e i);
+          next = (issue-leaves T J (s .head) (store-shaped p f) reader list e .is ∙ ap encode (view-opened e)) i;
         })
-        (issueCheck T J (s .head) slot list)
-        issue-checks
-        (λ r. refl)
-        (λ e i. record { reply = replyOr (e i) (filled (fills e i)); next = issue-after e i })
 
-    pub issue-fit : checked p (issue slot list) ≡ accept → Fit (withPlace p slot (reading (p .checkpoint) (map offerOf list)))
+    pub issue-fit : firstOf (readTests p (Issue reader) list) ≡ accept → Fit (withPlace p slot (reading (p .checkpoint) (map offerOf list)))
     issue-fit e = issue-fits (accepted-done _ (issue-checks ∙ e))
 
-    -- what the issue filled shows the map at the checkpoint
-    pub issue-ticket : checked p (issue slot list) ≡ accept → Shows (p .line) (p .checkpoint) (map offerOf list) (shown (mapAt (p .line) (p .checkpoint)) (map offerOf list))
+    -- what the issue filled shows the map at the checkpoint, with no list to bring it there
+    pub issue-ticket : firstOf (readTests p (Issue reader) list) ≡ accept
+        → Shows (p .line) (p .checkpoint) (p .checkpoint) (map offerOf list) (shown (mapAt (p .line) (p .checkpoint)) (map offerOf list))
     issue-ticket e =
+        let l = p .line in
+        let c = p .checkpoint in
+        let words = shown (mapAt l c) (map offerOf list) in
+        let rules = issue-ok T J (s .head) reader list (accepted-done _ (issue-checks ∙ e)) .list-ok in
         record {
           list = list;
-          is-list = issue-ok T J (s .head) slot list (accepted-done _ (issue-checks ∙ e)) .list-ok;
+          is-list = rules;
           offers-are = refl;
-          words-are = sym (read-shown (mapAt (p .line) (p .checkpoint)) list);
+          words-list = ap listB (sym (read-shown (mapAt l c) list)) ∙ read-list (mapAt l c) list (map-at (f .whole) c (f .high)) rules;
+          shown-at =
+              ap (λ (ds : List (List ℕ)). over words (composeAll ds)) (between-same l c)
+              ∙ ap (over words) compose-all-nil
+              ∙ over-zero words
+              ∙ sym (read-shown (mapAt l c) list);
         }
 
-    pub issue-slot : checked p (issue slot list) ≡ accept → slot < 8
-    issue-slot e = issue-ok T J (s .head) slot list (accepted-done _ (issue-checks ∙ e)) .slot-in
+    pub issue-slot : firstOf (readTests p (Issue reader) list) ≡ accept → slot < 8
+    issue-slot e = issue-ok T J (s .head) reader list (accepted-done _ (issue-checks ∙ e)) .slot-in
 
   -- a slot that closes
   module _ (slot : ℕ) where
@@ -186,31 +252,25 @@ module _ (p : Plain) (f : Fit p) where
           good = subst Good view-closed g;
         }
 
-    -- release
-    release-checks : verdictOf (releaseCheck T J (s .head) slot) ≡ checked p (release slot)
+  -- release
+  module _ (reader : Reader) where
+    release-checks : verdictOf (releaseCheck T J (s .head) reader) ≡ firstOf (readTests p (Release reader) [])
     release-checks =
         ap verdictOf (past-two p f _)
         ∙ verdict-of _
-        ∙ ap (λ (b : Bool). firstOf (met (leb 8 slot) 3 ∷ met (not b) 5 ∷ [])) (open-same p f slot)
+        ∙ ap (λ (b : Bool). firstOf (slotTests reader ++ (met (not b) 5 ∷ []))) (open-same p f (reader .slot))
 
-    pub release-agrees : (words : List ℕ) → serve s (release slot) words ≡ turnBy p (release slot) (checked p (release slot))
-    release-agrees words =
-        settle p (release slot)
-        (λ o. record {
-          reply = replyOr o done;
-          next = record {
-            table = T;
-            journal = ifDone o (trimmedJournal (shut (s .head) slot) J) J;
-            head = ifDone o (trimmedHead (shut (s .head) slot)) (s .head);
-          };
+    pub release-agrees : (list bytes : List ℕ)
+        → let call = calling (read (Release reader)) list bytes in storeTurn s call list ≡ turnBy p call (checked p call)
+    release-agrees list bytes =
+        settle p (calling (read (Release reader)) list bytes) list release-checks
+        (λ e i. record {
+          response = done;
+          next = (release-leaves T J (s .head) (store-shaped p f) reader e .is ∙ ap encode (view-closed (reader .slot))) i;
         })
-        (releaseCheck T J (s .head) slot)
-        release-checks
-        (λ r. refl)
-        (λ e i. record { reply = replyOr (e i) done; next = (release-leaves T J (s .head) (store-shaped p f) slot e ∙ ap encode view-closed) i })
 
-    pub release-fit : checked p (release slot) ≡ accept → Fit (withPlace p slot closed)
-    release-fit e = closed-fits (release-good T J (s .head) (store-shaped p f) slot (accepted-done _ (release-checks ∙ e)))
+    pub release-fit : firstOf (readTests p (Release reader) []) ≡ accept → Fit (withPlace p (reader .slot) closed)
+    release-fit e = closed-fits (reader .slot) (release-leaves T J (s .head) (store-shaped p f) reader (accepted-done _ (release-checks ∙ e)) .good)
 
   -- the number of an open slot, in the plain list and in the head
   module _ (slot n : ℕ) (offers : List ℕ) (e : getD (p .places) slot closed ≡ reading n offers) where
@@ -225,82 +285,65 @@ module _ (p : Plain) (f : Fit p) where
         ∙ ap issuedOf (List·getD-map slotOf (p .places) slot closed)
         ∙ ap (λ (x : Place). issuedOf (slotOf x)) e
 
-    -- what was filled is a list
-    filled-list : (words : List ℕ) → Shows (p .line) n offers words → listB words ≡ true
-    filled-list words t =
-        let most : n ≤ tipOf (p .line) = omega (arith, number-range .1, f .high) in
-        ap listB (t .words-are) ∙ read-list (mapAt (p .line) n) (t .list) (map-at (f .whole) n most) (t .is-list)
-
-    -- applying the steps since then to it shows the map of the state
-    brought : (words : List ℕ) → Shows (p .line) n offers words → (state : ℕ) → p .checkpoint ≤ state → state ≤ tipOf (p .line)
+    -- applying the steps since then to what was filled shows the map of the state
+    brought : (words : List ℕ) → Shows (p .line) (p .checkpoint) n offers words
+        → (state : ℕ) → p .checkpoint ≤ state → state ≤ tipOf (p .line)
         → over words (composeAll (between (viewOf p) n state)) ≡ shown (mapAt (p .line) state) offers
     brought words t state low high =
         let l = p .line in
         let from : l .start ≤ n = omega (arith, f .low, number-range .0) in
         let order : n ≤ state = omega (arith, number-range .1) in
-        ap₂ (λ (ws : List ℕ) (ds : List (List ℕ)). over ws (composeAll ds)) (t .words-are) (view-between p f n state (number-range .0) order high)
-        ∙ read-changed (mapAt l n) (composeAll (slice l n state)) (map-at (f .whole) n (omega arith)) (slice-changes (f .whole) n state) (t .list)
-        ∙ ap (λ (m : List ℕ). readOf m (t .list)) (carried (f .whole) n state from order high)
+        ap (λ (ds : List (List ℕ)). over words (composeAll ds)) (view-between p f n state (number-range .0) order high)
+        ∙ shown-later t (f .whole) from (number-range .1) state low high
         ∙ read-shown (mapAt l state) (t .list)
         ∙ ap (shown (mapAt l state)) (sym (t .offers-are))
 
   -- forward, of what the slot's issue filled
-  module _ (slot state : ℕ) (words : List ℕ) (ticket : (n : ℕ) (offers : List ℕ) → getD (p .places) slot closed ≡ reading n offers → Shows (p .line) n offers words) where
-    ready : (x : Place) → getD (p .places) slot closed ≡ x → openB x ≡ true → listB words ≡ true
+  module _ (reader : Reader) (state : ℕ) (words : List ℕ) (ticket : ShowsAt p (reader .slot) words) where
+    ready : (x : Place) → getD (p .places) (reader .slot) closed ≡ x → openB x ≡ true → listB words ≡ true
     ready closed e o = absurd (let z : _≡_ {A = ℕ} 0 1 = cc in omega arith)
-    ready (reading n offers) e o = filled-list slot n offers e words (ticket n offers e)
+    ready (reading n offers) e o = ticket n offers e .words-list
 
-    -- "nor 6 at a forward"
-    no-six : (a b c : Bool) (gs : List Ground) → (b ≡ true → c ≡ true) → firstOf (met a 3 ∷ met (not b) 5 ∷ met (not c) 6 ∷ gs) ≡ firstOf (met a 3 ∷ met (not b) 5 ∷ gs)
-    unfolding firstOf
-    no-six true b c gs h = refl
-    no-six false false c gs h = refl
-    no-six false true c gs h = rw (h refl)
-
-    forward-checks : verdictOf (forwardCheck T J (s .head) slot state words) ≡ checked p (forward slot state)
+    forward-checks : verdictOf (forwardCheck T J (s .head) reader state words) ≡ firstOf (readTests p (Forward reader state) [])
     forward-checks =
         ap verdictOf (past-two p f _)
         ∙ verdict-of _
-        ∙ ap (λ (b : Bool). firstOf (met (leb 8 slot) 3 ∷ met (not b) 5 ∷ met (not (listB words)) 6 ∷ met (ltb state (s .head .checkpoint)) 11 ∷ met (ltb (s .head .tip) state) 11 ∷ [])) (open-same p f slot)
-        ∙ no-six (leb 8 slot) (openAt p slot) (listB words) _ (ready (getD (p .places) slot closed) refl)
-        ∙ ap₂ (λ (a b : ℕ). firstOf (met (leb 8 slot) 3 ∷ met (not (openAt p slot)) 5 ∷ met (ltb state a) 11 ∷ met (ltb b state) 11 ∷ [])) (checkpoint-is p f) (tip-is p f)
+        ∙ ap₂ (λ (b : Bool) (gs : List Ground). firstOf (slotTests reader ++ (met (not b) 5 ∷ met (not (listB words)) 6 ∷ gs)))
+        (open-same p f (reader .slot)) (state-same p f state)
+        ∙ no-six (slotTests reader) (openAt p (reader .slot)) (listB words) (stateTests p state)
+        (ready (getD (p .places) (reader .slot) closed) refl)
 
-    module _ (e : forwardCheck T J (s .head) slot state words ≡ Done) where
-      forward-met : ForwardOk T J (s .head) slot state words
-      forward-met = forward-ok T J (s .head) slot state words e
+    module _ (e : forwardCheck T J (s .head) reader state words ≡ Passed) where
+      forward-met : ForwardOk T J (s .head) reader state words
+      forward-met = forward-ok T J (s .head) reader state words e
 
       -- the read set after the forward is the plain list's
-      reads-by : (x : Place) → getD (p .places) slot closed ≡ x → openB x ≡ true → forwardReads T J (s .head) slot state words ≡ shown (mapAt (p .line) state) (offersIn x)
+      reads-by : (x : Place) → getD (p .places) (reader .slot) closed ≡ x → openB x ≡ true
+          → over words (composeAll (stepsFor J (s .head) reader state)) ≡ shown (mapAt (p .line) state) (offersIn x)
       reads-by closed h o = absurd (let z : _≡_ {A = ℕ} 0 1 = cc in omega arith)
       reads-by (reading n offers) h o =
-          forward-shows T J (s .head) (store-shaped p f) slot state words e
-          ∙ ap₂ (λ (v : View) (k : ℕ). over words (composeAll (between v k state))) (view-back p f) (number-is slot n offers h)
-          ∙ brought slot n offers h words (ticket n offers h) state (omega (arith, checkpoint-is p f, forward-met .low)) (omega (arith, tip-is p f, forward-met .high))
+          forward-shows T J (s .head) (store-shaped p f) reader state words e
+          ∙ ap₂ (λ (v : View) (k : ℕ). over words (composeAll (between v k state))) (view-back p f) (number-is (reader .slot) n offers h)
+          ∙ brought (reader .slot) n offers h words (ticket n offers h) state
+          (omega (arith, checkpoint-is p f, forward-met .low)) (omega (arith, tip-is p f, forward-met .high))
 
-      reads-are : forwardReads T J (s .head) slot state words ≡ shown (mapAt (p .line) state) (offersAt p slot)
-      reads-are = reads-by (getD (p .places) slot closed) refl (sym (open-same p f slot) ∙ forward-met .taken)
+      reads-are : over words (composeAll (stepsFor J (s .head) reader state)) ≡ shown (mapAt (p .line) state) (offersAt p (reader .slot))
+      reads-are =
+          reads-by (getD (p .places) (reader .slot) closed) refl (sym (open-same p f (reader .slot)) ∙ forward-met .taken)
 
-      forward-after : record { table = T; journal = forwardJournal T J (s .head) slot state words; head = forwardHead T J (s .head) slot state words } ≡ storeOf (withPlace p slot closed)
-      forward-after = forward-leaves T J (s .head) (store-shaped p f) slot state words e ∙ ap encode (view-closed slot)
-
-    pub forward-agrees : serve s (forward slot state) words ≡ turnBy p (forward slot state) (checked p (forward slot state))
-    forward-agrees =
-        settle p (forward slot state)
-        (λ o. record {
-          reply = replyOr o (forwarded (ifDone o (over words (composeAll (stepsFor J (s .head) slot state))) words));
-          next = record {
-            table = T;
-            journal = ifDone o (trimmedJournal (shut (s .head) slot) J) J;
-            head = ifDone o (trimmedHead (shut (s .head) slot)) (s .head);
-          };
+    pub forward-agrees : (list bytes : List ℕ)
+        → let call = calling (read (Forward reader state)) list bytes in storeTurn s call words ≡ turnBy p call (checked p call)
+    forward-agrees list bytes =
+        settle p (calling (read (Forward reader state)) list bytes) words forward-checks
+        (λ e i. record {
+          response = forwarded (reads-are e i);
+          next = (forward-leaves T J (s .head) (store-shaped p f) reader state words e .is ∙ ap encode (view-closed (reader .slot))) i;
         })
-        (forwardCheck T J (s .head) slot state words)
-        forward-checks
-        (λ r. refl)
-        (λ e i. record { reply = replyOr (e i) (forwarded (reads-are e i)); next = forward-after e i })
 
-    pub forward-fit : checked p (forward slot state) ≡ accept → Fit (withPlace p slot closed)
-    forward-fit e = closed-fits slot (forward-good T J (s .head) (store-shaped p f) slot state words (accepted-done _ (forward-checks ∙ e)))
+    pub forward-fit : firstOf (readTests p (Forward reader state) []) ≡ accept → Fit (withPlace p (reader .slot) closed)
+    forward-fit e =
+        closed-fits (reader .slot)
+        (forward-leaves T J (s .head) (store-shaped p f) reader state words (accepted-done _ (forward-checks ∙ e)) .good)
 
   -- the writing of an image
   module _ (out : List ℕ) where
@@ -312,20 +355,10 @@ module _ (p : Plain) (f : Fit p) where
     unfolding decode viewOf
     image-is = ap (λ (v : View). imageOf (v .checkpoint) (v .base)) (view-back p f)
 
-    write-checks : verdictOf (writeCheck T J (s .head) (length out)) ≡ checked p (writeImage out)
+    write-checks : verdictOf (writeCheck T J (s .head) (length out)) ≡ firstOf (queryTests p WriteImage out)
     write-checks = ap verdictOf (past-two p f _) ∙ verdict-of _ ∙ ap (λ (n : ℕ). firstOf (met (ltb (length out) n) 17 ∷ [])) size-is
 
-    pub write-agrees : (words : List ℕ) → serve s (writeImage out) words ≡ turnBy p (writeImage out) (checked p (writeImage out))
-    write-agrees words =
-        settle p (writeImage out)
-        (λ o. record {
-          reply = writtenReply (countOr o (6 + 8 * s .head .used)) (ifDone o (imageHere T (s .head) ++ drop (6 + 8 * s .head .used) out) out);
-          next = s;
-        })
-        (writeCheck T J (s .head) (length out))
-        write-checks
-        (λ r. refl)
-        (λ e i. record { reply = writtenReply (countOr (e i) (size-is i)) (bytes-are e i); next = s })
-      where
-        bytes-are : writeCheck T J (s .head) (length out) ≡ Done → writeBytes T J (s .head) out ≡ imageAt p ++ drop (length (imageAt p)) out
-        bytes-are e = new-is e (imageHere T (s .head) ++ drop (6 + 8 * s .head .used) out) out ∙ ap₂ (λ (b : List ℕ) (n : ℕ). b ++ drop n out) image-is size-is
+    pub write-agrees : (list : List ℕ) → let call = calling (ask WriteImage) list out in storeTurn s call list ≡ turnBy p call (checked p call)
+    write-agrees list =
+        settle p (calling (ask WriteImage) list out) list write-checks
+        (λ e i. record { response = written (size-is i) (image-is i ++ drop (size-is i) out); next = s })

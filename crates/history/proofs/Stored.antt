@@ -1,27 +1,34 @@
 -- A store that follows a plain list: its memory is sound, and its numbers are those of the plain list.
 -- Assumes nothing.
 use mathlib.Core.Path.{_≡_, refl, sym, ap, ap₂, _∙_}
-use mathlib.Core.Bool.{Bool, true, false, not, _||_}
+use mathlib.Core.Bool.{Bool, true, false, not}
 use mathlib.Core.List.{List, [], _∷_, map}
-use Prim.Native.Nat.{ℕ, _+_, _-_, _≤_}
+use Prim.Native.Nat.{ℕ, _-_, _≤_}
 use native.Mathlib.Omega.{arith}
+use lib.Dec.{ltb}
 use lib.ListN.{length, getD}
-use Rattle.grounds.specs.declared.Outcome.{Outcome}
-use Rattle.grounds.specs.declared.Outcome.the-variants.{Done, Refused}
-use Rattle.grounds.specs.declared.Refusal.{Refusal}
-use Rattle.grounds.specs.declared.Refusal.the-variants.{Lengths, Unsound}
-use Rattle.grounds.specs.First.{Ground, met, first}
-use Rattle.grounds.specs.Numbers.{numberOf}
-use Rattle.grounds.proofs.Firsts.{first-not}
-use Rattle.layout.specs.Sound.{lengthsB, soundB, heldOf}
+use Rattle.answers.specs.declared.answer.Check.{Check}
+use Rattle.answers.specs.declared.answer.Check.the-variants.{Passed, Refused}
+use Rattle.answers.specs.declared.refusal.Refusal.the-variants.{Lengths, Unsound}
+use Rattle.answers.specs.Answers.{answered}
+use Rattle.answers.specs.First.{Ground, met, first, ifPassed}
+use Rattle.answers.specs.Numbers.{numberOf}
+use Rattle.answers.proofs.Firsts.{first-not}
+use Rattle.layout.specs.Clauses.{lengthsB}
+use Rattle.soundness.specs.Sound.{soundB}
+use Rattle.layout.specs.States.{heldOf}
 use Rattle.views.specs.View.{Store, View, flat, encode, decode, Shaped}
-use Rattle.views.proofs.Sounds.{facts-sound}
+use Rattle.soundness.proofs.Sounds.{facts-sound}
 use Rattle.views.proofs.Views.{encoded-shaped, encoded-sound, decoded}
 use Rattle.commits.specs.Commit.{usedOf}
 use Rattle.steps.proofs.CommitViews.{held-is, used-is}
-use Rattle.history.specs.Calls.{Call, Turn}
-use Rattle.history.specs.Plain.{Ground as Test, met as asked, Verdict, accept, refuse, firstOf, replyBy, leftBy, Plain, tipOf, floorOf, heldLists, openAt, checked, given, changed}
-use Rattle.history.proofs.Lines.{slice-length}
+use Rattle.calls.specs.Lent.{Left, Meaning}
+use Rattle.calls.specs.Meaning.{meaning}
+use Rattle.history.specs.Named.{unitCall, Call, Turn}
+use Rattle.history.specs.Plain.{Ground as Test, met as asked, Verdict, accept, refuse, firstOf, responseBy, leftBy}
+use Rattle.history.specs.Plain.{Plain, tipOf, heldLists, openAt, stateTests, checked, given, changed}
+use Rattle.history.specs.Runs.{lentWith, turnOf, storeTurn}
+use Rattle.history.proofs.Lines.{between-length}
 use Rattle.history.proofs.Views.{viewOf, Fit, floor-most, open-at, held-lists}
 
 -- the memory of the store that does what the plain list does
@@ -60,7 +67,15 @@ module _ (p : Plain) (f : Fit p) where
 
   pub tip-is : storeOf p .head .tip ≡ tipOf (p .line)
   unfolding encode viewOf
-  tip-is = omega (arith, slice-length (p .line) (p .checkpoint) (tipOf (p .line)) (omega (arith, f .low, floor-most (p .checkpoint) (p .places))) (f .high) (omega arith), f .high)
+  tip-is =
+      let from : p .line .start ≤ p .checkpoint = omega (arith, f .low, floor-most (p .checkpoint) (p .places)) in
+      let held = between-length (p .line) (p .checkpoint) (tipOf (p .line)) from (f .high) (omega arith) in
+      omega (arith, held, f .high)
+
+  -- ground 11 by the numbers of the head
+  pub state-same : (state : ℕ)
+      → (asked (ltb state (storeOf p .head .checkpoint)) 11 ∷ asked (ltb (storeOf p .head .tip) state) 11 ∷ []) ≡ stateTests p state
+  state-same state = ap₂ (λ (a b : ℕ). asked (ltb state a) 11 ∷ asked (ltb b state) 11 ∷ []) checkpoint-is tip-is
 
   pub held-same : heldOf (storeOf p .head) ≡ length (heldLists p)
   held-same = held-is (viewOf p) (f .good) ∙ ap length (held-lists p f)
@@ -73,8 +88,8 @@ module _ (p : Plain) (f : Fit p) where
   open-same slot = open-at p slot
 
 -- an outcome as a verdict, and the unit's grounds as the plain list's
-abbrev pub verdictOf : Outcome → Verdict
-verdictOf Done = accept
+abbrev pub verdictOf : Check → Verdict
+verdictOf Passed = accept
 verdictOf (Refused ground) = refuse (numberOf ground)
 
 abbrev numbered : Ground → Test
@@ -86,29 +101,37 @@ verdict-of [] = refl
 verdict-of (met true r ∷ gs) = refl
 verdict-of (met false r ∷ gs) = verdict-of gs
 
-pub accepted-done : (o : Outcome) → verdictOf o ≡ accept → o ≡ Done
-accepted-done Done e = refl
+-- an accepted call meets none of the plain list's tests
+pub accepted-not : (t : Bool) (n : ℕ) (gs : List Test) → firstOf (asked t n ∷ gs) ≡ accept → (t ≡ false) × (firstOf gs ≡ accept)
+unfolding firstOf
+accepted-not true n gs e = absurd (let z : _≡_ {A = ℕ} 0 1 = cc in omega arith)
+accepted-not false n gs e = (refl, e)
+
+pub accepted-done : (o : Check) → verdictOf o ≡ accept → o ≡ Passed
+accepted-done Passed e = refl
 accepted-done (Refused r) e = absurd (let z : _≡_ {A = ℕ} 0 1 = cc in omega arith)
 
 -- the turn of the plain list on a call with a verdict, with what its store holds then
 abbrev pub turnBy : Plain → Call → Verdict → Turn Store
-turnBy p call v = record { reply = replyBy v (given p call); next = storeOf (leftBy v (changed p call) p) }
+turnBy p call v = record { response = responseBy v (given p call); next = storeOf (leftBy v (changed p call) p) }
 
--- The unit's turn is the plain list's where the grounds give the same, a refusal leaves all as it came, and an accepted call does
--- what it does on the plain list.
-pub settle : (p : Plain) (call : Call) (turn : Outcome → Turn Store) (o : Outcome)
-    → verdictOf o ≡ checked p call
-    → ((r : Refusal) → turn (Refused r) ≡ turnBy p call (refuse (numberOf r)))
-    → (o ≡ Done → turn o ≡ turnBy p call accept)
-    → turn o ≡ turnBy p call (checked p call)
-settle p call turn o same refusal done = go o refl
+-- the unit's turn by its check
+abbrev turnSettled : Plain → Call → List ℕ → Left → Check → Turn Store
+turnSettled p call words made c =
+    turnOf (call .named) (record { answer = answered c (made .answer); lent = ifPassed c (made .lent) (lentWith (storeOf p) words (call .bytes)) })
+
+-- The unit's turn is the plain list's where the grounds give the same, and an accepted call does what it does on the plain list: a
+-- call that is turned away leaves all as it came on both sides.
+pub settle : (p : Plain) (call : Call) (words : List ℕ)
+    → let m = meaning (lentWith (storeOf p) words (call .bytes)) (unitCall (call .named)) in
+    verdictOf (m .check) ≡ checked p call
+    → (m .check ≡ Passed → turnOf (call .named) (m .accepted) ≡ turnBy p call accept)
+    → storeTurn (storeOf p) call words ≡ turnBy p call (checked p call)
+settle p call words same done = go (m .check) refl
   where
-    go : (c : Outcome) → o ≡ c → turn o ≡ turnBy p call (checked p call)
-    go Done e = done e ∙ ap (turnBy p call) (sym (ap verdictOf e) ∙ same)
-    go (Refused r) e = ap turn e ∙ refusal r ∙ ap (turnBy p call) (sym (ap verdictOf e) ∙ same)
+    m : Meaning
+    m = meaning (lentWith (storeOf p) words (call .bytes)) (unitCall (call .named))
 
--- two grounds of one number, tested together and one after the other
-pub either-met : (a b : Bool) (r : Refusal) (gs : List Ground) → first (met (a || b) r ∷ gs) ≡ first (met a r ∷ met b r ∷ gs)
-unfolding first
-either-met true b r gs = refl
-either-met false b r gs = refl
+    go : (c : Check) → m .check ≡ c → storeTurn (storeOf p) call words ≡ turnBy p call (checked p call)
+    go Passed e = ap (turnSettled p call words (m .accepted)) e ∙ done e ∙ ap (turnBy p call) (sym (ap verdictOf e) ∙ same)
+    go (Refused r) e = ap (turnSettled p call words (m .accepted)) e ∙ ap (turnBy p call) (sym (ap verdictOf e) ∙ same)

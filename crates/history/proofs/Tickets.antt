@@ -1,78 +1,99 @@
 -- The read sets that are out: for each open slot the caller has what the slot's issue filled, and each call keeps it so.
 -- Assumes nothing.
-use mathlib.Core.Path.{_≡_, refl, sym, ap, ap₂, subst, _∙_}
-use mathlib.Core.Bool.{Bool, true, false}
-use mathlib.Core.List.{List, [], _∷_, map}
+use mathlib.Core.Path.{_≡_, refl, sym, subst, _∙_}
+use mathlib.Core.List.{List, _++_}
 use Prim.Native.Nat.{ℕ, _-_, _≤_, _<_}
 use native.Mathlib.Decide.{ℕ-discrete}
 use native.Mathlib.Omega.{arith}
-use lib.Dec.{leb}
 use borrow.Author.Tests.{leb-false}
 use lib.ListN.{length, getD, set, length-map, length-set}
 use lib.Seq.{getD-set-same, getD-set-other}
-use Rattle.entry.specs.Word.{offerOf}
-use Rattle.changes.specs.ReadSets.{readOf}
-use Rattle.history.specs.Plain.{Ground, met, accept, firstOf, Line, Place, closed, reading, Plain, mapAt, withLine, withPlace}
+use Rattle.answers.specs.declared.call.Reader.{Reader}
+use Rattle.history.specs.Plain.{Ground, accept, firstOf, Line, Place, closed, reading}
+use Rattle.history.specs.Plain.{Plain, tipOf, mapAt, floorOf, listsBetween, slotTests, withLine, withPlace, withCheckpoint}
 use Rattle.history.specs.Runs.{Ticket, nothing, holds, holdsOr}
-use Rattle.history.proofs.ReadCalls.{Shows}
+use Rattle.history.proofs.ReadCalls.{Shows, shows-line, shows-later}
+use Rattle.history.proofs.Stored.{accepted-not}
 use Rattle.history.proofs.Views.{viewOf, Fit, slotOf, place-range}
 
 -- an open place's ticket is what its issue filled; of a closed place nothing is asked
-abbrev pub Ticketed : Line → Ticket → Place → Type 0
-Ticketed l nothing closed = Unit
-Ticketed l (holds words) closed = Unit
-Ticketed l nothing (reading n offers) = ⊥
-Ticketed l (holds words) (reading n offers) = Shows l n offers words
+abbrev pub Ticketed : Line → ℕ → Ticket → Place → Type 0
+Ticketed l c nothing closed = Unit
+Ticketed l c (holds words) closed = Unit
+Ticketed l c nothing (reading n offers) = ⊥
+Ticketed l c (holds words) (reading n offers) = Shows l c n offers words
 
 pub record Tickets (p : Plain) (tickets : List Ticket) : Type 0 where
   pub eight : length tickets ≡ 8
-  pub each : (slot : ℕ) → Ticketed (p .line) (getD tickets slot nothing) (getD (p .places) slot closed)
+  pub each : (slot : ℕ) → Ticketed (p .line) (p .checkpoint) (getD tickets slot nothing) (getD (p .places) slot closed)
 
-pub of-closed : (l : Line) (x : Ticket) → Ticketed l x closed
-of-closed l nothing = tt
-of-closed l (holds words) = tt
+pub of-closed : (l : Line) (c : ℕ) (x : Ticket) → Ticketed l c x closed
+of-closed l c nothing = tt
+of-closed l c (holds words) = tt
 
 -- the words lent to a forward on an open slot
-pub from-ticket : (l : Line) (x : Ticket) (words : List ℕ) (n : ℕ) (offers : List ℕ) → Ticketed l x (reading n offers) → Shows l n offers (holdsOr x words)
-from-ticket l nothing words n offers h = absurd h
-from-ticket l (holds ws) words n offers h = h
+pub from-ticket : (l : Line) (c : ℕ) (x : Ticket) (words : List ℕ) (n : ℕ) (offers : List ℕ)
+    → Ticketed l c x (reading n offers) → Shows l c n offers (holdsOr x words)
+from-ticket l c nothing words n offers h = absurd h
+from-ticket l c (holds ws) words n offers h = h
 
 -- a slot that passed ground 3
-pub in-slots : (slot : ℕ) (gs : List Ground) → firstOf (met (leb 8 slot) 3 ∷ gs) ≡ accept → slot < 8
-unfolding firstOf
-in-slots slot gs e = leb-false 8 slot (not-met (leb 8 slot) e)
-  where
-    not-met : (b : Bool) → firstOf (met b 3 ∷ gs) ≡ accept → b ≡ false
-    not-met true h = absurd (let z : _≡_ {A = ℕ} 0 1 = cc in omega arith)
-    not-met false h = refl
+pub in-slots : (reader : Reader) (gs : List Ground) → firstOf (slotTests reader ++ gs) ≡ accept → reader .slot < 8
+in-slots reader gs e = leb-false 8 (reader .slot) (accepted-not _ _ _ e .0)
 
 module _ (p : Plain) (f : Fit p) (tickets : List Ticket) (t : Tickets p tickets) where
   places-eight : length (p .places) ≡ 8
   unfolding viewOf
   places-eight = sym (length-map (p .places) slotOf) ∙ f .good .eight
 
-  place-below : (slot n : ℕ) (offers : List ℕ) → getD (p .places) slot closed ≡ reading n offers → n ≤ p .checkpoint
+  place-within : (slot n : ℕ) (offers : List ℕ) → getD (p .places) slot closed ≡ reading n offers
+      → (floorOf p ≤ n) × (n ≤ p .checkpoint)
   unfolding viewOf
-  place-below slot n offers e = place-range (p .checkpoint) (p .places) slot n offers (f .good .below) e .1
+  place-within slot n offers e = place-range (p .checkpoint) (p .places) slot n offers (f .good .below) e
 
-  -- a line that has the same maps up to the checkpoint
-  pub tickets-line : (l : Line) → ((n : ℕ) → n ≤ p .checkpoint → mapAt l n ≡ mapAt (p .line) n) → Tickets (withLine p l) tickets
-  tickets-line l same = record { eight = t .eight; each = λ slot. go slot (getD tickets slot nothing) (getD (p .places) slot closed) refl (t .each slot) }
+  -- the tickets in a line and at a checkpoint in which each read set that is out shows what it has to
+  shown-still : (l : Line) (c : ℕ)
+      → ((n : ℕ) (offers words : List ℕ) → p .line .start ≤ n → n ≤ p .checkpoint
+      → Shows (p .line) (p .checkpoint) n offers words → Shows l c n offers words)
+      → (slot : ℕ) → Ticketed l c (getD tickets slot nothing) (getD (p .places) slot closed)
+  shown-still l c shows slot = go (getD tickets slot nothing) (getD (p .places) slot closed) refl (t .each slot)
     where
-      go : (slot : ℕ) (x : Ticket) (y : Place) → getD (p .places) slot closed ≡ y → Ticketed (p .line) x y → Ticketed l x y
-      go slot x closed e h = of-closed l x
-      go slot nothing (reading n offers) e h = h
-      go slot (holds words) (reading n offers) e h =
-          let most = place-below slot n offers e in
-          record { list = h .list; is-list = h .is-list; offers-are = h .offers-are; words-are = h .words-are ∙ ap (λ (m : List ℕ). readOf m (h .list)) (sym (same n most)) }
+      go : (x : Ticket) (y : Place) → getD (p .places) slot closed ≡ y → Ticketed (p .line) (p .checkpoint) x y → Ticketed l c x y
+      go x closed e h = of-closed l c x
+      go nothing (reading n offers) e h = h
+      go (holds words) (reading n offers) e h =
+          let range = place-within slot n offers e in
+          shows n offers words (omega (arith, f .low, range .0)) (range .1) h
+
+  -- a line that has the same lists up to the checkpoint, and the same map there
+  pub tickets-line : (l : Line) → mapAt l (p .checkpoint) ≡ mapAt (p .line) (p .checkpoint)
+      → ((n : ℕ) → p .line .start ≤ n → n ≤ p .checkpoint → listsBetween l n (p .checkpoint) ≡ listsBetween (p .line) n (p .checkpoint))
+      → Tickets (withLine p l) tickets
+  tickets-line l there lists =
+      record {
+        eight = t .eight;
+        each = shown-still l (p .checkpoint) (λ n offers words from below h. shows-line h l (lists n from below) there);
+      }
+
+  -- a later checkpoint
+  pub tickets-later : (state : ℕ) → p .checkpoint ≤ state → state ≤ tipOf (p .line) → Tickets (withCheckpoint p state) tickets
+  tickets-later state low high =
+      record {
+        eight = t .eight;
+        each = shown-still (p .line) state (λ n offers words from below h. shows-later h (f .whole) from below state low high);
+      }
 
   -- a slot with a new ticket
-  pub tickets-slot : (slot : ℕ) (x : Ticket) (y : Place) → slot < 8 → Ticketed (p .line) x y → Tickets (withPlace p slot y) (set tickets slot x)
+  pub tickets-slot : (slot : ℕ) (x : Ticket) (y : Place) → slot < 8 → Ticketed (p .line) (p .checkpoint) x y
+      → Tickets (withPlace p slot y) (set tickets slot x)
   tickets-slot slot x y h fits = record { eight = length-set tickets slot x ∙ t .eight; each = λ k. go k (ℕ-discrete k slot) }
     where
-      go : (k : ℕ) → Dec (k ≡ slot) → Ticketed (p .line) (getD (set tickets slot x) k nothing) (getD (set (p .places) slot y) k closed)
+      go : (k : ℕ) → Dec (k ≡ slot)
+          → Ticketed (p .line) (p .checkpoint) (getD (set tickets slot x) k nothing) (getD (set (p .places) slot y) k closed)
       go k (yes e) =
-          subst (λ (j : ℕ). Ticketed (p .line) (getD (set tickets slot x) j nothing) (getD (set (p .places) slot y) j closed)) (sym e)
+          subst
+          (λ (j : ℕ). Ticketed (p .line) (p .checkpoint) (getD (set tickets slot x) j nothing) (getD (set (p .places) slot y) j closed))
+          (sym e)
           (rw (getD-set-same tickets slot x nothing (omega (arith, t .eight)), getD-set-same (p .places) slot y closed (omega (arith, places-eight))) fits)
       go k (no n) = rw (getD-set-other tickets slot k x nothing n, getD-set-other (p .places) slot k y closed n) (t .each k)
 

@@ -1,24 +1,25 @@
 -- The view of a store as a function of the plain list, and each call on it: what the call makes of the view is the view of what it
 -- makes of the plain list.
 -- Assumes nothing.
-use mathlib.Core.Path.{_≡_, refl, sym, ap, ap₂, subst, _∙_}
+use mathlib.Core.Path.{_≡_, refl, sym, ap, ap₂, _∙_}
 use mathlib.Core.Bool.{true, false}
 use mathlib.Core.List.{List, [], _∷_, _++_, map}
-use Prim.Native.Nat.{ℕ, zero, suc, _+_, _-_, _≤_, _<_, min}
+use Prim.Native.Nat.{ℕ, zero, suc, _+_, _-_, _≤_, min}
 use native.Mathlib.Omega.{arith}
-use lib.ListN.{length, getD, take, drop, set, length-append, List·getD-map}
-use Rattle.entry.specs.Word.{offerOf}
+use lib.ListN.{length, getD, take, drop, set, List·getD-map}
 use Rattle.changes.specs.Calculus.{apply, composeAll}
 use Rattle.changes.specs.Lists.{All}
-use Rattle.layout.specs.Sound.{lengthsB}
+use Rattle.layout.specs.Clauses.{lengthsB}
 use Rattle.views.specs.Trim.{trimmed}
-use Rattle.views.specs.View.{View, Slot, closed as shut, holding, openOf, heldSteps, leastSlot, NotAbove, Good, mapAt as viewMapAt}
+use Rattle.views.specs.View.{View, viewTable, viewOld, viewSlots, Slot, closed as shut, holding, openOf, heldSteps, leastSlot, NotAbove, Good, mapAt as viewMapAt}
 use Rattle.views.proofs.SlotLists.{least-most}
 use Rattle.reads.specs.OnView.{withSlot, between}
 use Rattle.reads.proofs.SlotSets.{least-set, least-shut}
 use Rattle.steps.specs.StepViews.{commitView, rollView, flushedView}
-use Rattle.history.specs.Plain.{Line, Place, closed, reading, Plain, tipOf, mapAt, leastOf, floorOf, heldLists, openB, openAt, grown, cutAbove, withLine, withPlace}
-use Rattle.history.proofs.Lines.{Whole, slice, carried, slice-length, slice-all, slice-join, slice-take, slice-drop, grown-tip, grown-map, grown-slice, grown-last, cut-tip, cut-map, cut-slice}
+use Rattle.history.specs.Plain.{Line, Place, closed, reading, Plain, tipOf, mapAt, leastOf, floorOf, heldLists, listsBetween}
+use Rattle.history.specs.Plain.{openB, openAt, grown, cutAbove, withLine, withPlace, withCheckpoint}
+use Rattle.history.proofs.Lines.{Whole, carried, between-length, between-all, between-join, between-take, between-drop}
+use Rattle.history.proofs.Lines.{grown-map, grown-between, grown-last, cut-tip, cut-map, cut-between}
 
 -- a place as a slot of the head: its number, without its offers
 abbrev pub slotOf : Place → Slot
@@ -29,8 +30,8 @@ slotOf (reading n offers) = holding n
 unfoldable pub viewOf : Plain → View
 viewOf p = record {
   base = mapAt (p .line) (p .checkpoint);
-  old = slice (p .line) (floorOf p) (p .checkpoint);
-  steps = slice (p .line) (p .checkpoint) (tipOf (p .line));
+  old = listsBetween (p .line) (floorOf p) (p .checkpoint);
+  steps = listsBetween (p .line) (p .checkpoint) (tipOf (p .line));
   checkpoint = p .checkpoint;
   slots = map slotOf (p .places);
   limits = p .limits;
@@ -112,35 +113,33 @@ module _ (p : Plain) (f : Fit p) where
   -- the held steps, and those up to a state
   pub held-lists : heldSteps (viewOf p) ≡ heldLists p
   unfolding viewOf
-  held-lists = slice-join l floor c (tipOf l) (f .low) most (f .high) ∙ sym (slice-all l floor (f .low) (omega (arith, most, f .high)))
+  held-lists = between-join l floor c (tipOf l) (f .low) most (f .high) ∙ sym (between-all l floor (f .low) (omega (arith, most, f .high)))
 
   -- the map of a state from the checkpoint on
   pub view-map : (s : ℕ) → c ≤ s → s ≤ tipOf l → viewMapAt (viewOf p) s ≡ mapAt l s
   unfolding viewOf viewMapAt
   view-map s h k =
-      ap (λ (ds : List (List ℕ)). apply (mapAt l c) (composeAll ds)) (slice-take l c s (tipOf l) h k)
+      ap (λ (ds : List (List ℕ)). apply (mapAt l c) (composeAll ds)) (between-take l c s (tipOf l) h k)
       ∙ carried (f .whole) c s (omega (arith, f .low, most)) h k
 
   -- the held steps from a state on, also below the checkpoint
-  pub view-between : (a b : ℕ) → floor ≤ a → a ≤ b → b ≤ tipOf l → between (viewOf p) a b ≡ slice l a b
+  pub view-between : (a b : ℕ) → floor ≤ a → a ≤ b → b ≤ tipOf l → between (viewOf p) a b ≡ listsBetween l a b
   unfolding viewOf between
   view-between a b low order high =
-      let from : a - (c - length (slice l floor c)) ≡ a - floor = omega (arith, slice-length l floor c (f .low) most (f .high), most) in
-      ap₂ (λ (n : ℕ) (ds : List (List ℕ)). take (b - a) (drop n ds)) from (slice-join l floor c (tipOf l) (f .low) most (f .high))
-      ∙ ap (take (b - a)) (slice-drop l floor a (tipOf l) (f .low) low (omega arith) (omega arith))
-      ∙ slice-take l a b (tipOf l) order high
+      let held = between-length l floor c (f .low) most (f .high) in
+      let from : a - (c - length (listsBetween l floor c)) ≡ a - floor = omega (arith, held, most) in
+      ap₂ (λ (n : ℕ) (ds : List (List ℕ)). take (b - a) (drop n ds)) from (between-join l floor c (tipOf l) (f .low) most (f .high))
+      ∙ ap (take (b - a)) (between-drop l floor a (tipOf l) (f .low) low (omega arith) (omega arith))
+      ∙ between-take l a b (tipOf l) order high
 
   pub commit-view : (list : List ℕ) → commitView (viewOf p) list ≡ viewOf (withLine p (grown l list))
   unfolding viewOf commitView
   commit-view list i =
-      record {
-        base = sym (grown-map l (f .whole) list c (f .high)) i;
-        old = sym (grown-slice l (f .whole) list floor c (f .low) most (f .high)) i;
-        steps = sym (grown-last l (f .whole) list c (omega (arith, f .low, most)) (f .high)) i;
-        checkpoint = c;
-        slots = map slotOf (p .places);
-        limits = p .limits;
-      }
+      viewTable (viewOf p)
+      (sym (grown-map l (f .whole) list c (f .high)) i)
+      (sym (grown-between l (f .whole) list floor c (f .low) most (f .high)) i)
+      (sym (grown-last l (f .whole) list c (omega (arith, f .low, most)) (f .high)) i)
+      c
 
   module _ (s : ℕ) (h : c ≤ s) (k : s ≤ tipOf l) where
     from-start : l .start ≤ s
@@ -149,50 +148,49 @@ module _ (p : Plain) (f : Fit p) where
     pub roll-view : rollView (viewOf p) s ≡ viewOf (withLine p (cutAbove l s))
     unfolding viewOf rollView
     roll-view i =
-        record {
-          base = sym (cut-map l (f .whole) s from-start k c h) i;
-          old = sym (cut-slice l (f .whole) s from-start k floor c (f .low) most h) i;
-          steps = steps-cut i;
-          checkpoint = c;
-          slots = map slotOf (p .places);
-          limits = p .limits;
-        }
+        viewTable (viewOf p)
+        (sym (cut-map l (f .whole) s from-start k c h) i)
+        (sym (cut-between l (f .whole) s from-start k floor c (f .low) most h) i)
+        (steps-cut i)
+        c
       where
-        steps-cut : take (s - c) (slice l c (tipOf l)) ≡ slice (cutAbove l s) c (tipOf (cutAbove l s))
+        steps-cut : take (s - c) (listsBetween l c (tipOf l)) ≡ listsBetween (cutAbove l s) c (tipOf (cutAbove l s))
         steps-cut =
-            slice-take l c s (tipOf l) h k
-            ∙ sym (cut-slice l (f .whole) s from-start k c s (omega (arith, f .low, most)) h (omega arith))
-            ∙ ap (slice (cutAbove l s) c) (sym (cut-tip l (f .whole) s from-start k))
+            between-take l c s (tipOf l) h k
+            ∙ sym (cut-between l (f .whole) s from-start k c s (omega (arith, f .low, most)) h (omega arith))
+            ∙ ap (listsBetween (cutAbove l s) c) (sym (cut-tip l (f .whole) s from-start k))
 
   -- the steps below a floor that went up
-  floor-moved : (new at : ℕ) (steps : List (List ℕ)) → floor ≤ new → new ≤ at → at ≤ tipOf l → steps ≡ slice l floor at
-      → drop (new - (at - length steps)) steps ≡ slice l new at
+  floor-moved : (new at : ℕ) (steps : List (List ℕ)) → floor ≤ new → new ≤ at → at ≤ tipOf l → steps ≡ listsBetween l floor at
+      → drop (new - (at - length steps)) steps ≡ listsBetween l new at
   floor-moved new at steps up down high e =
-      let count : new - (at - length steps) ≡ new - floor = omega (arith, ap length e, slice-length l floor at (f .low) (omega arith) high) in
-      ap₂ drop count e ∙ slice-drop l floor new at (f .low) up down high
+      let held = between-length l floor at (f .low) (omega arith) high in
+      let count : new - (at - length steps) ≡ new - floor = omega (arith, ap length e, held) in
+      ap₂ drop count e ∙ between-drop l floor new at (f .low) up down high
 
   pub floor-later : (s : ℕ) → c ≤ s → floor ≤ leastOf s (p .places)
   floor-later s h = least-up c s h (p .places)
 
-  pub flush-view : (s : ℕ) → c ≤ s → s ≤ tipOf l → trimmed (flushedView (viewOf p) s) ≡ viewOf (record { line = l; checkpoint = s; places = p .places; limits = p .limits })
+  pub flush-view : (s : ℕ) → c ≤ s → s ≤ tipOf l → trimmed (flushedView (viewOf p) s) ≡ viewOf (withCheckpoint p s)
   unfolding viewOf trimmed flushedView
   flush-view s h k i =
-      record {
-        base = view-map s h k i;
-        old = old-moved i;
-        steps = slice-drop l c s (tipOf l) (omega (arith, f .low, most)) h k (omega arith) i;
-        checkpoint = s;
-        slots = map slotOf (p .places);
-        limits = p .limits;
-      }
+      viewTable (viewOf p)
+      (view-map s h k i)
+      (old-moved i)
+      (between-drop l c s (tipOf l) (omega (arith, f .low, most)) h k (omega arith) i)
+      s
     where
-      all-old : slice l floor c ++ take (s - c) (slice l c (tipOf l)) ≡ slice l floor s
-      all-old = ap (λ (ds : List (List ℕ)). slice l floor c ++ ds) (slice-take l c s (tipOf l) h k) ∙ slice-join l floor c s (f .low) most h
+      all-old : listsBetween l floor c ++ take (s - c) (listsBetween l c (tipOf l)) ≡ listsBetween l floor s
+      all-old =
+          ap (λ (ds : List (List ℕ)). listsBetween l floor c ++ ds) (between-take l c s (tipOf l) h k)
+          ∙ between-join l floor c s (f .low) most h
 
-      old-moved : drop (leastSlot s (map slotOf (p .places)) - (s - length (slice l floor c ++ take (s - c) (slice l c (tipOf l))))) (slice l floor c ++ take (s - c) (slice l c (tipOf l)))
-          ≡ slice l (leastOf s (p .places)) s
+      old-moved :
+          let old = listsBetween l floor c ++ take (s - c) (listsBetween l c (tipOf l)) in
+          drop (leastSlot s (map slotOf (p .places)) - (s - length old)) old ≡ listsBetween l (leastOf s (p .places)) s
       old-moved =
-          ap (λ (n : ℕ). drop (n - (s - length (slice l floor c ++ take (s - c) (slice l c (tipOf l))))) (slice l floor c ++ take (s - c) (slice l c (tipOf l)))) (least-is s (p .places))
+          let old = listsBetween l floor c ++ take (s - c) (listsBetween l c (tipOf l)) in
+          ap (λ (n : ℕ). drop (n - (s - length old)) old) (least-is s (p .places))
           ∙ floor-moved (leastOf s (p .places)) s _ (floor-later s h) (floor-most s (p .places)) k all-old
 
   -- an issue leaves the floor
@@ -206,14 +204,7 @@ module _ (p : Plain) (f : Fit p) where
   pub issue-view : (slot : ℕ) (offers : List ℕ) → openAt p slot ≡ false → withSlot (viewOf p) slot (holding c) ≡ viewOf (withPlace p slot (reading c offers))
   unfolding viewOf withSlot
   issue-view slot offers free i =
-      record {
-        base = mapAt l c;
-        old = slice l (floor-same slot offers free i) c;
-        steps = slice l c (tipOf l);
-        checkpoint = c;
-        slots = map-set (p .places) slot (reading c offers) i;
-        limits = p .limits;
-      }
+      viewSlots (viewOld (viewOf p) (listsBetween l (floor-same slot offers free i) c)) (map-set (p .places) slot (reading c offers) i)
 
   -- a slot that closes leaves it or moves it up, and so does a later checkpoint
   pub floor-up : (slot : ℕ) → floor ≤ leastOf c (set (p .places) slot closed)
@@ -222,17 +213,15 @@ module _ (p : Plain) (f : Fit p) where
 
   pub close-view : (slot : ℕ) → trimmed (withSlot (viewOf p) slot shut) ≡ viewOf (withPlace p slot closed)
   unfolding viewOf withSlot trimmed
-  close-view slot i =
-      record {
-        base = mapAt l c;
-        old = old-moved i;
-        steps = slice l c (tipOf l);
-        checkpoint = c;
-        slots = map-set (p .places) slot closed i;
-        limits = p .limits;
-      }
+  close-view slot i = viewSlots (viewOld (viewOf p) (old-moved i)) (map-set (p .places) slot closed i)
     where
-      old-moved : drop (leastSlot c (set (map slotOf (p .places)) slot shut) - (c - length (slice l floor c))) (slice l floor c) ≡ slice l (leastOf c (set (p .places) slot closed)) c
+      old-moved :
+          let old = listsBetween l floor c in
+          drop (leastSlot c (set (map slotOf (p .places)) slot shut) - (c - length old)) old
+          ≡ listsBetween l (leastOf c (set (p .places) slot closed)) c
       old-moved =
-          ap (λ (n : ℕ). drop (n - (c - length (slice l floor c))) (slice l floor c)) (ap (leastSlot c) (map-set (p .places) slot closed) ∙ least-is c (set (p .places) slot closed))
-          ∙ floor-moved (leastOf c (set (p .places) slot closed)) c (slice l floor c) (floor-up slot) (floor-most c (set (p .places) slot closed)) (f .high) refl
+          let old = listsBetween l floor c in
+          let new = leastOf c (set (p .places) slot closed) in
+          ap (λ (n : ℕ). drop (n - (c - length old)) old)
+          (ap (leastSlot c) (map-set (p .places) slot closed) ∙ least-is c (set (p .places) slot closed))
+          ∙ floor-moved new c old (floor-up slot) (floor-most c (set (p .places) slot closed)) (f .high) refl

@@ -3,7 +3,7 @@
 --
 -- A run (Runs.antt) loads an image into lent memory that holds anything, of two lengths in range, and then serves any list of
 -- calls with any arguments; each forward on an open slot is given what the slot's last accepted issue filled. The store's side is
--- made of the definitions that the contracts of the code cite (Served.antt); the plain list (Plain.antt) is given the lengths, the
+-- what the contracts of `perform` and `serve` cite (calls/specs/Meaning.antt); the plain list (Plain.antt) is given the lengths, the
 -- image and the calls' arguments, and nothing of the unit's memory or head. Bytes, words and numbers are any natural numbers here;
 -- those of the code are among them. What a refused call leaves in lent words and bytes is stated by each call's contract.
 -- Assumes nothing.
@@ -12,7 +12,7 @@ use mathlib.Core.List.{List}
 use Prim.Native.Nat.{ℕ, _≤_}
 use lib.ListN.{length}
 use Rattle.views.specs.View.{Store}
-use Rattle.history.specs.Calls.{done, acceptedCalls, quotes}
+use Rattle.history.specs.Named.{done, acceptedCalls, quotes}
 use Rattle.history.specs.Runs.{Asked, storeRun, plainRun, callsOf, lengthsOf}
 
 -- "1 to 8,000 lent words" of table, "1 to 4,096" of journal
@@ -39,8 +39,8 @@ QuotesAlike =
     → InRange lent₂
     → storeRun lent₁ image asked₁ .load ≡ done
     → storeRun lent₂ image asked₂ .load ≡ done
-    → acceptedCalls (callsOf asked₁) (storeRun lent₁ image asked₁ .replies) ≡ acceptedCalls (callsOf asked₂) (storeRun lent₂ image asked₂ .replies)
-    → quotes (storeRun lent₁ image asked₁ .replies) ≡ quotes (storeRun lent₂ image asked₂ .replies)
+    → acceptedCalls (callsOf asked₁) (storeRun lent₁ image asked₁ .responses) ≡ acceptedCalls (callsOf asked₂) (storeRun lent₂ image asked₂ .responses)
+    → quotes (storeRun lent₁ image asked₁ .responses) ≡ quotes (storeRun lent₂ image asked₂ .responses)
 
 pub record Condition3 : Type 0 where
   pub answers-as-plain : AnswersAsPlain

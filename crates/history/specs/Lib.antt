@@ -1,6 +1,4 @@
-pub mod Calls
+pub mod Named
 pub mod Plain
-pub mod Served
 pub mod Runs
 pub mod Condition3
-pub mod Door

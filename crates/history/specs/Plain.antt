@@ -15,7 +15,14 @@ use Rattle.changes.specs.Lists.{listB, noPutB}
 use Rattle.changes.specs.ReadSets.{foundOr}
 use Rattle.image.specs.Image.{imageB, numberIn, wordsIn, imageOf}
 use Rattle.views.specs.View.{Limits, flat}
-use Rattle.history.specs.Calls.{Call, lookUp, commit, rollBack, flush, issue, forward, release, writeImage, Reply, done, price, noPrice, filled, forwarded, written, refused, Turn}
+use Rattle.answers.specs.declared.call.Query.{Query}
+use Rattle.answers.specs.declared.call.Query.the-variants.{LookUp, WriteImage}
+use Rattle.answers.specs.declared.call.Read.{Read as ReadCall}
+use Rattle.answers.specs.declared.call.Read.the-variants.{Issue, Forward, Release}
+use Rattle.answers.specs.declared.call.Reader.{Reader}
+use Rattle.answers.specs.declared.call.Step.{Step as StepCall}
+use Rattle.answers.specs.declared.call.Step.the-variants.{Commit, RollBack, Flush}
+use Rattle.history.specs.Named.{Named, step, read, ask, Call, Response, done, price, noPrice, filled, forwarded, written, refused, Turn}
 
 -- a ground's test, which says whether it is met, with its number
 pub data Ground : Type 0 where
@@ -33,9 +40,9 @@ firstOf (met true n ∷ grounds) = refuse n
 firstOf (met false n ∷ grounds) = firstOf grounds
 
 -- what an accepted call gives or leaves, or else what a refused one does
-abbrev pub replyBy : Verdict → Reply → Reply
-replyBy accept reply = reply
-replyBy (refuse n) reply = refused n
+abbrev pub responseBy : Verdict → Response → Response
+responseBy accept response = response
+responseBy (refuse n) response = refused n
 
 abbrev pub leftBy {ℓ} : {A : Type ℓ} → Verdict → A → A → A
 leftBy accept new old = new
@@ -81,12 +88,16 @@ floorOf p = leastOf (p .checkpoint) (p .places)
 abbrev pub heldLists : Plain → List (List ℕ)
 heldLists p = drop (floorOf p - p .line .start) (p .line .lists)
 
+-- the committed lists that lead from a state of a line to a later one
+unfoldable pub listsBetween : Line → ℕ → ℕ → List (List ℕ)
+listsBetween line from to = take (to - from) (drop (from - line .start) (line .lists))
+
 -- "for each of those offers the word that shows its price, or none, in the map"
 abbrev pub shown : List ℕ → List ℕ → List ℕ
 shown m = map (λ offer. foundOr (find offer m) (noneOf offer))
 
 -- the price of an offer in a map, or none
-abbrev pub quoted : Found → Reply
+abbrev pub quoted : Found → Response
 quoted (Word w) = price (priceOf w)
 quoted Nothing = noPrice
 
@@ -109,67 +120,70 @@ offersAt p slot = offersIn (getD (p .places) slot closed)
 abbrev pub imageAt : Plain → List ℕ
 imageAt p = imageOf (p .checkpoint) (mapAt (p .line) (p .checkpoint))
 
+-- ground 3: "The place is above 7."
+abbrev pub slotTests : Reader → List Ground
+slotTests reader = met (leb 8 (reader .slot)) 3 ∷ []
+
+-- ground 11: "The state named is below the anchor or above the tip."
+abbrev pub stateTests : Plain → ℕ → List Ground
+stateTests p state = met (ltb state (p .checkpoint)) 11 ∷ met (ltb (tipOf (p .line)) state) 11 ∷ []
+
 -- "It tests grounds 3 to 17 .. in their order with these values." "In the named calls 1 and 2 don't arise, nor 6 at a forward."
+module _ (p : Plain) where
+  abbrev pub stepTests : StepCall → List ℕ → List Ground
+  stepTests Commit list =
+      met (not (listB list)) 6
+      ∷ met (eqb (tipOf (p .line)) (2 ^ 32 - 1)) 12
+      ∷ met (eqb (length (heldLists p)) 64) 13
+      -- "At 14 the unused words are the change memory's length less the words of its held steps"
+      ∷ met (ltb (p .limits .journal - length (flat (heldLists p))) (length list)) 14
+      ∷ []
+  stepTests (RollBack state) list = stateTests p state
+  stepTests (Flush state) list = stateTests p state ++ (met (ltb (p .limits .table) (length (mapAt (p .line) state))) 16 ∷ [])
+
+  abbrev pub readTests : ReadCall → List ℕ → List Ground
+  readTests (Issue reader) list =
+      slotTests reader
+      ++ (met (openAt p (reader .slot)) 4
+      ∷ met (not (listB list)) 6
+      ∷ met (not (noPutB list)) 6
+      ∷ [])
+  readTests (Forward reader state) list = slotTests reader ++ (met (not (openAt p (reader .slot))) 5 ∷ stateTests p state)
+  readTests (Release reader) list = slotTests reader ++ (met (not (openAt p (reader .slot))) 5 ∷ [])
+
+  abbrev pub queryTests : Query → List ℕ → List Ground
+  queryTests (LookUp asked) bytes = met (leb (2 ^ 31) (asked .offer)) 6 ∷ stateTests p (asked .state)
+  queryTests WriteImage bytes = met (ltb (length bytes) (length (imageAt p))) 17 ∷ []
+
+  abbrev pub tests : Named → List ℕ → List ℕ → List Ground
+  tests (step call) list bytes = stepTests call list
+  tests (read call) list bytes = readTests call list
+  tests (ask query) list bytes = queryTests query bytes
+
 abbrev pub checked : Plain → Call → Verdict
-checked p (lookUp offer state) =
-    firstOf
-    (met (leb (2 ^ 31) offer) 6
-    ∷ met (ltb state (p .checkpoint)) 11
-    ∷ met (ltb (tipOf (p .line)) state) 11
-    ∷ [])
-checked p (commit list) =
-    firstOf
-    (met (not (listB list)) 6
-    ∷ met (eqb (tipOf (p .line)) (2 ^ 32 - 1)) 12
-    ∷ met (eqb (length (heldLists p)) 64) 13
-    -- "At 14 the unused words are the change memory's length less the words of its held steps"
-    ∷ met (ltb (p .limits .journal - length (flat (heldLists p))) (length list)) 14
-    ∷ [])
-checked p (rollBack state) =
-    firstOf
-    (met (ltb state (p .checkpoint)) 11
-    ∷ met (ltb (tipOf (p .line)) state) 11
-    ∷ [])
-checked p (flush state) =
-    firstOf
-    (met (ltb state (p .checkpoint)) 11
-    ∷ met (ltb (tipOf (p .line)) state) 11
-    ∷ met (ltb (p .limits .table) (length (mapAt (p .line) state))) 16
-    ∷ [])
-checked p (issue slot list) =
-    firstOf
-    (met (leb 8 slot) 3
-    ∷ met (openAt p slot) 4
-    ∷ met (not (listB list)) 6
-    ∷ met (not (noPutB list)) 6
-    ∷ [])
-checked p (forward slot state) =
-    firstOf
-    (met (leb 8 slot) 3
-    ∷ met (not (openAt p slot)) 5
-    ∷ met (ltb state (p .checkpoint)) 11
-    ∷ met (ltb (tipOf (p .line)) state) 11
-    ∷ [])
-checked p (release slot) =
-    firstOf
-    (met (leb 8 slot) 3
-    ∷ met (not (openAt p slot)) 5
-    ∷ [])
-checked p (writeImage out) = firstOf (met (ltb (length out) (length (imageAt p))) 17 ∷ [])
+checked p call = firstOf (tests p (call .named) (call .list) (call .bytes))
 
 -- what an accepted call gives
-abbrev pub given : Plain → Call → Reply
--- "A lookup reads the map of the state named."
-given p (lookUp offer state) = quoted (find offer (mapAt (p .line) state))
-given p (commit list) = done
-given p (rollBack state) = done
-given p (flush state) = done
--- "fills the list from the book"
-given p (issue slot list) = filled (shown (mapAt (p .line) (p .checkpoint)) (map offerOf list))
-given p (forward slot state) = forwarded (shown (mapAt (p .line) state) (offersAt p slot))
-given p (release slot) = done
--- "bytes past it are unchanged"
-given p (writeImage out) = written (length (imageAt p)) (imageAt p ++ drop (length (imageAt p)) out)
+module _ (p : Plain) where
+  abbrev pub givenRead : ReadCall → List ℕ → Response
+  -- "fills the list from the book"
+  givenRead (Issue reader) list = filled (shown (mapAt (p .line) (p .checkpoint)) (map offerOf list))
+  givenRead (Forward reader state) list = forwarded (shown (mapAt (p .line) state) (offersAt p (reader .slot)))
+  givenRead (Release reader) list = done
+
+  abbrev pub answerTo : Query → List ℕ → Response
+  -- "A lookup reads the map of the state named."
+  answerTo (LookUp asked) bytes = quoted (find (asked .offer) (mapAt (p .line) (asked .state)))
+  -- "bytes past it are unchanged"
+  answerTo WriteImage bytes = written (length (imageAt p)) (imageAt p ++ drop (length (imageAt p)) bytes)
+
+  abbrev pub givenBy : Named → List ℕ → List ℕ → Response
+  givenBy (step call) list bytes = done
+  givenBy (read call) list bytes = givenRead call list
+  givenBy (ask query) list bytes = answerTo query bytes
+
+abbrev pub given : Plain → Call → Response
+given p call = givenBy p (call .named) (call .list) (call .bytes)
 
 -- "A commit adds the last map with the new list applied."
 abbrev pub grown : Line → List ℕ → Line
@@ -193,24 +207,36 @@ withLine p line = record { line = line; checkpoint = p .checkpoint; places = p .
 abbrev pub withPlace : Plain → ℕ → Place → Plain
 withPlace p slot place = record { line = p .line; checkpoint = p .checkpoint; places = set (p .places) slot place; limits = p .limits }
 
+abbrev pub withCheckpoint : Plain → ℕ → Plain
+withCheckpoint p state = record { line = p .line; checkpoint = state; places = p .places; limits = p .limits }
+
 -- what an accepted call leaves
+module _ (p : Plain) where
+  abbrev pub stepped : StepCall → List ℕ → Plain
+  stepped Commit list = withLine p (grown (p .line) list)
+  stepped (RollBack state) list = withLine p (cutAbove (p .line) state)
+  -- "A flush only moves the anchor."
+  stepped (Flush state) list = withCheckpoint p state
+
+  abbrev pub placed : ReadCall → List ℕ → Plain
+  -- "An issue opens its place with the anchor's number and its list's offers."
+  placed (Issue reader) list = withPlace p (reader .slot) (reading (p .checkpoint) (map offerOf list))
+  -- "and closes the place. A drop closes it."
+  placed (Forward reader state) list = withPlace p (reader .slot) closed
+  placed (Release reader) list = withPlace p (reader .slot) closed
+
+  abbrev pub changedBy : Named → List ℕ → Plain
+  changedBy (step call) list = stepped call list
+  changedBy (read call) list = placed call list
+  -- "Writing an image changes nothing.", nor does a lookup
+  changedBy (ask query) list = p
+
 abbrev pub changed : Plain → Call → Plain
-changed p (lookUp offer state) = p
-changed p (commit list) = withLine p (grown (p .line) list)
-changed p (rollBack state) = withLine p (cutAbove (p .line) state)
--- "A flush only moves the anchor."
-changed p (flush state) = record { line = p .line; checkpoint = state; places = p .places; limits = p .limits }
--- "An issue opens its place with the anchor's number and its list's offers."
-changed p (issue slot list) = withPlace p slot (reading (p .checkpoint) (map offerOf list))
--- "and closes the place. A drop closes it."
-changed p (forward slot state) = withPlace p slot closed
-changed p (release slot) = withPlace p slot closed
--- "Writing an image changes nothing."
-changed p (writeImage out) = p
+changed p call = changedBy p (call .named) (call .list)
 
 -- "A refused call changes nothing."
 abbrev pub plainTurn : Plain → Call → Turn Plain
-plainTurn p call = record { reply = replyBy (checked p call) (given p call); next = leftBy (checked p call) (changed p call) p }
+plainTurn p call = record { response = responseBy (checked p call) (given p call); next = leftBy (checked p call) (changed p call) p }
 
 -- The load: grounds 15 and 16. "The load gives the image's map under its number, that number as anchor, all places closed."
 abbrev pub loadChecked : Limits → List ℕ → Verdict

@@ -1,17 +1,20 @@
--- Runs: a load and then a list of calls, on a store and on the plain list.
+-- Runs: a load and then a list of calls, on a store and on the plain list. The store's side is what the unit's calls answer and leave, by
+-- the definition that the contracts of `calls::perform` and `unit::serve` cite.
 -- Assumes nothing.
 use mathlib.Core.Bool.{cond}
 use mathlib.Core.List.{List, [], _∷_, map}
 use Prim.Native.Nat.{ℕ}
 use lib.ListN.{length, getD, set, replicate}
-use Rattle.grounds.specs.declared.Outcome.{Outcome}
-use Rattle.grounds.specs.declared.Outcome.the-variants.{Done, Refused}
-use Rattle.grounds.specs.Numbers.{numberOf}
+use Rattle.answers.specs.declared.call.Call.the-variants.{Reset}
+use Rattle.answers.specs.declared.call.Read.the-variants.{Issue, Forward, Release}
+use Rattle.answers.specs.declared.call.Reset.the-variants.{Load}
+use Rattle.answers.specs.Answers.{Said, accepted, refused as turnedAway, without, saidBy}
 use Rattle.views.specs.View.{Store, Limits}
-use Rattle.snapshot.specs.Calls.{loadOutcome}
-use Rattle.history.specs.Calls.{Call, lookUp, commit, rollBack, flush, issue, forward, release, writeImage, Reply, refused, done, price, noPrice, filled, forwarded, written, acceptedB}
+use Rattle.calls.specs.Lent.{Lent, lent, Left}
+use Rattle.calls.specs.Meaning.{performed}
+use Rattle.history.specs.Named.{Named, step, read, ask, unitCall, Call, Response, refused, done, price, noPrice, filled, forwarded}
+use Rattle.history.specs.Named.{written, responseTo, Turn, acceptedB}
 use Rattle.history.specs.Plain.{Verdict, accept, refuse, Plain, plainTurn, loadChecked, loadedPlain}
-use Rattle.history.specs.Served.{serve, loadedStore}
 
 -- a call, with words that are lent to it as read set if it is a forward on a slot that is not open
 pub record Asked : Type 0 where
@@ -28,21 +31,19 @@ abbrev pub holdsOr : Ticket → List ℕ → List ℕ
 holdsOr nothing words = words
 holdsOr (holds l) words = l
 
-abbrev pub lentTo : List Ticket → Call → List ℕ → List ℕ
-lentTo tickets (forward slot state) words = holdsOr (getD tickets slot nothing) words
-lentTo tickets (lookUp offer state) words = words
-lentTo tickets (commit list) words = words
-lentTo tickets (rollBack state) words = words
-lentTo tickets (flush state) words = words
-lentTo tickets (issue slot list) words = words
-lentTo tickets (release slot) words = words
-lentTo tickets (writeImage out) words = words
+-- the words lent to a call: its list, or at a forward the read set
+abbrev pub wordsLent : List Ticket → Named → List ℕ → List ℕ → List ℕ
+wordsLent tickets (step call) list words = list
+wordsLent tickets (read (Issue reader)) list words = list
+wordsLent tickets (read (Forward reader state)) list words = holdsOr (getD tickets (reader .slot) nothing) words
+wordsLent tickets (read (Release reader)) list words = list
+wordsLent tickets (ask query) list words = list
 
 -- the tickets after a call, from the call and its answer alone
-abbrev pub closedBy : Reply → List Ticket → ℕ → List Ticket
-closedBy reply tickets slot = cond (acceptedB reply) (set tickets slot nothing) tickets
+abbrev pub closedBy : Response → List Ticket → ℕ → List Ticket
+closedBy response tickets slot = cond (acceptedB response) (set tickets slot nothing) tickets
 
-abbrev pub openedBy : Reply → List Ticket → ℕ → List Ticket
+abbrev pub openedBy : Response → List Ticket → ℕ → List Ticket
 openedBy (filled l) tickets slot = set tickets slot (holds l)
 openedBy (refused n) tickets slot = tickets
 openedBy done tickets slot = tickets
@@ -51,53 +52,72 @@ openedBy noPrice tickets slot = tickets
 openedBy (forwarded l) tickets slot = tickets
 openedBy (written n l) tickets slot = tickets
 
-abbrev pub ticketsAfter : List Ticket → Call → Reply → List Ticket
-ticketsAfter tickets (issue slot list) reply = openedBy reply tickets slot
-ticketsAfter tickets (forward slot state) reply = closedBy reply tickets slot
-ticketsAfter tickets (release slot) reply = closedBy reply tickets slot
-ticketsAfter tickets (lookUp offer state) reply = tickets
-ticketsAfter tickets (commit list) reply = tickets
-ticketsAfter tickets (rollBack state) reply = tickets
-ticketsAfter tickets (flush state) reply = tickets
-ticketsAfter tickets (writeImage out) reply = tickets
+abbrev pub ticketsAfter : List Ticket → Named → Response → List Ticket
+ticketsAfter tickets (step call) response = tickets
+ticketsAfter tickets (read (Issue reader)) response = openedBy response tickets (reader .slot)
+ticketsAfter tickets (read (Forward reader state)) response = closedBy response tickets (reader .slot)
+ticketsAfter tickets (read (Release reader)) response = closedBy response tickets (reader .slot)
+ticketsAfter tickets (ask query) response = tickets
+
+-- a call of the unit on the memory and head of a store, with the words and bytes lent to it
+abbrev pub lentWith : Store → List ℕ → List ℕ → Lent
+lentWith s words bytes = lent (s .table) (s .journal) words bytes (s .head)
+
+abbrev pub storeIn : Lent → Store
+storeIn l = record { table = l .table; journal = l .journal; head = l .head }
+
+abbrev pub turnOf : Named → Left → Turn Store
+turnOf named left = record {
+  response = responseTo named (saidBy (left .answer)) (left .lent .words) (left .lent .bytes);
+  next = storeIn (left .lent);
+}
+
+abbrev pub storeTurn : Store → Call → List ℕ → Turn Store
+storeTurn s call words = turnOf (call .named) (performed (lentWith s words (call .bytes)) (unitCall (call .named)))
 
 -- the answers of a store, call by call, and those of the plain list
-unfoldable pub storeReplies : Store → List Ticket → List Asked → List Reply
-storeReplies s tickets [] = []
-storeReplies s tickets (a ∷ asked) =
-    let turn = serve s (a .call) (lentTo tickets (a .call) (a .words)) in
-    turn .reply ∷ storeReplies (turn .next) (ticketsAfter tickets (a .call) (turn .reply)) asked
+unfoldable pub storeResponses : Store → List Ticket → List Asked → List Response
+storeResponses s tickets [] = []
+storeResponses s tickets (a ∷ asked) =
+    let c = a .call in
+    let turn = storeTurn s c (wordsLent tickets (c .named) (c .list) (a .words)) in
+    turn .response ∷ storeResponses (turn .next) (ticketsAfter tickets (c .named) (turn .response)) asked
 
-unfoldable pub plainReplies : Plain → List Call → List Reply
-plainReplies p [] = []
-plainReplies p (c ∷ calls) =
+unfoldable pub plainResponses : Plain → List Call → List Response
+plainResponses p [] = []
+plainResponses p (c ∷ calls) =
     let turn = plainTurn p c in
-    turn .reply ∷ plainReplies (turn .next) calls
+    turn .response ∷ plainResponses (turn .next) calls
 
 -- what a run answers: the load, and then the calls; where the load is refused there is no store to call
 pub record Answers : Type 0 where
-  pub load : Reply
-  pub replies : List Reply
+  pub load : Response
+  pub responses : List Response
+
+abbrev pub afterLoad : Said → List Response → Answers
+afterLoad (accepted value) responses = record { load = done; responses = responses }
+afterLoad (turnedAway n) responses = record { load = refused n; responses = [] }
+afterLoad without responses = record { load = noPrice; responses = [] }
 
 -- a load into lent memory that holds anything, and then the calls
-abbrev pub afterLoad : Outcome → List Reply → Answers
-afterLoad Done replies = record { load = done; replies = replies }
-afterLoad (Refused ground) replies = record { load = refused (numberOf ground); replies = [] }
+abbrev pub loaded : Store → List ℕ → Left
+loaded s image = performed (lentWith s [] image) (Reset Load)
 
 abbrev pub storeRun : Store → List ℕ → List Asked → Answers
-storeRun lent image asked =
-    afterLoad (loadOutcome (lent .table) (lent .journal) image) (storeReplies (loadedStore lent image) (replicate 8 nothing) asked)
+storeRun s image asked =
+    let left = loaded s image in
+    afterLoad (saidBy (left .answer)) (storeResponses (storeIn (left .lent)) (replicate 8 nothing) asked)
 
 -- "The plain list of whole maps is fed the load's image, the calls' arguments except a forward's read set, and the lengths lent"
-abbrev pub afterVerdict : Verdict → List Reply → Answers
-afterVerdict accept replies = record { load = done; replies = replies }
-afterVerdict (refuse n) replies = record { load = refused n; replies = [] }
+abbrev pub afterVerdict : Verdict → List Response → Answers
+afterVerdict accept responses = record { load = done; responses = responses }
+afterVerdict (refuse n) responses = record { load = refused n; responses = [] }
 
 abbrev pub plainRun : Limits → List ℕ → List Call → Answers
-plainRun limits image calls = afterVerdict (loadChecked limits image) (plainReplies (loadedPlain limits image) calls)
+plainRun limits image calls = afterVerdict (loadChecked limits image) (plainResponses (loadedPlain limits image) calls)
 
 abbrev pub callsOf : List Asked → List Call
 callsOf = map (λ (a : Asked). a .call)
 
 abbrev pub lengthsOf : Store → Limits
-lengthsOf lent = record { table = length (lent .table); journal = length (lent .journal) }
+lengthsOf s = record { table = length (s .table); journal = length (s .journal) }

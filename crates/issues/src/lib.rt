@@ -1,17 +1,19 @@
 // Issue: a list of kind 0 words is filled from the table, and a slot opens.
+use answers::answer::Answer;
+use answers::answer::Check;
+use answers::call::Reader;
+use answers::refusal::Refusal;
 use entry::Entry;
-use grounds::Outcome;
-use grounds::Refusal;
 use layout::head::Head;
-use layout::head::SLOTS;
-use layout::head::Stored;
-use layout::sound::is_sound;
-use layout::sound::lengths_fit;
+use layout::head::Reply;
 use lists::read_sets::apply_to_reads;
 use lists::rules::is_list;
 use slots::open_slot;
+use slots::slot_check;
+use soundness::store_check;
 ghost use mathlib.Core.Path.{_≡_};
-ghost use Rattle.grounds.specs.Numbers.{Gives};
+ghost use Rattle.answers.specs.declared.answer.Answer.the-variants.{Done};
+ghost use Rattle.answers.specs.Answers.{Gives, answered};
 ghost use Rattle.changes.specs.Lists.{noPutB};
 ghost use Rattle.issues.specs.Issue.{issueCheck, issueHead, issueList};
 
@@ -30,42 +32,45 @@ fn has_no_put(words: &[u64]) -> bool
 }
 
 // The first ground on which an issue is turned away.
-fn issue_check(table: &[u64], journal: &[u64], head: Head, slot: usize, list: &[u64]) -> Outcome
-    ensures { λ r. ⌜ r ≡ issueCheck (now (table .entry)) (now (journal .entry)) head slot (now (list .entry)) ⌝ }
+fn issue_check(table: &[u64], journal: &[u64], head: Head, reader: Reader, list: &[u64]) -> Check
+    ensures { λ r. ⌜ r ≡ issueCheck (now (table .entry)) (now (journal .entry)) head reader (now (list .entry)) ⌝ }
 {
     let held = head.held;
-    if !lengths_fit(table.len(), journal.len()) {
-        return Outcome::Refused(Refusal::Lengths);
-    }
-    if !is_sound(table, journal, head) {
-        return Outcome::Refused(Refusal::Unsound);
-    }
-    if SLOTS <= slot {
-        return Outcome::Refused(Refusal::SlotRange);
-    }
+    let slot = reader.slot;
+    let store = store_check(table, journal, head);
+    let Check::Passed = store else {
+        return store;
+    };
+    let range = slot_check(reader);
+    let Check::Passed = range else {
+        return range;
+    };
     if held[slot] {
-        return Outcome::Refused(Refusal::SlotTaken);
+        return Check::Refused(Refusal::SlotTaken);
     }
     if !is_list(list) {
-        return Outcome::Refused(Refusal::BadList);
+        return Check::Refused(Refusal::BadList);
     }
     if !has_no_put(list) {
-        return Outcome::Refused(Refusal::BadList);
+        return Check::Refused(Refusal::BadList);
     }
-    Outcome::Done
+    Check::Passed
 }
 
-pub fn issue(table: &[u64], journal: &[u64], head: Head, slot: usize, list: &mut [u64]) -> Stored
-    ensures { λ r. ⌜ Gives (r .outcome) (issueCheck (now (table .entry)) (now (journal .entry)) head slot (now (list .entry))) × (r .head ≡ issueHead (now (table .entry)) (now (journal .entry)) head slot (now (list .entry))) × (now (list .exit) ≡ issueList (now (table .entry)) (now (journal .entry)) head slot (now (list .entry))) ⌝ }
+pub fn issue(table: &[u64], journal: &[u64], head: Head, reader: Reader, list: &mut [u64]) -> Reply
+    ensures { λ r. ⌜ Gives (r .answer) (answered (issueCheck (now (table .entry)) (now (journal .entry)) head reader (now (list .entry))) Done) × (r .head ≡ issueHead (now (table .entry)) (now (journal .entry)) head reader (now (list .entry))) × (now (list .exit) ≡ issueList (now (table .entry)) (now (journal .entry)) head reader (now (list .entry))) ⌝ }
 {
-    let outcome = issue_check(table, journal, head, slot, list);
-    let Outcome::Done = outcome else {
-        return Stored { outcome, head };
-    };
+    let check = issue_check(table, journal, head, reader, list);
+    if let Check::Refused(ground) = check {
+        return Reply {
+            answer: Answer::Refused(ground),
+            head,
+        };
+    }
     let used = head.used;
     apply_to_reads(list, &table[..used]);
-    Stored {
-        outcome: Outcome::Done,
-        head: open_slot(head, slot),
+    Reply {
+        answer: Answer::Done,
+        head: open_slot(head, reader.slot),
     }
 }

@@ -7,7 +7,7 @@ use crate::filter::filter_place;
 use crate::filter::note_offers;
 use changes::search::Found;
 use entry::Entry;
-use layout::sound::end_of;
+use layout::states::end_of;
 use lists::search::find;
 ghost use mathlib.Core.Path.{_≡_};
 ghost use Prim.Native.Nat.{_+_, _-_, _≤_};

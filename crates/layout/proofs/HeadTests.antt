@@ -4,7 +4,7 @@ use mathlib.Core.Path.{_≡_, _∙_}
 use mathlib.Core.Bool.{true}
 use Prim.Native.Nat.{ℕ, _-_, _≤_}
 use borrow.Author.Tests.{leb-true, le-leb}
-use Rattle.layout.specs.Sound.{lengthsB, numbersB}
+use Rattle.layout.specs.Clauses.{lengthsB, numbersB}
 use Rattle.layout.proofs.Holds.{all-first, all-rest, first-holds, all-none}
 
 pub numbers-facts : (oldest checkpoint tip : ℕ) → numbersB oldest checkpoint tip ≡ true → (oldest ≤ checkpoint) × (checkpoint ≤ tip) × (tip - oldest ≤ 64)

@@ -70,11 +70,3 @@ module _ (test : ℕ → Bool) where
 
   pub ends : (n k : ℕ) → allB k test ≡ true → k ≤ n → n ≤ k → allB n test ≡ true
   ends n k e l h = subst (λ (m : ℕ). allB m test ≡ true) (omega arith) e
-
--- three tests made as one
-pub three-first : (a b c : Bool) (ts : List Bool) → allOf (a ∷ b ∷ c ∷ ts) ≡ allOf (allOf (a ∷ b ∷ c ∷ []) ∷ ts)
-unfolding allOf
-three-first true true true ts = refl
-three-first true true false ts = refl
-three-first true false c ts = refl
-three-first false b c ts = refl

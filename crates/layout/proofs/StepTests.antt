@@ -11,7 +11,7 @@ use lib.Dec.{leb}
 use lib.ListN.{length, getD, take, drop}
 use Rattle.changes.specs.Lists.{listB}
 use Rattle.changes.specs.Runs.{startOf, stepOf}
-use Rattle.layout.specs.Sound.{stepB}
+use Rattle.layout.specs.Clauses.{stepB}
 use Rattle.layout.specs.Tests.{allB, allOf}
 use Rattle.layout.proofs.Holds.{all-first, all-rest, all-at}
 

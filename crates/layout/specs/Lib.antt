@@ -1,2 +1,4 @@
 pub mod Tests
-pub mod Sound
+pub mod Heads
+pub mod Clauses
+pub mod States

@@ -1,9 +1,12 @@
 // The head of a store: a value that travels with the calls.
-use grounds::Outcome;
+use answers::answer::Answer;
 
-// The most steps that a store holds, and the number of slots.
+// The most steps that a store holds, and the number of marks, which tell where the steps end.
 pub const STEPS: usize = 64;
 
+pub const MARKS: usize = 64;
+
+// The number of slots.
 pub const SLOTS: usize = 8;
 
 // The ranges of the lengths lent: table and journal have at least one word.
@@ -24,14 +27,14 @@ pub struct Head {
     // The number of the newest state.
     pub tip: u32,
     // Which slots are open (reading places), and the checkpoint at the issue of each; a closed one has 0.
-    pub held: [bool; 8],
-    pub issued: [u32; 8],
+    pub held: [bool; SLOTS],
+    pub issued: [u32; SLOTS],
     // Where each held step ends in the journal (marks); marks not in use are 0.
-    pub ends: [usize; 64],
+    pub ends: [usize; MARKS],
 }
 
-// What a call that moves a store answers, and the head after it.
-pub struct Stored {
-    pub outcome: Outcome,
+// What a call answers, and the head after it.
+pub struct Reply {
+    pub answer: Answer,
     pub head: Head,
 }

@@ -1,4 +1,5 @@
-// What lies in a store's lent memory: the head, and when table, journal and head are sound (document 01,
-// "What the unit holds").
+// What lies in a store's lent memory: the head, where the held steps stand, and the clauses of which soundness is made
+// (document 01, "What the unit holds").
+pub mod clauses;
 pub mod head;
-pub mod sound;
+pub mod states;

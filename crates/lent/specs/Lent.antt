@@ -1,4 +1,4 @@
--- What a call answers and leaves of what a C program lends, by the definitions of the one door (crate unit).
+-- What a call answers and leaves of what a C program lends, by the definition of what each call means (crate calls).
 -- Assumes nothing.
 use mathlib.Core.Path.{_≡_}
 use mathlib.Core.Bool.{Bool, true, false, cond}
@@ -6,33 +6,36 @@ use mathlib.Core.List.{List, [], _∷_}
 use Prim.Native.Nat.{ℕ}
 use lib.Dec.{eqb}
 use lib.ListN.{length, getD}
-use Rattle.grounds.specs.declared.Refusal.the-variants.{Lengths, Unsound}
-use Rattle.layout.specs.Sound.{lengthsB}
+use Rattle.answers.specs.declared.answer.Answer.{Answer}
+use Rattle.answers.specs.declared.answer.Answer.the-variants.{Refused}
+use Rattle.answers.specs.declared.call.Call.{Call}
+use Rattle.answers.specs.declared.call.Call.the-variants.{Reset, Step, Read, Ask}
+use Rattle.answers.specs.declared.call.Query.{Query}
+use Rattle.answers.specs.declared.call.Reset.{Reset as ResetCall}
+use Rattle.answers.specs.declared.call.Reset.the-variants.{Clear, Load, Restart}
+use Rattle.answers.specs.declared.refusal.Refusal.the-variants.{Lengths, Unsound}
+use Rattle.answers.specs.declared.tally.Tally.{Tally}
+use Rattle.answers.specs.Answers.{acceptedB, saidBy}
+use Rattle.answers.specs.Counts.{counts}
+use Rattle.layout.specs.Clauses.{lengthsB}
 use Rattle.layout.specs.Tests.{allOf}
-use Rattle.calls.specs.declared.call.Answer.{Answer}
-use Rattle.calls.specs.declared.call.Answer.the-variants.{Refused}
-use Rattle.calls.specs.declared.call.Call.{Call}
-use Rattle.calls.specs.declared.call.Call.the-variants.{Clear, Load, WriteImage, Restart, Commit, RollBack, Flush, LookUp, Issue, Forward, Release}
-use Rattle.tallies.specs.declared.Tally.{Tally}
-use Rattle.calls.specs.Answers.{answerAs}
-use Rattle.calls.specs.Calls as unit
-use Rattle.tallies.specs.Tally.{acceptedB, counts, tallyAfter}
-use Rattle.lent.specs.Codes.{codeOf}
+use Rattle.calls.specs.Lent.{Left, lent}
+use Rattle.calls.specs.Meaning.{performed}
+use Rattle.unit.specs.Serve.{tallyOn}
 use Rattle.head_words.specs.HeadWords.{headOf, wordsOf, headB}
+use Rattle.lent.specs.Codes.{codeOf, valueOf}
 
 -- "The store isn't sound (clear and load don't test this)."
+abbrev pub resetTests : ResetCall → Bool
+resetTests Clear = false
+resetTests Load = false
+resetTests Restart = true
+
 abbrev pub testsStore : Call → Bool
-testsStore Clear = false
-testsStore Load = false
-testsStore WriteImage = true
-testsStore Restart = true
-testsStore Commit = true
-testsStore (RollBack state) = true
-testsStore (Flush state) = true
-testsStore (LookUp offer state) = true
-testsStore (Issue slot) = true
-testsStore (Forward slot state) = true
-testsStore (Release slot) = true
+testsStore (Reset call) = resetTests call
+testsStore (Step call) = true
+testsStore (Read call) = true
+testsStore (Ask query) = true
 
 -- a head of 84 words and a tally of 3, and words that fit the head's fields where the call tests the store
 abbrev pub lentB : List ℕ → List ℕ → Call → Bool
@@ -48,30 +51,34 @@ tallyWords tally = tally .committed ∷ tally .«rolled_back» ∷ tally .flushe
 abbrev pub unfit : ℕ → ℕ → Answer
 unfit table journal = cond (lengthsB table journal) (Refused Unsound) (Refused Lengths)
 
+-- what a call leaves of a store whose head is in words
+abbrev pub onWords : List ℕ → List ℕ → List ℕ → List ℕ → List ℕ → Call → Left
+onWords table journal words bytes head call = performed (lent table journal words bytes (headOf head)) call
+
 module _ (table journal words bytes head tally : List ℕ) (call : Call) where
   abbrev pub answerTo : Answer
-  answerTo = cond (lentB head tally call) (unit.answerTo table journal words bytes (headOf head) call) (unfit (length table) (length journal))
+  answerTo = cond (lentB head tally call) (onWords table journal words bytes head call .answer) (unfit (length table) (length journal))
 
   abbrev pub tableAfter : List ℕ
-  tableAfter = cond (lentB head tally call) (unit.tableAfter table journal words bytes (headOf head) call) table
+  tableAfter = cond (lentB head tally call) (onWords table journal words bytes head call .lent .table) table
 
   abbrev pub journalAfter : List ℕ
-  journalAfter = cond (lentB head tally call) (unit.journalAfter table journal words bytes (headOf head) call) journal
+  journalAfter = cond (lentB head tally call) (onWords table journal words bytes head call .lent .journal) journal
 
   abbrev pub wordsAfter : List ℕ
-  wordsAfter = cond (lentB head tally call) (unit.wordsAfter table journal words bytes (headOf head) call) words
+  wordsAfter = cond (lentB head tally call) (onWords table journal words bytes head call .lent .words) words
 
   abbrev pub bytesAfter : List ℕ
-  bytesAfter = cond (lentB head tally call) (unit.bytesAfter table journal words bytes (headOf head) call) bytes
+  bytesAfter = cond (lentB head tally call) (onWords table journal words bytes head call .lent .bytes) bytes
 
   -- a refused call leaves the head's words as they came, whatever they are
   abbrev pub headAfter : List ℕ
-  headAfter = cond (acceptedB answerTo) (wordsOf (unit.headAfter table journal words bytes (headOf head) call)) head
+  headAfter = cond (acceptedB answerTo) (wordsOf (onWords table journal words bytes head call .lent .head)) head
 
   abbrev pub tallyWordsAfter : List ℕ
   tallyWordsAfter =
       cond (lentB head tally call)
-      (tallyWords (tallyAfter (tallyOf tally) (headOf head) call (unit.answerTo table journal words bytes (headOf head) call)))
+      (tallyWords (tallyOn (tallyOf tally) (lent table journal words bytes (headOf head)) call))
       tally
 
   -- The promise of a call that is lent all of these: its answer, and what it leaves of them.
@@ -88,8 +95,27 @@ module _ (table journal words bytes head tally : List ℕ) (call : Call) where
   -- The promise of a call that is lent a store: its code, and what it leaves of the store.
   abbrev pub Serves : ℕ → List ℕ → List ℕ → List ℕ → List ℕ → Type 0
   Serves code table' journal' head' tally' =
-      (code ≡ codeOf (answerAs answerTo))
+      (code ≡ codeOf (saidBy answerTo))
       × (table' ≡ tableAfter)
       × (journal' ≡ journalAfter)
       × (head' ≡ headAfter)
       × (tally' ≡ tallyWordsAfter)
+
+-- A query is lent the store to read, and no tally: what it answers, and what it leaves of the words and bytes lent for its output.
+module _ (table journal words bytes head : List ℕ) (query : Query) where
+  abbrev pub answerToQuery : Answer
+  answerToQuery = cond (headB head) (onWords table journal words bytes head (Ask query) .answer) (unfit (length table) (length journal))
+
+  abbrev pub wordsWritten : List ℕ
+  wordsWritten = cond (headB head) (onWords table journal words bytes head (Ask query) .lent .words) words
+
+  abbrev pub bytesWritten : List ℕ
+  bytesWritten = cond (headB head) (onWords table journal words bytes head (Ask query) .lent .bytes) bytes
+
+  -- The promise of a query: its answer, and what it writes.
+  abbrev pub Asks : Answer → List ℕ → List ℕ → Type 0
+  Asks answer words' bytes' = (answer ≡ answerToQuery) × (words' ≡ wordsWritten) × (bytes' ≡ bytesWritten)
+
+  -- The promise of its function for C: its code, and its value in the word that is lent for it.
+  abbrev pub Tells : ℕ → ℕ → ℕ → Type 0
+  Tells code value old = (code ≡ codeOf (saidBy answerToQuery)) × (value ≡ valueOf (saidBy answerToQuery) old)

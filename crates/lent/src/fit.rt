@@ -1,32 +1,37 @@
 // Whether head and tally are fit to be lent, and the answer where they are not.
-use calls::call::Answer;
-use calls::call::Call;
-use grounds::Refusal;
+use answers::answer::Answer;
+use answers::call::Call;
+use answers::call::Reset;
+use answers::refusal::Refusal;
 use head_words::HEAD_WORDS;
 use head_words::is_head;
-use layout::sound::lengths_fit;
+use layout::clauses::lengths_fit;
 ghost use mathlib.Core.Path.{_≡_};
-ghost use Rattle.lent.specs.Lent.{testsStore, lentB, unfit};
+ghost use Rattle.lent.specs.Lent.{resetTests, testsStore, lentB, unfit};
 
 // How many words a tally has.
 const TALLY_WORDS: usize = 3;
+
+// Whether a call that makes a store anew tests the one that was there.
+fn reset_tests(reset: Reset) -> bool
+    ensures { λ r. ⌜ r ≡ resetTests reset ⌝ }
+{
+    match reset {
+        Reset::Clear => false,
+        Reset::Load => false,
+        Reset::Restart => true,
+    }
+}
 
 // Whether the call tests the store for soundness.
 fn tests_store(call: Call) -> bool
     ensures { λ r. ⌜ r ≡ testsStore call ⌝ }
 {
     match call {
-        Call::Clear => false,
-        Call::Load => false,
-        Call::WriteImage => true,
-        Call::Restart => true,
-        Call::Commit => true,
-        Call::RollBack(_) => true,
-        Call::Flush(_) => true,
-        Call::LookUp(_, _) => true,
-        Call::Issue(_) => true,
-        Call::Forward(_, _) => true,
-        Call::Release(_) => true,
+        Call::Reset(reset) => reset_tests(reset),
+        Call::Step(_) => true,
+        Call::Read(_) => true,
+        Call::Ask(_) => true,
     }
 }
 

@@ -1,4 +1,4 @@
 // What a C program lends to a call, and what it reads of the answer.
-pub mod answers;
+pub mod codes;
 pub mod fit;
 pub mod storing;

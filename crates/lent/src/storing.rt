@@ -1,24 +1,37 @@
 // What a call leaves of head and tally, put into their words.
-use calls::call::Answer;
-use calls::call::Reply;
+use answers::answer::Answer;
+use answers::answer::is_accepted;
+use answers::tally::Tally;
 use head_words::pack;
-use tallies::is_accepted;
+use layout::head::Reply;
 use unit::serve::Served;
 ghost use mathlib.Core.Path.{_≡_};
 ghost use mathlib.Core.Bool.{cond};
-ghost use mathlib.Core.List.{[], _∷_};
 ghost use lib.ListN.{length};
-ghost use Rattle.tallies.specs.Tally.{acceptedB};
+ghost use Rattle.answers.specs.Answers.{acceptedB};
 ghost use Rattle.head_words.specs.HeadWords.{wordsOf};
+ghost use Rattle.lent.specs.Lent.{tallyOf, tallyWords};
+
+// The tally that the words hold.
+pub fn tally_in(words: &[u64]) -> Tally
+    requires { ⌜ length (now words) ≡ 3 ⌝ }
+    ensures { λ r. ⌜ r ≡ tallyOf (now (words .entry)) ⌝ }
+{
+    Tally {
+        committed: words[0],
+        rolled_back: words[1],
+        flushed: words[2],
+    }
+}
 
 // Puts the counts into their words.
-fn put_tally(tally: &mut [u64], committed: u64, rolled_back: u64, flushed: u64)
-    requires { ⌜ length (now tally) ≡ 3 ⌝ }
-    ensures { λ r. ⌜ now (tally .exit) ≡ committed ∷ «rolled_back» ∷ flushed ∷ [] ⌝ }
+fn put_tally(words: &mut [u64], tally: Tally)
+    requires { ⌜ length (now words) ≡ 3 ⌝ }
+    ensures { λ r. ⌜ now (words .exit) ≡ tallyWords tally ⌝ }
 {
-    tally[0] = committed;
-    tally[1] = rolled_back;
-    tally[2] = flushed;
+    words[0] = tally.committed;
+    words[1] = tally.rolled_back;
+    words[2] = tally.flushed;
 }
 
 // Puts the head of a reply into its words, where the call was accepted, and gives the answer.
@@ -37,9 +50,10 @@ fn put_reply(words: &mut [u64], reply: Reply) -> Answer
 // Puts head and tally as a call left them into their words, and gives the answer.
 pub fn put_served(head: &mut [u64], tally: &mut [u64], served: Served) -> Answer
     requires { ⌜ (length (now head) ≡ 84) × (length (now tally) ≡ 3) ⌝ }
-    ensures { λ r. ⌜ (r ≡ served .reply .answer) × (now (head .exit) ≡ cond (acceptedB (served .reply .answer)) (wordsOf (served .reply .head)) (now (head .entry))) × (now (tally .exit) ≡ served .committed ∷ served .«rolled_back» ∷ served .flushed ∷ []) ⌝ }
+    ensures { λ r. ⌜ (r ≡ served .reply .answer) × (now (head .exit) ≡ cond (acceptedB (served .reply .answer)) (wordsOf (served .reply .head)) (now (head .entry))) × (now (tally .exit) ≡ tallyWords (served .tally)) ⌝ }
 {
-    put_tally(tally, served.committed, served.rolled_back, served.flushed);
+    let counts = served.tally;
+    put_tally(tally, counts);
     let reply = served.reply;
     put_reply(head, reply)
 }

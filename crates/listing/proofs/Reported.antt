@@ -1,77 +1,124 @@
 -- What is known of an image that was loaded into the listing's table.
 -- Assumes nothing.
-use mathlib.Core.Path.{_≡_, sym, ap, ap₂, _∙_}
-use mathlib.Core.List.{List, _++_}
+use mathlib.Core.Path.{_≡_, refl, sym, ap, ap₂, subst, _∙_}
+use mathlib.Core.List.{List, [], _∷_, _++_}
+use mathlib.Core.Logic.{inl, inr}
 use Prim.Native.Nat.{ℕ, _-_, _≤_, _<_}
 use native.Mathlib.Omega.{arith}
+use denote.Enum.Declared.{tagOf}
+use types.Run.{OneOf}
 use borrow.Author.Tests.{lt-ltb, le-ltb}
 use lib.ListN.{length, take, drop, replicate, length-append}
 use lib.Seq.{take-at}
-use Rattle.grounds.specs.declared.Outcome.{Outcome}
-use Rattle.grounds.specs.declared.Outcome.the-variants.{Done, Refused}
-use Rattle.grounds.specs.declared.Refusal.{Refusal}
-use Rattle.grounds.specs.Numbers.{numberOf}
-use Rattle.grounds.proofs.Firsts.{new-is}
+use Rattle.answers.specs.declared.answer.Answer.{Answer}
+use Rattle.answers.specs.declared.answer.Answer.the-variants.{Done, Refused as Away}
+use Rattle.answers.specs.declared.answer.Check.{Check}
+use Rattle.answers.specs.declared.answer.Check.the-variants.{Passed, Refused}
+use Rattle.answers.specs.declared.refusal.Refusal.{Refusal}
+use Rattle.answers.specs.Answers.{answered}
+use Rattle.answers.specs.First.{first}
+use Rattle.answers.specs.Numbers.{numberOf}
+use Rattle.answers.proofs.answer.Answer.{the-type}
+use Rattle.answers.proofs.Firsts.{new-is}
 use Rattle.image.specs.Image.{countIn, numberIn, wordsIn}
 use Rattle.image.proofs.Words.{words-in-length}
 use Rattle.layout.specs.declared.head.Head.{Head}
 use Rattle.views.specs.View.{padded}
 use Rattle.views.proofs.Views.{padded-length}
 use Rattle.listing_text.specs.Listing.{textOf, refusalText}
-use Rattle.snapshot.specs.Calls.{loadCheck, loadOutcome, loadHead, loadTable}
+use Rattle.snapshot.specs.Calls.{loadGrounds, loadCheck, loadHead, loadTable}
 use Rattle.snapshot.specs.Fresh.{freshHead}
 use Rattle.snapshot.proofs.Accepted.{LoadOk, load-ok}
-use Rattle.listing.specs.Report.{reportOf, byOutcome, Rendered}
+use Rattle.listing.specs.Report.{reportOf, byCheck, Rendered}
+
+-- an answer that names no ground
+abbrev pub NoGround : Answer → Type 0
+NoGround answer = OneOf (0 ∷ 1 ∷ 2 ∷ 3 ∷ []) (tagOf the-type answer)
+
+refused-not : (g : Refusal) → NoGround (Away g) → ⊥
+refused-not g (inl e) = omega arith
+refused-not g (inr (inl e)) = omega arith
+refused-not g (inr (inr (inl e))) = omega arith
+refused-not g (inr (inr (inr e))) = omega arith
+
+-- what the check of a call found, told from its answer
+passed-of : {answer : Answer} (check : Check) → answer ≡ answered check Done → NoGround answer → check ≡ Passed
+passed-of Passed e h = refl
+passed-of (Refused g) e h = absurd (refused-not g (subst NoGround e h))
+
+refused-of : {g : Refusal} (check : Check) → Away g ≡ answered check Done → check ≡ Refused g
+refused-of Passed e = absurd (let z : _≡_ {A = ℕ} 0 1 = cc in omega arith)
+refused-of (Refused h) e = cc
 
 pub report-long : (image : List ℕ) → 64006 < length image → reportOf image ≡ refusalText 15
 unfolding reportOf
 report-long image h = rw (lt-ltb 64006 (length image) h)
 
-report-by : (image : List ℕ) → length image ≤ 64006 → reportOf image ≡ byOutcome (loadCheck 8000 1 image) image
+report-by : (image : List ℕ) → length image ≤ 64006 → reportOf image ≡ byCheck (first (loadGrounds 8000 1 image)) image
 unfolding reportOf
 report-by image h = rw (le-ltb 64006 (length image) h)
 
-module _ (table journal image : List ℕ) (lt : length table ≡ 8000) (lj : length journal ≡ 1) (short : length image ≤ 64006) (o : Outcome) (eo : o ≡ loadOutcome table journal image) where
-  here : loadCheck 8000 1 image ≡ o
-  here = ap₂ (λ (t j : ℕ). loadCheck t j image) (sym lt) (sym lj) ∙ sym eo
+-- a head and a table whose listing is that of the image
+pub record Listed (image : List ℕ) (head : Head) (table : List ℕ) : Type 0 where
+  pub text : textOf (head .checkpoint) (take (head .used) table) ≡ reportOf image
+  pub used-in : head .used ≤ length table
+  pub used-most : head .used ≤ 8000
 
-  pub report-refused : (g : Refusal) → o ≡ Refused g → reportOf image ≡ refusalText (numberOf g)
-  report-refused g e = report-by image short ∙ ap (λ (p : Outcome). byOutcome p image) (here ∙ e)
+-- an image that is short enough, loaded into a table and a journal of these lengths
+module _ (table journal image : List ℕ) (lt : length table ≡ 8000) (lj : length journal ≡ 1) (short : length image ≤ 64006)
+    {answer : Answer} (ea : answer ≡ answered (loadCheck table journal image) Done) where
+  here : {check : Check} → loadCheck table journal image ≡ check → reportOf image ≡ byCheck check image
+  here e =
+      report-by image short
+      ∙ ap₂ (λ (t j : ℕ). byCheck (first (loadGrounds t j image)) image) (sym lt) (sym lj)
+      ∙ ap (λ (check : Check). byCheck check image) e
 
-  module _ (e : o ≡ Done) (h : Head) (before : Head) (eh : h ≡ loadHead table journal image before) (last : List ℕ) (el : last ≡ loadTable table journal image) where
-    pub report-done : reportOf image ≡ textOf (numberIn image) (wordsIn image)
-    report-done = report-by image short ∙ ap (λ (p : Outcome). byOutcome p image) (here ∙ e)
+  pub report-refused : {g : Refusal} → answer ≡ Away g → refusalText (numberOf g) ≡ reportOf image
+  report-refused e = sym (here (refused-of (loadCheck table journal image) (sym e ∙ ea)))
 
+  module _ (e : loadCheck table journal image ≡ Passed) {h : Head} (before : Head) (eh : h ≡ loadHead table journal image before)
+      {last : List ℕ} (el : last ≡ loadTable table journal image) where
     ok : LoadOk (length table) (length journal) image
-    ok = load-ok (length table) (length journal) image (sym eo ∙ e)
+    ok = load-ok (length table) (length journal) image e
 
     head-is : h ≡ freshHead (countIn image) (numberIn image)
-    head-is = eh ∙ new-is (sym eo ∙ e) (freshHead (countIn image) (numberIn image)) before
+    head-is = eh ∙ new-is e (freshHead (countIn image) (numberIn image)) before
 
     table-is : last ≡ padded (length table) (wordsIn image)
-    table-is = el ∙ new-is (sym eo ∙ e) (padded (length table) (wordsIn image)) table
+    table-is = el ∙ new-is e (padded (length table) (wordsIn image)) table
 
-    pub state-is : h .checkpoint ≡ numberIn image
+    state-is : h .checkpoint ≡ numberIn image
     unfolding freshHead
     state-is = ap (λ (x : Head). x .checkpoint) head-is
 
-    pub used-is : h .used ≡ countIn image
+    used-is : h .used ≡ countIn image
     unfolding freshHead
     used-is = ap (λ (x : Head). x .used) head-is
 
-    pub words-are : take (h .used) last ≡ wordsIn image
-    words-are = ap₂ take used-is table-is ∙ take-at (wordsIn image) (replicate (length table - length (wordsIn image)) 0) (countIn image) (words-in-length image)
+    words-are : take (h .used) last ≡ wordsIn image
+    words-are =
+        let zeros : List ℕ = replicate (length table - length (wordsIn image)) 0 in
+        ap₂ take used-is table-is ∙ take-at (wordsIn image) zeros (countIn image) (words-in-length image)
 
-    pub used-in : h .used ≤ length last
-    used-in = omega (arith, used-is, ap length table-is, padded-length (length table) (wordsIn image) (omega (arith, words-in-length image, ok .room)), ok .room)
+    pub loaded : Listed image h last
+    loaded =
+        let long = padded-length (length table) (wordsIn image) (omega (arith, words-in-length image, ok .room)) in
+        record {
+          text = ap₂ textOf state-is words-are ∙ sym (here e);
+          used-in = omega (arith, used-is, ap length table-is, long, ok .room);
+          used-most = omega (arith, used-is, ok .room, lt);
+        }
 
-    pub used-most : h .used ≤ 8000
-    used-most = omega (arith, used-is, ok .room, lt)
+  -- the same from the answer
+  pub report-loaded : NoGround answer → {h : Head} (before : Head) → h ≡ loadHead table journal image before → {last : List ℕ}
+      → last ≡ loadTable table journal image → Listed image h last
+  report-loaded n before eh el = loaded (passed-of (loadCheck table journal image) ea n) before eh el
 
 -- a text that was rendered lies within its bytes
 pub rendered-in : {text bytes last : List ℕ} {n : ℕ} → Rendered text bytes last n → n ≤ length last
 rendered-in {text} {bytes} {last} {n} r = omega (arith, r .size, ap length (r .bytes-are), length-append text (drop n bytes))
 
 -- the same text by another name
-pub rendered-as : {text other bytes last : List ℕ} {n : ℕ} → text ≡ other → n ≡ length text → last ≡ text ++ drop n bytes → Rendered other bytes last n
+pub rendered-as : {text other bytes last : List ℕ} {n : ℕ} → text ≡ other → n ≡ length text → last ≡ text ++ drop n bytes
+    → Rendered other bytes last n
 rendered-as {bytes = bytes} {n = n} e s b = record { size = s ∙ ap length e; bytes-are = b ∙ ap (λ (l : List ℕ). l ++ drop n bytes) e }

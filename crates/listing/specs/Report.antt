@@ -6,21 +6,22 @@ use mathlib.Core.List.{List, _++_}
 use Prim.Native.Nat.{ℕ}
 use lib.Dec.{ltb}
 use lib.ListN.{length, drop}
-use Rattle.grounds.specs.declared.Outcome.{Outcome}
-use Rattle.grounds.specs.declared.Outcome.the-variants.{Done, Refused}
-use Rattle.grounds.specs.Numbers.{numberOf}
+use Rattle.answers.specs.declared.answer.Check.{Check}
+use Rattle.answers.specs.declared.answer.Check.the-variants.{Passed, Refused}
+use Rattle.answers.specs.First.{first}
+use Rattle.answers.specs.Numbers.{numberOf}
 use Rattle.image.specs.Image.{numberIn, wordsIn}
 use Rattle.listing_text.specs.Listing.{textOf, refusalText}
-use Rattle.snapshot.specs.Calls.{loadCheck, loadTable, loadJournal}
+use Rattle.snapshot.specs.Calls.{loadGrounds, loadTable, loadJournal}
 
 -- the listing, or the line of the refusal
-abbrev pub byOutcome : Outcome → List ℕ → List ℕ
-byOutcome Done image = textOf (numberIn image) (wordsIn image)
-byOutcome (Refused r) image = refusalText (numberOf r)
+abbrev pub byCheck : Check → List ℕ → List ℕ
+byCheck Passed image = textOf (numberIn image) (wordsIn image)
+byCheck (Refused r) image = refusalText (numberOf r)
 
 -- "reads one image on standard input into a book of 8,000 words and prints"; "Input above 64,006 bytes is number 15."
 unfoldable pub reportOf : List ℕ → List ℕ
-reportOf image = cond (ltb 64006 (length image)) (refusalText 15) (byOutcome (loadCheck 8000 1 image) image)
+reportOf image = cond (ltb 64006 (length image)) (refusalText 15) (byCheck (first (loadGrounds 8000 1 image)) image)
 
 -- the memory lent to it: loaded, unless the input is too long to be read
 abbrev pub tableAfter : List ℕ → List ℕ → List ℕ → List ℕ

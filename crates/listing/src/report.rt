@@ -1,7 +1,6 @@
 // What the listing prints, rendered into lent bytes.
-use grounds::Outcome;
-use grounds::number;
-use layout::head::Head;
+use answers::answer::Answer;
+use answers::refusal::number;
 use listing_text::listing::render;
 use listing_text::listing::render_refusal;
 use snapshot::fresh::fresh_head;
@@ -23,12 +22,12 @@ pub fn report(image: &[u8], table: &mut [u64], journal: &mut [u64], text: &mut [
     if IMAGE_BYTES < image.len() {
         return render_refusal(15, text);
     }
-    let stored = load(table, journal, fresh_head(0, 0), image);
-    let outcome = stored.outcome;
-    let head = stored.head;
+    let reply = load(table, journal, fresh_head(0, 0), image);
+    let answer = reply.answer;
+    let head = reply.head;
     let used = head.used;
-    match outcome {
-        Outcome::Refused(ground) => render_refusal(number(ground), text),
-        Outcome::Done => render(head.checkpoint, &table[..used], text),
+    if let Answer::Refused(ground) = answer {
+        return render_refusal(number(ground), text);
     }
+    render(head.checkpoint, &table[..used], text)
 }

@@ -8,12 +8,11 @@ use borrow.Author.Tests.{eq-eqb, ne-eqb}
 use Rattle.entry.specs.Word.{kindOf, priceOf, Put}
 use Rattle.changes.specs.declared.search.Found.{Found}
 use Rattle.changes.specs.declared.search.Found.the-variants.{Word, Nothing}
-use Rattle.changes.specs.Calculus.{find, orElse, ifPut, apply}
+use Rattle.changes.specs.Calculus.{find, ifPut, apply}
 use Rattle.changes.specs.Lists.{From, Map}
 use Rattle.changes.proofs.Find.{found-all}
 use Rattle.changes.proofs.Laws.{apply-puts, apply-removes, apply-leaves}
-use Rattle.grounds.specs.declared.Quote.{Quote}
-use Rattle.grounds.specs.declared.Quote.the-variants.{Price, NoPrice}
+use Rattle.answers.specs.declared.answer.Answer.the-variants.{Price, NoPrice}
 use Rattle.lookups.specs.LookUp.{quoteOf}
 
 put-is : (w : ℕ) → Put w → ifPut (Word w) ≡ Word w

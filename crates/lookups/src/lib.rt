@@ -1,20 +1,22 @@
 // Lookup: an offer's price, or none, at a named state.
+use answers::answer::Answer;
+use answers::answer::Check;
+use answers::call::LookUp;
+use answers::refusal::Refusal;
 use changes::search::Found;
 use entry::Entry;
-use grounds::Outcome;
-use grounds::Quote;
-use grounds::Refusal;
 use last_changes::last_change;
 use layout::head::Head;
-use layout::sound::is_sound;
-use layout::sound::lengths_fit;
+use layout::states::step_index;
 use lists::search::find;
+use soundness::state_check;
+use soundness::store_check;
 ghost use mathlib.Core.Path.{_≡_};
-ghost use Prim.Native.Nat.{_-_, _≤_};
+ghost use Prim.Native.Nat.{_-_};
 ghost use Rattle.changes.specs.Calculus.{find as found, ifPut, apply, composeAll};
 ghost use Rattle.changes.specs.Lists.{Map};
 ghost use Rattle.changes.specs.Runs.{runOf};
-ghost use Rattle.grounds.specs.Numbers.{GivesQuote};
+ghost use Rattle.answers.specs.Answers.{Gives};
 ghost use Rattle.lookups.specs.LookUp.{quoteOf, lookUpCheck, lookUp};
 ghost use Rattle.last_changes.specs.Steps.{Rising};
 
@@ -22,40 +24,32 @@ ghost use Rattle.last_changes.specs.Steps.{Rising};
 const OFFERS: u32 = 1 << Entry::OFFER_BITS;
 
 // The first ground on which a lookup is turned away.
-fn look_up_check(table: &[u64], journal: &[u64], head: Head, offer: u32, state: u32) -> Outcome
-    ensures { λ r. ⌜ r ≡ lookUpCheck (now (table .entry)) (now (journal .entry)) head offer state ⌝ }
+fn look_up_check(table: &[u64], journal: &[u64], head: Head, asked: LookUp) -> Check
+    ensures { λ r. ⌜ r ≡ lookUpCheck (now (table .entry)) (now (journal .entry)) head asked ⌝ }
 {
-    if !lengths_fit(table.len(), journal.len()) {
-        return Outcome::Refused(Refusal::Lengths);
+    let store = store_check(table, journal, head);
+    let Check::Passed = store else {
+        return store;
+    };
+    if OFFERS <= asked.offer {
+        return Check::Refused(Refusal::BadList);
     }
-    if !is_sound(table, journal, head) {
-        return Outcome::Refused(Refusal::Unsound);
-    }
-    if OFFERS <= offer {
-        return Outcome::Refused(Refusal::BadList);
-    }
-    if state < head.checkpoint {
-        return Outcome::Refused(Refusal::StateRange);
-    }
-    if head.tip < state {
-        return Outcome::Refused(Refusal::StateRange);
-    }
-    Outcome::Done
+    state_check(head, asked.state)
 }
 
 // The price that a word puts or shows; a word of kind 0 has none.
-fn quote_of(found: Found) -> Quote
+fn quote_of(found: Found) -> Answer
     ensures { λ r. ⌜ r ≡ quoteOf (ifPut found) ⌝ }
 {
     let Found::Word(word) = found else {
-        return Quote::NoPrice;
+        return Answer::NoPrice;
     };
     let kind = Entry::kind_of(word);
     let price = Entry::price_of(word);
     if kind < Entry::PUT {
-        return Quote::NoPrice;
+        return Answer::NoPrice;
     }
-    Quote::Price(price)
+    Answer::Price(price)
 }
 
 // The price of an offer after the steps from `from` up to `to`, exclusive, on the map in `base`.
@@ -66,7 +60,7 @@ fn price_after(
     from: usize,
     to: usize,
     offer: u32,
-) -> Quote
+) -> Answer
     requires { ⌜ Map (now base) × Rising (now journal) (now ends) from to ⌝ }
     ensures { λ r. ⌜ r ≡ quoteOf (found offer (apply (now (base .entry)) (composeAll (runOf (now (journal .entry)) (now (ends .entry)) from (to - from))))) ⌝ }
 {
@@ -77,15 +71,15 @@ fn price_after(
     quote_of(find(base, offer))
 }
 
-pub fn look_up(table: &[u64], journal: &[u64], head: Head, offer: u32, state: u32) -> Quote
-    ensures { λ r. ⌜ GivesQuote r (lookUp (now (table .entry)) (now (journal .entry)) head offer state) ⌝ }
+pub fn look_up(table: &[u64], journal: &[u64], head: Head, asked: LookUp) -> Answer
+    ensures { λ r. ⌜ Gives r (lookUp (now (table .entry)) (now (journal .entry)) head asked) ⌝ }
 {
-    let outcome = look_up_check(table, journal, head, offer, state);
-    if let Outcome::Refused(ground) = outcome {
-        return Quote::Refused(ground);
+    let check = look_up_check(table, journal, head, asked);
+    if let Check::Refused(ground) = check {
+        return Answer::Refused(ground);
     }
     let used = head.used;
-    let from = (head.checkpoint - head.oldest) as usize;
-    let to = (state - head.oldest) as usize;
-    price_after(&table[..used], journal, &head.ends, from, to, offer)
+    let from = step_index(head, head.checkpoint);
+    let to = step_index(head, asked.state);
+    price_after(&table[..used], journal, &head.ends, from, to, asked.offer)
 }

@@ -7,7 +7,7 @@ use Rattle.changes.specs.Calculus.{find, compose, puts, apply, composeAll}
 use Rattle.changes.specs.Lists.{risingB, mapB, noPutB}
 use Rattle.changes.specs.ReadSets.{readOf, over}
 use Rattle.changes.specs.Runs.{runOf}
-use Rattle.grounds.specs.First.{first}
+use Rattle.answers.specs.First.{first}
 use Rattle.orders.specs.Effects.{sixteenths, putAt, withPrice, effect}
 use Rattle.orders.specs.Orders.{kindNamed, allowedB}
 use Rattle.batch.specs.Batches.{checked, batch}
@@ -15,7 +15,7 @@ use Rattle.order_runs.specs.Running.{run, priced}
 use Rattle.order_runs.specs.Tests.{readB, allB as allOrdersB}
 use Rattle.image.specs.Bytes.{bytesOf, valueOf}
 use Rattle.image.specs.Image.{wordBytes, imageOf, wordsOf, numberIn, countIn, wordsIn, imageB}
-use Rattle.layout.specs.Sound.{soundB}
+use Rattle.soundness.specs.Sound.{soundB}
 use Rattle.layout.specs.Tests.{allB, allOf, zerosB, least}
 use Rattle.views.specs.Trim.{trimmedHead, trimmedJournal}
 use Rattle.snapshot.specs.Fresh.{freshHead}
@@ -23,10 +23,10 @@ use Rattle.commits.specs.Commit.{withStep}
 use Rattle.flushes.specs.Flush.{flushedHead}
 use Rattle.rollbacks.specs.RollBack.{cutTo}
 use Rattle.slots.specs.Slots.{opened, shut}
-use Rattle.history.specs.Runs.{storeReplies}
+use Rattle.history.specs.Runs.{storeResponses}
 use Rattle.moments.specs.Moments.{computed, expected}
 use Rattle.moments.specs.Table.{twelve}
 
 pub moments-follow : map computed twelve ≡ map expected twelve
-unfolding find compose puts apply composeAll risingB mapB readOf over runOf first sixteenths putAt withPrice effect kindNamed allowedB checked batch run priced readB allOrdersB bytesOf valueOf wordBytes imageOf wordsOf numberIn countIn wordsIn imageB soundB allB allOf zerosB least trimmedHead trimmedJournal freshHead withStep flushedHead cutTo noPutB opened shut storeReplies twelve
+unfolding find compose puts apply composeAll risingB mapB readOf over runOf first sixteenths putAt withPrice effect kindNamed allowedB checked batch run priced readB allOrdersB bytesOf valueOf wordBytes imageOf wordsOf numberIn countIn wordsIn imageB soundB allB allOf zerosB least trimmedHead trimmedJournal freshHead withStep flushedHead cutTo noPutB opened shut storeResponses twelve
 moments-follow = refl

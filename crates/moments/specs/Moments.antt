@@ -1,18 +1,20 @@
 -- A moment at the counter (document 01, "Twelve moments at the counter"): what is asked, what the unit's definitions compute for it, and
--- what is expected. The definitions are those that the contracts of the code cite: of a store's calls on its memory and head (history's
--- `serve`), of a batch, and of the entry word.
+-- what is expected. The definitions are those that the contracts of the code cite: of a store's calls on what is lent to them
+-- (calls/specs/Meaning.antt), of a batch, and of the entry word.
 -- Assumes nothing.
 use mathlib.Core.List.{List, [], map}
 use Prim.Native.Nat.{ℕ, _+_, _*_, _^_}
 use lib.ListN.{length, replicate}
 use Rattle.entry.specs.Word.{putOf}
-use Rattle.grounds.specs.Numbers.{Answer}
+use Rattle.answers.specs.declared.call.Call.the-variants.{Reset}
+use Rattle.answers.specs.declared.call.Reset.the-variants.{Clear}
+use Rattle.answers.specs.Answers.{Said, saidBy}
 use Rattle.views.specs.View.{Store}
 use Rattle.batch.specs.Batches.{batch, answer, output}
-use Rattle.snapshot.specs.Calls.{clearOutcome, clearHead, clearWords}
 use Rattle.snapshot.specs.Fresh.{freshHead}
-use Rattle.history.specs.Calls.{Call, Reply, done}
-use Rattle.history.specs.Runs.{Asked, nothing, storeReplies, Answers, afterLoad, storeRun}
+use Rattle.calls.specs.Meaning.{performed}
+use Rattle.history.specs.Named.{Call, Response, done}
+use Rattle.history.specs.Runs.{Asked, nothing, lentWith, storeIn, storeResponses, Answers, afterLoad, storeRun}
 
 -- where a store starts: lent memory of two lengths, the table's and the journal's, which is cleared, or loaded from an image
 pub data Start : Type 0 where
@@ -22,7 +24,7 @@ pub data Start : Type 0 where
 -- a call, and the answer expected of it
 infix 68 _⇒_
 pub data Exchange : Type 0 where
-  _⇒_ : Call → Reply → Exchange
+  _⇒_ : Call → Response → Exchange
 
 pub data Moment : Type 0 where
   -- an offer at a price; its word
@@ -30,7 +32,7 @@ pub data Moment : Type 0 where
   -- a start, which is accepted, and then the calls in turn
   run : Start → List Exchange → Moment
   -- a read set, orders and output memory; the answer, and the output memory then
-  priced : List ℕ → List ℕ → List ℕ → Answer → List ℕ → Moment
+  priced : List ℕ → List ℕ → List ℕ → Said → List ℕ → Moment
 
 -- "An order is 64 bits, most significant first: kind 8 bits, amount 25 bits, offer 31 bits."
 abbrev pub orderOf : ℕ → ℕ → ℕ → ℕ
@@ -41,15 +43,10 @@ abbrev pub lentOf : ℕ → ℕ → Store
 lentOf table journal = record { table = replicate table 1; journal = replicate journal 1; head = freshHead 0 0 }
 
 -- a clear, and then the calls
-abbrev pub clearedStore : Store → Store
-clearedStore s = record {
-  table = clearWords (s .table) (s .journal) (s .table);
-  journal = clearWords (s .table) (s .journal) (s .journal);
-  head = clearHead (s .table) (s .journal) (s .head);
-}
-
 abbrev pub clearRun : Store → List Asked → Answers
-clearRun lent asked = afterLoad (clearOutcome (lent .table) (lent .journal)) (storeReplies (clearedStore lent) (replicate 8 nothing) asked)
+clearRun s asked =
+    let left = performed (lentWith s [] []) (Reset Clear) in
+    afterLoad (saidBy (left .answer)) (storeResponses (storeIn (left .lent)) (replicate 8 nothing) asked)
 
 abbrev pub runFrom : Start → List Asked → Answers
 runFrom (cleared table journal) asked = clearRun (lentOf table journal) asked
@@ -59,14 +56,14 @@ runFrom (loaded table journal image) asked = storeRun (lentOf table journal) ima
 abbrev pub askedIn : Exchange → Asked
 askedIn (c ⇒ r) = record { call = c; words = [] }
 
-abbrev pub replyIn : Exchange → Reply
-replyIn (c ⇒ r) = r
+abbrev pub responseIn : Exchange → Response
+responseIn (c ⇒ r) = r
 
 -- what a moment comes to
 pub data Result : Type 0 where
   asWord : ℕ → Result
   asAnswers : Answers → Result
-  asBatch : Answer → List ℕ → Result
+  asBatch : Said → List ℕ → Result
 
 -- by the definitions,
 abbrev pub computed : Moment → Result
@@ -79,5 +76,5 @@ computed (priced reads orders out a after) =
 -- and by the table
 abbrev pub expected : Moment → Result
 expected (word offer price w) = asWord w
-expected (run start exchanges) = asAnswers (record { load = done; replies = map replyIn exchanges })
+expected (run start exchanges) = asAnswers (record { load = done; responses = map responseIn exchanges })
 expected (priced reads orders out a after) = asBatch a after

@@ -6,8 +6,8 @@ use mathlib.Core.List.{List, [], _∷_, _++_}
 use Prim.Native.Nat.{ℕ}
 use lib.ListN.{replicate}
 use Rattle.entry.specs.Word.{putOf, noneOf}
-use Rattle.grounds.specs.Numbers.{accepted, refused as turnedAway}
-use Rattle.history.specs.Calls.{lookUp, commit, rollBack, flush, issue, forward, release, writeImage, refused, done, price, noPrice, filled, forwarded, written}
+use Rattle.answers.specs.Answers.{accepted, refused as turnedAway}
+use Rattle.history.specs.Named.{lookUp, commit, rollBack, flush, issue, forward, release, writeImage, refused, done, price, noPrice, filled, forwarded, written}
 use Rattle.moments.specs.Moments.{Start, cleared, loaded, Exchange, _⇒_, Moment, word, run, priced, orderOf}
 
 -- the listing's image, and "Book 5 at 1200" as state 0

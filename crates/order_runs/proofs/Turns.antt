@@ -19,8 +19,8 @@ use Rattle.words.proofs.Parts as parts
 use Rattle.changes.proofs.Laws.{over-offers, over-twice, over-zero}
 use Rattle.changes.proofs.Reading.{offersOf, from-by-offers}
 use Rattle.changes.proofs.Single.{from-one}
-use Rattle.grounds.specs.Numbers.{numberOf}
-use Rattle.grounds.specs.declared.Refusal.{Refusal}
+use Rattle.answers.specs.Numbers.{numberOf}
+use Rattle.answers.specs.declared.refusal.Refusal.{Refusal}
 use Rattle.orders.specs.declared.effects.Effect.{Effect}
 use Rattle.orders.specs.declared.effects.Effect.the-variants.{Change, Fails}
 use Rattle.orders.specs.Orders.{orderOffer}

@@ -5,9 +5,9 @@ use Prim.Native.Nat.{ℕ}
 use Rattle.changes.specs.declared.search.Found.{Found}
 use Rattle.changes.specs.Calculus.{find, compose}
 use Rattle.changes.specs.ReadSets.{over}
-use Rattle.grounds.specs.Numbers.{numberOf}
-use Rattle.order_runs.specs.declared.running.Check.{Check}
-use Rattle.order_runs.specs.declared.running.Check.the-variants.{Passed, Stops}
+use Rattle.answers.specs.Numbers.{numberOf}
+use Rattle.answers.specs.declared.answer.Check.{Check}
+use Rattle.answers.specs.declared.answer.Check.the-variants.{Passed, Refused}
 use Rattle.orders.specs.declared.effects.Effect.{Effect}
 use Rattle.orders.specs.declared.effects.Effect.the-variants.{Change, Fails}
 use Rattle.orders.specs.Orders.{orderOffer}
@@ -35,4 +35,4 @@ priced reads orders = run (λ d offer. find offer (over reads d)) [] orders
 -- what comes of a check that passed, or the number of the ground that stops it
 abbrev pub after : Check → Ran → Ran
 after Passed ran = ran
-after (Stops ground) ran = fails (numberOf ground)
+after (Refused ground) ran = fails (numberOf ground)

@@ -1,18 +1,12 @@
 // The run of a batch's orders, in turn, over a copy of the read set. Its offers never change, so an order's place in it stays the one
 // that was found; a mark at each place says whether an order named its offer.
-use grounds::Refusal;
+use answers::answer::Check;
 use orders::effects::Effect;
 use orders::effects::effect_of;
 ghost use mathlib.Core.Path.{_≡_};
 ghost use lib.ListN.{length};
 ghost use Rattle.order_runs.specs.Running.{done, priced, after};
 ghost use Rattle.order_runs.specs.Working.{marked, markCount, Ready};
-
-// Whether something goes on, or the ground that stops it.
-pub enum Check {
-    Passed,
-    Stops(Refusal),
-}
 
 // Runs the orders over a read set, each at its place, and marks the places. The marked words are then the changes; where an
 // order fails, what the words and the marks hold is left to chance.
@@ -29,7 +23,7 @@ pub fn run(orders: &[u64], places: &[usize], words: &mut [u64], marks: &mut [boo
                 marks[place] = true;
                 k += 1;
             }
-            Effect::Fails(ground) => return Check::Stops(ground),
+            Effect::Fails(ground) => return Check::Refused(ground),
         }
     }
     Check::Passed

@@ -6,7 +6,7 @@ use lib.Dec.{leb, ltb}
 use Rattle.entry.specs.Word.{priceOf, putOf, noneOf, isPut}
 use Rattle.changes.specs.declared.search.Found.{Found}
 use Rattle.changes.specs.declared.search.Found.the-variants.{Word, Nothing}
-use Rattle.grounds.specs.declared.Refusal.the-variants.{BadOrder, NoPrice, PriceRange}
+use Rattle.answers.specs.declared.refusal.Refusal.the-variants.{BadOrder, NoPrice, PriceRange}
 use Rattle.orders.specs.declared.effects.Effect.{Effect}
 use Rattle.orders.specs.declared.effects.Effect.the-variants.{Change, Fails}
 use Rattle.orders.specs.Orders.{orderKind, orderAmount, orderOffer, Kind, lists, withdraws, raises, cuts, keeps, unknown, kindNamed}

@@ -1,7 +1,7 @@
 // What one order does (document 01, "Batches"), seen the word that shows its offer's price or none.
 use crate::Order;
+use answers::refusal::Refusal;
 use entry::Entry;
-use grounds::Refusal;
 ghost use mathlib.Core.Path.{_≡_};
 ghost use Prim.Native.Nat.{_^_, _≤_, _<_};
 ghost use Rattle.changes.specs.declared.search.Found.the-variants.{Word};

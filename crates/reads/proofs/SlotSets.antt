@@ -1,14 +1,14 @@
 -- A slot that opens or closes in a list of slots: at the checkpoint's number the least number stays, and without a slot it is no
 -- lower.
 -- Assumes nothing.
-use mathlib.Core.Path.{_≡_, refl, sym, ap, ap₂, _∙_}
+use mathlib.Core.Path.{_≡_, refl, ap}
 use mathlib.Core.Bool.{Bool, true, false}
 use mathlib.Core.List.{List, [], _∷_, map}
-use Prim.Native.Nat.{ℕ, zero, suc, _≤_, _<_, min}
+use Prim.Native.Nat.{ℕ, zero, suc, _≤_, min}
 use native.Mathlib.Omega.{arith}
-use lib.ListN.{length, getD, set}
+use lib.ListN.{getD, set}
 use Rattle.changes.specs.Lists.{All}
-use Rattle.views.specs.View.{Slot, closed, holding, leastSlot, openOf, issuedOf, NotAbove}
+use Rattle.views.specs.View.{Slot, closed, holding, leastSlot, openOf, issuedOf}
 use Rattle.views.proofs.SlotLists.{least-most}
 
 -- a slot set in a list of slots, as the head has it

@@ -3,18 +3,11 @@
 use mathlib.Core.List.{List}
 use Prim.Native.Nat.{ℕ, _-_}
 use lib.ListN.{length, set, take, drop}
-use Rattle.views.specs.View.{View, Slot, heldSteps}
+use Rattle.views.specs.View.{View, viewSlots, Slot, heldSteps}
 
 -- a view with one slot set
 unfoldable pub withSlot : View → ℕ → Slot → View
-withSlot v k s = record {
-  base = v .base;
-  old = v .old;
-  steps = v .steps;
-  checkpoint = v .checkpoint;
-  slots = set (v .slots) k s;
-  limits = v .limits;
-}
+withSlot v k s = viewSlots v (set (v .slots) k s)
 
 -- the held steps that lead from a state to a later one, also below the checkpoint
 unfoldable pub between : View → ℕ → ℕ → List (List ℕ)

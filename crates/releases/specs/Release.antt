@@ -1,30 +1,25 @@
 -- Release (document 01, "Laws of changes"): "Drop only closes it." "After flush, forward or drop the floor is worked out anew".
 -- Assumes nothing.
-use mathlib.Core.Bool.{Bool, false, not}
-use mathlib.Core.List.{List, [], _∷_}
+use mathlib.Core.Bool.{false, not}
+use mathlib.Core.List.{List, [], _∷_, _++_}
 use Prim.Native.Nat.{ℕ}
-use lib.Dec.{leb}
-use lib.ListN.{length, getD}
-use Rattle.grounds.specs.declared.Outcome.{Outcome}
-use Rattle.grounds.specs.declared.Refusal.the-variants.{Lengths, Unsound, SlotRange, SlotClosed}
-use Rattle.grounds.specs.First.{Ground, met, first, ifDone}
+use lib.ListN.{getD}
+use Rattle.answers.specs.declared.answer.Check.{Check}
+use Rattle.answers.specs.declared.call.Reader.{Reader}
+use Rattle.answers.specs.declared.refusal.Refusal.the-variants.{SlotClosed}
+use Rattle.answers.specs.First.{met, first, ifPassed}
 use Rattle.layout.specs.declared.head.Head.{Head}
-use Rattle.layout.specs.Sound.{lengthsB, soundB}
+use Rattle.soundness.specs.Checks.{storeGrounds}
 use Rattle.views.specs.Trim.{trimmedHead, trimmedJournal}
-use Rattle.slots.specs.Slots.{shut}
+use Rattle.slots.specs.Slots.{slotGrounds, shut}
 
 -- grounds 1, 2, 3, 5
-abbrev pub releaseCheck : List ℕ → List ℕ → Head → ℕ → Outcome
-releaseCheck table journal head slot =
-    first
-    (met (not (lengthsB (length table) (length journal))) Lengths
-    ∷ met (not (soundB table journal head)) Unsound
-    ∷ met (leb 8 slot) SlotRange
-    ∷ met (not (getD (head .held) slot false)) SlotClosed
-    ∷ [])
+abbrev pub releaseCheck : List ℕ → List ℕ → Head → Reader → Check
+releaseCheck table journal head reader =
+    first (storeGrounds table journal head ++ slotGrounds reader ++ (met (not (getD (head .held) (reader .slot) false)) SlotClosed ∷ []))
 
-abbrev pub releaseHead : List ℕ → List ℕ → Head → ℕ → Head
-releaseHead table journal head slot = ifDone (releaseCheck table journal head slot) (trimmedHead (shut head slot)) head
+abbrev pub releaseHead : List ℕ → List ℕ → Head → Reader → Head
+releaseHead table journal head reader = ifPassed (releaseCheck table journal head reader) (trimmedHead (shut head (reader .slot))) head
 
-abbrev pub releaseJournal : List ℕ → List ℕ → Head → ℕ → List ℕ
-releaseJournal table journal head slot = ifDone (releaseCheck table journal head slot) (trimmedJournal (shut head slot) journal) journal
+abbrev pub releaseJournal : List ℕ → List ℕ → Head → Reader → List ℕ
+releaseJournal table journal head reader = ifPassed (releaseCheck table journal head reader) (trimmedJournal (shut head (reader .slot)) journal) journal

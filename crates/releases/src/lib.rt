@@ -1,47 +1,52 @@
 // Release (document 01: drop): a slot closes, and the steps that only it needed go.
-use grounds::Outcome;
-use grounds::Refusal;
+use answers::answer::Answer;
+use answers::answer::Check;
+use answers::call::Reader;
+use answers::refusal::Refusal;
 use layout::head::Head;
-use layout::head::SLOTS;
-use layout::head::Stored;
-use layout::sound::is_sound;
-use layout::sound::lengths_fit;
+use layout::head::Reply;
 use slots::close_slot;
+use slots::slot_check;
+use soundness::store_check;
 use views::trim::trim;
 ghost use mathlib.Core.Path.{_≡_};
-ghost use Rattle.grounds.specs.Numbers.{Gives};
+ghost use Rattle.answers.specs.declared.answer.Answer.the-variants.{Done};
+ghost use Rattle.answers.specs.Answers.{Gives, answered};
 ghost use Rattle.releases.specs.Release.{releaseCheck, releaseHead, releaseJournal};
 
 // The first ground on which a release is turned away.
-fn release_check(table: &[u64], journal: &[u64], head: Head, slot: usize) -> Outcome
-    ensures { λ r. ⌜ r ≡ releaseCheck (now (table .entry)) (now (journal .entry)) head slot ⌝ }
+fn release_check(table: &[u64], journal: &[u64], head: Head, reader: Reader) -> Check
+    ensures { λ r. ⌜ r ≡ releaseCheck (now (table .entry)) (now (journal .entry)) head reader ⌝ }
 {
     let held = head.held;
-    if !lengths_fit(table.len(), journal.len()) {
-        return Outcome::Refused(Refusal::Lengths);
-    }
-    if !is_sound(table, journal, head) {
-        return Outcome::Refused(Refusal::Unsound);
-    }
-    if SLOTS <= slot {
-        return Outcome::Refused(Refusal::SlotRange);
-    }
+    let slot = reader.slot;
+    let store = store_check(table, journal, head);
+    let Check::Passed = store else {
+        return store;
+    };
+    let range = slot_check(reader);
+    let Check::Passed = range else {
+        return range;
+    };
     if !held[slot] {
-        return Outcome::Refused(Refusal::SlotClosed);
+        return Check::Refused(Refusal::SlotClosed);
     }
-    Outcome::Done
+    Check::Passed
 }
 
-pub fn release(table: &[u64], journal: &mut [u64], head: Head, slot: usize) -> Stored
-    ensures { λ r. ⌜ Gives (r .outcome) (releaseCheck (now (table .entry)) (now (journal .entry)) head slot) × (r .head ≡ releaseHead (now (table .entry)) (now (journal .entry)) head slot) × (now (journal .exit) ≡ releaseJournal (now (table .entry)) (now (journal .entry)) head slot) ⌝ }
+pub fn release(table: &[u64], journal: &mut [u64], head: Head, reader: Reader) -> Reply
+    ensures { λ r. ⌜ Gives (r .answer) (answered (releaseCheck (now (table .entry)) (now (journal .entry)) head reader) Done) × (r .head ≡ releaseHead (now (table .entry)) (now (journal .entry)) head reader) × (now (journal .exit) ≡ releaseJournal (now (table .entry)) (now (journal .entry)) head reader) ⌝ }
 {
-    let outcome = release_check(table, journal, head, slot);
-    let Outcome::Done = outcome else {
-        return Stored { outcome, head };
-    };
-    let next = trim(journal, close_slot(head, slot));
-    Stored {
-        outcome: Outcome::Done,
+    let check = release_check(table, journal, head, reader);
+    if let Check::Refused(ground) = check {
+        return Reply {
+            answer: Answer::Refused(ground),
+            head,
+        };
+    }
+    let next = trim(journal, close_slot(head, reader.slot));
+    Reply {
+        answer: Answer::Done,
         head: next,
     }
 }

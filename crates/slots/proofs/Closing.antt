@@ -12,7 +12,8 @@ use Rattle.layout.specs.Tests.{least}
 use Rattle.views.specs.Trim.{Trimmable}
 use Rattle.views.specs.View.{Shaped}
 use Rattle.views.proofs.SlotLists.{least-up-to}
-use Rattle.views.proofs.Sounds.{Sound, sound-marked}
+use Rattle.soundness.proofs.Sounds.{Sound}
+use Rattle.views.proofs.SoundFacts.{sound-marked}
 use Rattle.slots.specs.Slots.{shut}
 
 -- with a slot closed the least number is no lower

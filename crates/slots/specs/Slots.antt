@@ -1,28 +1,22 @@
--- A slot that opens or closes: "An open place records the anchor at its issue; a closed one records 0."
+-- The slots of a store, and one that opens or closes: "An open place records the anchor at its issue; a closed one records 0."
 -- Assumes nothing.
 use mathlib.Core.Bool.{true, false}
+use mathlib.Core.List.{List, [], _∷_}
 use Prim.Native.Nat.{ℕ}
+use lib.Dec.{leb}
 use lib.ListN.{set}
+use Rattle.answers.specs.declared.call.Reader.{Reader}
+use Rattle.answers.specs.declared.refusal.Refusal.the-variants.{SlotRange}
+use Rattle.answers.specs.First.{Ground, met}
 use Rattle.layout.specs.declared.head.Head.{Head}
+use Rattle.layout.specs.Heads.{withSlots}
+
+-- ground 3: "The place is above 7."
+abbrev pub slotGrounds : Reader → List Ground
+slotGrounds reader = met (leb 8 (reader .slot)) SlotRange ∷ []
 
 unfoldable pub opened : Head → ℕ → Head
-opened head slot = record {
-  used = head .used;
-  oldest = head .oldest;
-  checkpoint = head .checkpoint;
-  tip = head .tip;
-  held = set (head .held) slot true;
-  issued = set (head .issued) slot (head .checkpoint);
-  ends = head .ends;
-}
+opened head slot = withSlots head (set (head .held) slot true) (set (head .issued) slot (head .checkpoint))
 
 unfoldable pub shut : Head → ℕ → Head
-shut head slot = record {
-  used = head .used;
-  oldest = head .oldest;
-  checkpoint = head .checkpoint;
-  tip = head .tip;
-  held = set (head .held) slot false;
-  issued = set (head .issued) slot 0;
-  ends = head .ends;
-}
+shut head slot = withSlots head (set (head .held) slot false) (set (head .issued) slot 0)

@@ -1,8 +1,23 @@
 // Slots (document 01: reading places) that open and close.
+use answers::answer::Check;
+use answers::call::Reader;
+use answers::refusal::Refusal;
 use layout::head::Head;
+use layout::head::SLOTS;
 ghost use mathlib.Core.Path.{_≡_};
 ghost use Prim.Native.Nat.{_<_};
-ghost use Rattle.slots.specs.Slots.{opened, shut};
+ghost use Rattle.answers.specs.First.{first};
+ghost use Rattle.slots.specs.Slots.{slotGrounds, opened, shut};
+
+// Whether the slot named is one of a store's.
+pub fn slot_check(reader: Reader) -> Check
+    ensures { λ r. ⌜ r ≡ first (slotGrounds reader) ⌝ }
+{
+    if SLOTS <= reader.slot {
+        return Check::Refused(Refusal::SlotRange);
+    }
+    Check::Passed
+}
 
 // The head with the slot open at the checkpoint.
 pub fn open_slot(head: Head, slot: usize) -> Head

@@ -8,8 +8,9 @@ use native.Mathlib.Omega.{arith}
 use borrow.Author.Tests.{ltb-false, not-false}
 use lib.ListN.{length, take, drop, length-append}
 use lib.Seq.{length-take-le, take-at}
-use Rattle.grounds.specs.declared.Outcome.the-variants.{Done}
-use Rattle.grounds.proofs.Firsts.{done-not}
+use Rattle.answers.specs.declared.answer.Check.the-variants.{Passed}
+use Rattle.answers.specs.First.{first}
+use Rattle.answers.proofs.Firsts.{passed-not}
 use Rattle.image.specs.Image.{imageB, countIn, numberIn, wordsIn}
 use Rattle.image.proofs.ImageTest.{Image, image-facts}
 use Rattle.image.proofs.RoundTrip.{image-length}
@@ -17,8 +18,9 @@ use Rattle.image.proofs.Theorems.{written-reads-back}
 use Rattle.image.proofs.Words.{words-in-length}
 use Rattle.layout.specs.declared.head.Head.{Head}
 use Rattle.layout.proofs.HeadTests.{InRange, lengths-facts}
-use Rattle.views.proofs.Sounds.{Sound, sound-facts}
-use Rattle.snapshot.specs.Calls.{loadCheck, writeCheck, imageHere}
+use Rattle.soundness.proofs.Passed.{store-passed}
+use Rattle.soundness.proofs.Sounds.{Sound}
+use Rattle.snapshot.specs.Calls.{loadGrounds, writeCheck, imageHere}
 
 -- a load
 pub record LoadOk (table journal : ℕ) (image : List ℕ) : Type 0 where
@@ -26,11 +28,11 @@ pub record LoadOk (table journal : ℕ) (image : List ℕ) : Type 0 where
   pub image-ok : Image image
   pub room : countIn image ≤ table
 
-pub load-ok : (table journal : ℕ) (image : List ℕ) → loadCheck table journal image ≡ Done → LoadOk table journal image
+pub load-ok : (table journal : ℕ) (image : List ℕ) → first (loadGrounds table journal image) ≡ Passed → LoadOk table journal image
 load-ok table journal image e =
-    let a = done-not _ _ _ e in
-    let b = done-not _ _ _ (a .1) in
-    let c = done-not _ _ _ (b .1) in
+    let a = passed-not _ _ _ e in
+    let b = passed-not _ _ _ (a .1) in
+    let c = passed-not _ _ _ (b .1) in
     record {
       range = lengths-facts table journal (not-false _ (a .0));
       image-ok = image-facts image (not-false _ (b .0));
@@ -43,16 +45,12 @@ pub record WriteOk (table journal : List ℕ) (head : Head) (room : ℕ) : Type 
   pub sound : Sound table journal head
   pub fits : 6 + 8 * head .used ≤ room
 
-pub write-ok : (table journal : List ℕ) (head : Head) (room : ℕ) → writeCheck table journal head room ≡ Done → WriteOk table journal head room
+pub write-ok : (table journal : List ℕ) (head : Head) (room : ℕ) → writeCheck table journal head room ≡ Passed
+    → WriteOk table journal head room
 write-ok table journal head room e =
-    let a = done-not _ _ _ e in
-    let b = done-not _ _ _ (a .1) in
-    let c = done-not _ _ _ (b .1) in
-    record {
-      range = lengths-facts (length table) (length journal) (not-false _ (a .0));
-      sound = sound-facts table journal head (not-false _ (b .0));
-      fits = ltb-false room (6 + 8 * head .used) (c .0);
-    }
+    let a = store-passed table journal head _ e in
+    let b = passed-not _ _ _ (a .1) in
+    record { range = a .0 .range; sound = a .0 .sound; fits = ltb-false room (6 + 8 * head .used) (b .0) }
 
 module _ {table journal : List ℕ} {head : Head} {room : ℕ} (w : WriteOk table journal head room) where
   pub used-long : length (take (head .used) table) ≡ head .used
@@ -63,13 +61,15 @@ module _ {table journal : List ℕ} {head : Head} {room : ℕ} (w : WriteOk tabl
 
   -- the image that is written reads back: it is one, of the checkpoint's number and map
   module _ (small : head .checkpoint < 2 ^ 32) where
-    pub reads-back : (imageB (imageHere table head) ≡ true) × (numberIn (imageHere table head) ≡ head .checkpoint) × (wordsIn (imageHere table head) ≡ take (head .used) table)
+    pub reads-back : (imageB (imageHere table head) ≡ true) × (numberIn (imageHere table head) ≡ head .checkpoint)
+        × (wordsIn (imageHere table head) ≡ take (head .used) table)
     reads-back = written-reads-back (head .checkpoint) (take (head .used) table) small (write-room .0) (w .sound .map)
 
     pub count-back : countIn (imageHere table head) ≡ head .used
     count-back = sym (words-in-length (imageHere table head)) ∙ ap length (reads-back .2) ∙ used-long
 
-  module _ (bytes last : List ℕ) (n : ℕ) (en : n ≡ 6 + 8 * length (take (head .used) table)) (el : last ≡ imageHere table head ++ drop n bytes) where
+  module _ (bytes last : List ℕ) (n : ℕ) (en : n ≡ 6 + 8 * length (take (head .used) table))
+      (el : last ≡ imageHere table head ++ drop n bytes) where
     pub size-is : n ≡ 6 + 8 * head .used
     size-is = omega (arith, used-long)
 
@@ -87,6 +87,8 @@ module _ {table journal : List ℕ} {head : Head} {room : ℕ} (w : WriteOk tabl
     image-part = ap (take n) el ∙ take-at (imageHere table head) (drop n bytes) n image-long
 
     -- and what it needs to be loaded back
-    pub load-room : head .checkpoint < 2 ^ 32 → (6 + 8 * countIn (take n last) ≤ length (take n last)) × (countIn (take n last) ≤ length table)
+    pub load-room : head .checkpoint < 2 ^ 32
+        → (6 + 8 * countIn (take n last) ≤ length (take n last)) × (countIn (take n last) ≤ length table)
     load-room small =
-        rw image-part (omega (arith, image-facts (imageHere table head) (reads-back small .0) .size), omega (arith, count-back small, w .sound .used-in))
+        let whole = image-facts (imageHere table head) (reads-back small .0) in
+        rw image-part (omega (arith, whole .size), omega (arith, count-back small, w .sound .used-in))

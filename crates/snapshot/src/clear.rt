@@ -1,29 +1,29 @@
 // Clear: the empty map as state 0.
 use crate::fresh::fresh_head;
-use grounds::Outcome;
-use grounds::Refusal;
+use answers::answer::Answer;
+use answers::refusal::Refusal;
+use layout::clauses::lengths_fit;
 use layout::head::Head;
-use layout::head::Stored;
-use layout::sound::lengths_fit;
+use layout::head::Reply;
 use words::clear as clear_words;
 ghost use mathlib.Core.Path.{_≡_};
-ghost use lib.ListN.{length};
-ghost use Rattle.grounds.specs.Numbers.{Gives};
-ghost use Rattle.snapshot.specs.Calls.{clearOutcome, clearHead, clearWords};
+ghost use Rattle.answers.specs.declared.answer.Answer.the-variants.{Done};
+ghost use Rattle.answers.specs.Answers.{Gives, answered};
+ghost use Rattle.snapshot.specs.Calls.{clearCheck, clearHead, clearWords};
 
-pub fn clear(table: &mut [u64], journal: &mut [u64], head: Head) -> Stored
-    ensures { λ r. ⌜ Gives (r .outcome) (clearOutcome (now (table .entry)) (now (journal .entry))) × (r .head ≡ clearHead (now (table .entry)) (now (journal .entry)) head) × (now (table .exit) ≡ clearWords (now (table .entry)) (now (journal .entry)) (now (table .entry))) × (now (journal .exit) ≡ clearWords (now (table .entry)) (now (journal .entry)) (now (journal .entry))) ⌝ }
+pub fn clear(table: &mut [u64], journal: &mut [u64], head: Head) -> Reply
+    ensures { λ r. ⌜ Gives (r .answer) (answered (clearCheck (now (table .entry)) (now (journal .entry))) Done) × (r .head ≡ clearHead (now (table .entry)) (now (journal .entry)) head) × (now (table .exit) ≡ clearWords (now (table .entry)) (now (journal .entry)) (now (table .entry))) × (now (journal .exit) ≡ clearWords (now (table .entry)) (now (journal .entry)) (now (journal .entry))) ⌝ }
 {
     if !lengths_fit(table.len(), journal.len()) {
-        return Stored {
-            outcome: Outcome::Refused(Refusal::Lengths),
+        return Reply {
+            answer: Answer::Refused(Refusal::Lengths),
             head,
         };
     }
     clear_words(table);
     clear_words(journal);
-    Stored {
-        outcome: Outcome::Done,
+    Reply {
+        answer: Answer::Done,
         head: fresh_head(0, 0),
     }
 }

@@ -3,6 +3,8 @@ use image::reading::count_of;
 use image::reading::read_words;
 use image::reading::state_of;
 use layout::head::Head;
+use layout::head::MARKS;
+use layout::head::SLOTS;
 use words::clear;
 ghost use mathlib.Core.Path.{_≡_};
 ghost use Prim.Native.Nat.{_+_, _*_, _≤_};
@@ -20,9 +22,9 @@ pub fn fresh_head(used: usize, state: u32) -> Head
         oldest: state,
         checkpoint: state,
         tip: state,
-        held: [false; 8],
-        issued: [0; 8],
-        ends: [0; 64],
+        held: [false; SLOTS],
+        issued: [0; SLOTS],
+        ends: [0; MARKS],
     }
 }
 

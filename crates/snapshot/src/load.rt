@@ -1,43 +1,48 @@
 // Load: the map of an image under its state number.
 use crate::fresh::fill;
-use grounds::Outcome;
-use grounds::Refusal;
+use answers::answer::Answer;
+use answers::answer::Check;
+use answers::refusal::Refusal;
 use image::reading::count_of;
 use image::reading::is_image;
+use layout::clauses::lengths_fit;
 use layout::head::Head;
-use layout::head::Stored;
-use layout::sound::lengths_fit;
+use layout::head::Reply;
 ghost use mathlib.Core.Path.{_≡_};
-ghost use lib.ListN.{length};
-ghost use Rattle.grounds.specs.Numbers.{Gives};
-ghost use Rattle.snapshot.specs.Calls.{loadCheck, loadOutcome, loadHead, loadTable, loadJournal};
+ghost use Rattle.answers.specs.declared.answer.Answer.the-variants.{Done};
+ghost use Rattle.answers.specs.Answers.{Gives, answered};
+ghost use Rattle.answers.specs.First.{first};
+ghost use Rattle.snapshot.specs.Calls.{loadGrounds, loadCheck, loadHead, loadTable, loadJournal};
 
 // The first ground on which a load into memory of these lengths is turned away.
-fn load_check(table: usize, journal: usize, image: &[u8]) -> Outcome
-    ensures { λ r. ⌜ r ≡ loadCheck table journal (now (image .entry)) ⌝ }
+fn load_check(table: usize, journal: usize, image: &[u8]) -> Check
+    ensures { λ r. ⌜ r ≡ first (loadGrounds table journal (now (image .entry))) ⌝ }
 {
     if !lengths_fit(table, journal) {
-        return Outcome::Refused(Refusal::Lengths);
+        return Check::Refused(Refusal::Lengths);
     }
     if !is_image(image) {
-        return Outcome::Refused(Refusal::BadImage);
+        return Check::Refused(Refusal::BadImage);
     }
     if table < count_of(image) {
-        return Outcome::Refused(Refusal::TableFull);
+        return Check::Refused(Refusal::TableFull);
     }
-    Outcome::Done
+    Check::Passed
 }
 
-pub fn load(table: &mut [u64], journal: &mut [u64], head: Head, image: &[u8]) -> Stored
-    ensures { λ r. ⌜ Gives (r .outcome) (loadOutcome (now (table .entry)) (now (journal .entry)) (now (image .entry))) × (r .head ≡ loadHead (now (table .entry)) (now (journal .entry)) (now (image .entry)) head) × (now (table .exit) ≡ loadTable (now (table .entry)) (now (journal .entry)) (now (image .entry))) × (now (journal .exit) ≡ loadJournal (now (table .entry)) (now (journal .entry)) (now (image .entry))) ⌝ }
+pub fn load(table: &mut [u64], journal: &mut [u64], head: Head, image: &[u8]) -> Reply
+    ensures { λ r. ⌜ Gives (r .answer) (answered (loadCheck (now (table .entry)) (now (journal .entry)) (now (image .entry))) Done) × (r .head ≡ loadHead (now (table .entry)) (now (journal .entry)) (now (image .entry)) head) × (now (table .exit) ≡ loadTable (now (table .entry)) (now (journal .entry)) (now (image .entry))) × (now (journal .exit) ≡ loadJournal (now (table .entry)) (now (journal .entry)) (now (image .entry))) ⌝ }
 {
-    let outcome = load_check(table.len(), journal.len(), image);
-    let Outcome::Done = outcome else {
-        return Stored { outcome, head };
-    };
+    let check = load_check(table.len(), journal.len(), image);
+    if let Check::Refused(ground) = check {
+        return Reply {
+            answer: Answer::Refused(ground),
+            head,
+        };
+    }
     let next = fill(table, journal, image);
-    Stored {
-        outcome: Outcome::Done,
+    Reply {
+        answer: Answer::Done,
         head: next,
     }
 }

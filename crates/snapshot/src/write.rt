@@ -1,40 +1,39 @@
 // Writing the image of the checkpoint.
-use grounds::Outcome;
-use grounds::Refusal;
-use grounds::Written;
+use answers::answer::Answer;
+use answers::answer::Check;
+use answers::refusal::Refusal;
 use image::writing::write;
 use layout::head::Head;
-use layout::sound::is_sound;
-use layout::sound::lengths_fit;
+use soundness::store_check;
 ghost use mathlib.Core.Path.{_≡_};
 ghost use Prim.Native.Nat.{_+_, _*_};
 ghost use lib.ListN.{length};
-ghost use Rattle.grounds.specs.Numbers.{GivesCount};
+ghost use Rattle.answers.specs.Answers.{Gives};
 ghost use Rattle.snapshot.specs.Calls.{writeCheck, writeAnswer, writeBytes};
 
 // The first ground on which writing an image into so many bytes is turned away.
-pub fn write_check(table: &[u64], journal: &[u64], head: Head, room: usize) -> Outcome
+pub fn write_check(table: &[u64], journal: &[u64], head: Head, room: usize) -> Check
     ensures { λ r. ⌜ r ≡ writeCheck (now (table .entry)) (now (journal .entry)) head room ⌝ }
 {
-    if !lengths_fit(table.len(), journal.len()) {
-        return Outcome::Refused(Refusal::Lengths);
-    }
-    if !is_sound(table, journal, head) {
-        return Outcome::Refused(Refusal::Unsound);
-    }
+    let store = store_check(table, journal, head);
+    let Check::Passed = store else {
+        return store;
+    };
     if room < 6 + 8 * head.used {
-        return Outcome::Refused(Refusal::OutputShort);
+        return Check::Refused(Refusal::OutputShort);
     }
-    Outcome::Done
+    Check::Passed
 }
 
 // Writes the image to the start of `out`; the bytes behind it stay.
-pub fn write_image(table: &[u64], journal: &[u64], head: Head, out: &mut [u8]) -> Written
-    ensures { λ r. ⌜ GivesCount r (writeAnswer (now (table .entry)) (now (journal .entry)) head (length (now (out .entry)))) × (now (out .exit) ≡ writeBytes (now (table .entry)) (now (journal .entry)) head (now (out .entry))) ⌝ }
+pub fn write_image(table: &[u64], journal: &[u64], head: Head, out: &mut [u8]) -> Answer
+    ensures { λ r. ⌜ Gives r (writeAnswer (now (table .entry)) (now (journal .entry)) head (length (now (out .entry)))) × (now (out .exit) ≡ writeBytes (now (table .entry)) (now (journal .entry)) head (now (out .entry))) ⌝ }
 {
-    let used = head.used;
-    match write_check(table, journal, head, out.len()) {
-        Outcome::Refused(ground) => Written::Refused(ground),
-        Outcome::Done => Written::Count(write(head.checkpoint, &table[..used], out)),
+    let check = write_check(table, journal, head, out.len());
+    if let Check::Refused(ground) = check {
+        return Answer::Refused(ground);
     }
+    let used = head.used;
+    let count = write(head.checkpoint, &table[..used], out);
+    Answer::Count(count)
 }

@@ -7,8 +7,9 @@ use Prim.Native.Nat.{ℕ, _+_, _≤_}
 use lib.ListN.{length}
 use Rattle.changes.specs.Runs.{runWords}
 use Rattle.layout.specs.declared.head.Head.{Head}
-use Rattle.layout.specs.Sound.{lengthsB, soundB}
-use Rattle.views.specs.States.{stepIndex}
+use Rattle.layout.specs.Clauses.{lengthsB}
+use Rattle.soundness.specs.Sound.{soundB}
+use Rattle.layout.specs.States.{stepIndex}
 
 pub record HeldState (table journal : List ℕ) (head : Head) (state : ℕ) : Type 0 where
   pub lengths : lengthsB (length table) (length journal) ≡ true

@@ -1,10 +1,11 @@
 // The map at a state that a store holds, worked out in lent memory.
 use layout::head::Head;
+use layout::states::step_index;
 use runs::compose_run;
 use table::apply;
 ghost use mathlib.Core.Path.{_≡_};
 ghost use lib.ListN.{length, take};
-ghost use Rattle.views.specs.States.{mapHere};
+ghost use Rattle.layout.specs.States.{mapHere};
 ghost use Rattle.state_maps.specs.Held.{HeldState, MapRoom};
 
 // Writes the map at a state to the start of `map`, and gives its length; what `changes` and the words behind the map hold
@@ -21,8 +22,8 @@ pub fn map_at(
     ensures { λ r. ⌜ (r ≡ length (mapHere (now (table .entry)) (now (journal .entry)) head state)) × (take r (now (map .exit)) ≡ mapHere (now (table .entry)) (now (journal .entry)) head state) ⌝ }
 {
     let used = head.used;
-    let from = (head.checkpoint - head.oldest) as usize;
-    let to = (state - head.oldest) as usize;
+    let from = step_index(head, head.checkpoint);
+    let to = step_index(head, state);
     let count = compose_run(journal, &head.ends, from, to, changes, map);
     apply(&table[..used], &changes[..count], map)
 }

@@ -2,4 +2,3 @@ pub mod CommitViews
 pub mod FlushViews
 pub mod OnViews
 pub mod RollViews
-pub mod StepRuns

@@ -6,10 +6,10 @@ use mathlib.Core.List.{List, [], _∷_}
 use Prim.Native.Nat.{ℕ, _+_, _-_, _≤_, min}
 use native.Mathlib.Omega.{arith}
 use Rattle.layout.specs.declared.head.Head.{Head}
-use Rattle.calls.specs.Calls.{headAfter}
-use Rattle.tallies.specs.declared.Tally.{Tally}
-use Rattle.unit.specs.Runs.{Lent, Asked, Accepted, acceptsB, next, after, setsToZeroB, noted, notedAll, sumOf}
-use Rattle.tallies.specs.Tally.{largest, startsAnew, countsOf}
+use Rattle.calls.specs.Meaning.{performed}
+use Rattle.answers.specs.declared.tally.Tally.{Tally}
+use Rattle.unit.specs.Runs.{Carried, Asked, Accepted, lentTo, acceptsB, next, after, setsToZeroB, noted, notedAll, sumOf}
+use Rattle.answers.specs.Counts.{largest, resetsB, countsOf}
 use Rattle.unit.proofs.Effects.{Moves, Effect, turned, began, moved, effect}
 
 -- the numbers of steps committed, rolled back and flushed, the tally that stands for them, and the head
@@ -29,18 +29,19 @@ balance-moves : (c r f cc rr ff tip checkpoint tip' checkpoint' : ℕ) → check
     → cc + c ≡ rr + r + (ff + f) + (tip' - checkpoint')
 balance-moves c r f cc rr ff tip checkpoint tip' checkpoint' h h' e m = omega (arith, e, m)
 
-abbrev pub Kept : List Accepted → Lent → Type 0
+abbrev pub Kept : List Accepted → Carried → Type 0
 Kept calls l = Balanced (sumOf (λ (t : Tally). t .committed) calls) (sumOf (λ (t : Tally). t .«rolled_back») calls) (sumOf (λ (t : Tally). t .flushed) calls) (l .tally) (l .head)
 
 -- what a call does to the head that is lent to it
-abbrev EffectOf : Lent → Asked → Type 0
-EffectOf l a =
-    Effect (acceptsB l a) (startsAnew (a .call)) (countsOf (l .head) (a .call)) (l .head) (headAfter (l .table) (l .journal) (a .words) (a .bytes) (l .head) (a .call))
+abbrev EffectOf : Carried → Asked → Type 0
+EffectOf k a =
+    Effect (acceptsB k a) (resetsB (a .call)) (countsOf (k .head .checkpoint) (k .head .tip) (a .call)) (k .head)
+    (performed (lentTo k a) (a .call) .lent .head)
 
-effect-of : (l : Lent) (a : Asked) → EffectOf l a
-effect-of l a = effect (l .table) (l .journal) (a .words) (a .bytes) (l .head) (a .call)
+effect-of : (k : Carried) (a : Asked) → EffectOf k a
+effect-of k a = effect (lentTo k a) (a .call)
 
-module _ (calls : List Accepted) (l : Lent) (a : Asked) where
+module _ (calls : List Accepted) (l : Carried) (a : Asked) where
   kept-by : EffectOf l a → Kept calls l → Kept (noted calls l a) (next l a)
   unfolding noted next sumOf
   kept-by (turned n same) k = rw n (rw same k)
@@ -56,17 +57,17 @@ module _ (calls : List Accepted) (l : Lent) (a : Asked) where
         balance = balance-moves _ _ _ _ _ _ _ _ _ _ (k .order) (m .order) (k .balance) (m .steps);
       }))
 
-pub kept-next : (calls : List Accepted) (l : Lent) (a : Asked) → Kept calls l → Kept (noted calls l a) (next l a)
+pub kept-next : (calls : List Accepted) (l : Carried) (a : Asked) → Kept calls l → Kept (noted calls l a) (next l a)
 kept-next calls l a = kept-by calls l a (effect-of l a)
 
-pub kept-after : (calls : List Accepted) (l : Lent) (asked : List Asked) → Kept calls l → Kept (notedAll calls l asked) (after l asked)
+pub kept-after : (calls : List Accepted) (l : Carried) (asked : List Asked) → Kept calls l → Kept (notedAll calls l asked) (after l asked)
 unfolding notedAll after
 kept-after calls l [] k = k
 kept-after calls l (a ∷ asked) k = kept-after (noted calls l a) (next l a) asked (kept-next calls l a k)
 
 -- an accepted clear, load or restart starts a tally that stands for no steps, whatever was lent to it
-module _ (l : Lent) (a : Asked) where
-  starts-by : EffectOf l a → acceptsB l a ≡ true → startsAnew (a .call) ≡ true → Kept [] (next l a)
+module _ (l : Carried) (a : Asked) where
+  starts-by : EffectOf l a → acceptsB l a ≡ true → resetsB (a .call) ≡ true → Kept [] (next l a)
   unfolding next sumOf
   starts-by (turned n same) y anew = absurd (let z : _≡_ {A = Bool} true false = sym y ∙ n in let z : _≡_ {A = ℕ} 0 1 = cc in omega arith)
   starts-by (moved t on moves) y anew = absurd (let z : _≡_ {A = Bool} true false = sym anew ∙ on in let z : _≡_ {A = ℕ} 0 1 = cc in omega arith)
@@ -75,7 +76,7 @@ module _ (l : Lent) (a : Asked) where
 
   pub starts : setsToZeroB l a ≡ true → Kept [] (next l a)
   starts e =
-      let b = and-eq-true-iff (acceptsB l a) (startsAnew (a .call)) .0 e in
+      let b = and-eq-true-iff (acceptsB l a) (resetsB (a .call)) .0 e in
       starts-by (effect-of l a) (b .0) (b .1)
 
 -- a count below its largest value is its sum

@@ -7,55 +7,77 @@ use mathlib.Core.List.{List}
 use Prim.Native.Nat.{ℕ, _+_, _-_, _≤_}
 use native.Mathlib.Omega.{arith}
 use lib.ListN.{length}
-use Rattle.grounds.specs.declared.Outcome.{Outcome}
-use Rattle.grounds.specs.declared.Outcome.the-variants.{Done, Refused}
-use Rattle.grounds.specs.First.{ifDone}
+use Rattle.answers.specs.declared.answer.Answer.{Answer}
+use Rattle.answers.specs.declared.answer.Check.{Check}
+use Rattle.answers.specs.declared.answer.Check.the-variants.{Passed, Refused}
+use Rattle.answers.specs.declared.call.Call.{Call}
+use Rattle.answers.specs.declared.call.Call.the-variants.{Reset, Step, Read, Ask}
+use Rattle.answers.specs.declared.call.Read.{Read as ReadCall}
+use Rattle.answers.specs.declared.call.Read.the-variants.{Issue, Forward, Release}
+use Rattle.answers.specs.declared.call.Reset.{Reset as ResetCall}
+use Rattle.answers.specs.declared.call.Reset.the-variants.{Clear, Load, Restart}
+use Rattle.answers.specs.declared.call.Step.{Step as StepCall}
+use Rattle.answers.specs.declared.call.Step.the-variants.{Commit, RollBack, Flush}
+use Rattle.answers.specs.declared.tally.Tally.{Tally}
+use Rattle.answers.specs.Answers.{acceptedB, answered}
+use Rattle.answers.specs.First.{ifPassed}
+use Rattle.answers.specs.Counts.{resetsB, counts, stepCounts, countsOf}
 use Rattle.image.specs.Image.{countIn, numberIn}
 use Rattle.layout.specs.declared.head.Head.{Head}
-use Rattle.layout.specs.Sound.{heldOf}
-use Rattle.views.specs.States.{mapHere}
+use Rattle.layout.specs.States.{heldOf, mapHere}
 use Rattle.views.specs.Trim.{trimmedHead}
-use Rattle.forwards.specs.Forward.{forwardCheck}
-use Rattle.issues.specs.Issue.{issueCheck}
-use Rattle.lookups.specs.LookUp.{lookUp}
-use Rattle.releases.specs.Release.{releaseCheck}
 use Rattle.slots.specs.Slots.{opened, shut}
-use Rattle.snapshot.specs.Calls.{clearOutcome, loadOutcome, writeCheck, writeAnswer, imageHere}
+use Rattle.snapshot.specs.Calls.{imageHere}
 use Rattle.snapshot.specs.Fresh.{freshHead}
-use Rattle.commits.specs.Commit.{commitCheck, usedOf, withStep}
-use Rattle.flushes.specs.Flush.{flushCheck, flushedHead}
-use Rattle.rollbacks.specs.RollBack.{rollCheck, keptOf, cutTo}
-use Rattle.rollbacks.proofs.Accepted.{roll-ok}
+use Rattle.commits.specs.Commit.{usedOf, withStep}
+use Rattle.flushes.specs.Flush.{flushedHead}
 use Rattle.flushes.proofs.Flushing.{flush-ok}
-use Rattle.calls.specs.declared.call.Call.{Call}
-use Rattle.calls.specs.declared.call.Call.the-variants.{Clear, Load, WriteImage, Restart, Commit, RollBack, Flush, LookUp, Issue, Forward, Release}
-use Rattle.calls.specs.Answers.{actedAs, quotedAs, countedAs}
-use Rattle.calls.specs.Calls.{answerTo, headAfter}
-use Rattle.tallies.specs.declared.Tally.{Tally}
-use Rattle.tallies.specs.Tally.{acceptedB, startsAnew, counts, countsOf}
+use Rattle.rollbacks.specs.RollBack.{keptOf, cutTo}
+use Rattle.rollbacks.proofs.Accepted.{roll-ok}
+use Rattle.calls.specs.Lent.{Lent, Left, Meaning, asks, settled}
+use Rattle.calls.specs.Meaning.{resetOf, stepOf, readCallOf, queryOf, performed}
 
 -- from one head to another by so many steps committed, rolled back and flushed
 pub record Moves (count : Tally) (from to : Head) : Type 0 where
   pub order : to .checkpoint ≤ to .tip
   pub steps : count .committed + (from .tip - from .checkpoint) ≡ count .«rolled_back» + count .flushed + (to .tip - to .checkpoint)
 
-pub data Effect (accepted anew : Bool) (count : Tally) (from to : Head) : Type 0 where
-  turned : accepted ≡ false → to ≡ from → Effect accepted anew count from to
-  began : accepted ≡ true → anew ≡ true → to .tip ≡ to .checkpoint → Effect accepted anew count from to
-  moved : accepted ≡ true → anew ≡ false → (from .checkpoint ≤ from .tip → Moves count from to) → Effect accepted anew count from to
+pub data Effect (accepted resets : Bool) (count : Tally) (from to : Head) : Type 0 where
+  turned : accepted ≡ false → to ≡ from → Effect accepted resets count from to
+  began : accepted ≡ true → resets ≡ true → to .tip ≡ to .checkpoint → Effect accepted resets count from to
+  moved : accepted ≡ true → resets ≡ false → (from .checkpoint ≤ from .tip → Moves count from to) → Effect accepted resets count from to
 
-begins : (o : Outcome) (new old : Head) (count : Tally) → new .tip ≡ new .checkpoint → Effect (acceptedB (actedAs o)) true count old (ifDone o new old)
-begins Done new old count e = began refl refl e
-begins (Refused r) new old count e = turned refl refl
+-- by its check, a call that makes the store anew, and one that moves the head
+module _ (l : Lent) (count : Tally) where
+  begins-by : (c : Check) (made : Left) → acceptedB (made .answer) ≡ true → made .lent .head .tip ≡ made .lent .head .checkpoint
+      → Effect (acceptedB (answered c (made .answer))) true count (l .head) (ifPassed c (made .lent) l .head)
+  begins-by Passed made y e = began y refl e
+  begins-by (Refused r) made y e = turned refl refl
 
-goes : (o : Outcome) (new old : Head) (count : Tally) → (o ≡ Done → old .checkpoint ≤ old .tip → Moves count old new)
-    → Effect (acceptedB (actedAs o)) false count old (ifDone o new old)
-goes Done new old count f = moved refl refl (f refl)
-goes (Refused r) new old count f = turned refl refl
+  begins : (m : Meaning) → acceptedB (m .accepted .answer) ≡ true → m .accepted .lent .head .tip ≡ m .accepted .lent .head .checkpoint
+      → Effect (acceptedB (settled m l .answer)) true count (l .head) (settled m l .lent .head)
+  begins m = begins-by (m .check) (m .accepted)
 
-stays : (accepted : Bool) (head : Head) → Effect accepted false (counts 0 0 0) head head
-stays true head = moved refl refl (λ h. record { order = h; steps = refl })
-stays false head = turned refl refl
+  goes-by : (c : Check) (made : Left) → acceptedB (made .answer) ≡ true
+      → (c ≡ Passed → l .head .checkpoint ≤ l .head .tip → Moves count (l .head) (made .lent .head))
+      → Effect (acceptedB (answered c (made .answer))) false count (l .head) (ifPassed c (made .lent) l .head)
+  goes-by Passed made y f = moved y refl (f refl)
+  goes-by (Refused r) made y f = turned refl refl
+
+  goes : (m : Meaning) → acceptedB (m .accepted .answer) ≡ true
+      → (m .check ≡ Passed → l .head .checkpoint ≤ l .head .tip → Moves count (l .head) (m .accepted .lent .head))
+      → Effect (acceptedB (settled m l .answer)) false count (l .head) (settled m l .lent .head)
+  goes m = goes-by (m .check) (m .accepted)
+
+still : (accepted : Bool) (head : Head) → Effect accepted false (counts 0 0 0) head head
+still true head = moved refl refl (λ h. record { order = h; steps = refl })
+still false head = turned refl refl
+
+stays : (l : Lent) (c : Check) (answer : Answer) (words bytes : List ℕ)
+    → let left = settled (asks l (record { check = c; answer = answer; words = words; bytes = bytes })) l in
+    Effect (acceptedB (left .answer)) false (counts 0 0 0) (l .head) (left .lent .head)
+stays l Passed answer words bytes = still (acceptedB answer) (l .head)
+stays l (Refused r) answer words bytes = still false (l .head)
 
 -- the heads that accepted calls leave
 fresh-one : (used number : ℕ) → freshHead used number .tip ≡ freshHead used number .checkpoint
@@ -83,26 +105,40 @@ shuts : (head : Head) (slot : ℕ) → head .checkpoint ≤ head .tip → Moves 
 unfolding shut trimmedHead
 shuts head slot h = record { order = h; steps = refl }
 
-pub effect : (table journal words bytes : List ℕ) (head : Head) (call : Call)
-    → Effect (acceptedB (answerTo table journal words bytes head call)) (startsAnew call) (countsOf head call) head (headAfter table journal words bytes head call)
-effect table journal words bytes head Clear = begins (clearOutcome table journal) (freshHead 0 0) head _ (fresh-one 0 0)
-effect table journal words bytes head Load =
-    begins (loadOutcome table journal bytes) (freshHead (countIn bytes) (numberIn bytes)) head _ (fresh-one (countIn bytes) (numberIn bytes))
-effect table journal words bytes head WriteImage = stays (acceptedB (countedAs (writeAnswer table journal head (length bytes)))) head
-effect table journal words bytes head Restart =
-    let image = imageHere table head in
-    begins (writeCheck table journal head (length bytes)) (freshHead (countIn image) (numberIn image)) head _ (fresh-one (countIn image) (numberIn image))
-effect table journal words bytes head Commit =
-    goes (commitCheck table journal head words) (withStep head (heldOf head) (usedOf head + length words)) head _ (λ e h. step-added head (heldOf head) (usedOf head + length words) h)
-effect table journal words bytes head (RollBack state) =
-    goes (rollCheck table journal head state) (cutTo head (keptOf head state) state) head _
-    (λ e h. let ok = roll-ok table journal head state e in rolled head (keptOf head state) state (ok .low) (ok .high))
-effect table journal words bytes head (Flush state) =
-    let used = length (mapHere table journal head state) in
-    goes (flushCheck table journal head state) (trimmedHead (flushedHead head used state)) head _
-    (λ e h. let ok = flush-ok table journal head state e in flushed head used state (ok .low) (ok .high))
-effect table journal words bytes head (LookUp offer state) = stays (acceptedB (quotedAs (lookUp table journal head offer state))) head
-effect table journal words bytes head (Issue slot) = goes (issueCheck table journal head slot words) (opened head slot) head _ (λ e h. opens head slot h)
-effect table journal words bytes head (Forward slot state) =
-    goes (forwardCheck table journal head slot state words) (trimmedHead (shut head slot)) head _ (λ e h. shuts head slot h)
-effect table journal words bytes head (Release slot) = goes (releaseCheck table journal head slot) (trimmedHead (shut head slot)) head _ (λ e h. shuts head slot h)
+-- what each call does, by groups
+resets : (l : Lent) (call : ResetCall) (count : Tally)
+    → let left = settled (resetOf l call) l in
+    Effect (acceptedB (left .answer)) true count (l .head) (left .lent .head)
+resets l Clear count = begins l count (resetOf l Clear) refl (fresh-one 0 0)
+resets l Load count = begins l count (resetOf l Load) refl (fresh-one (countIn (l .bytes)) (numberIn (l .bytes)))
+resets l Restart count =
+    let image = imageHere (l .table) (l .head) in
+    begins l count (resetOf l Restart) refl (fresh-one (countIn image) (numberIn image))
+
+steps : (l : Lent) (call : StepCall)
+    → let left = settled (stepOf l call) l in
+    Effect (acceptedB (left .answer)) false (stepCounts (l .head .checkpoint) (l .head .tip) call) (l .head) (left .lent .head)
+steps l Commit = goes l _ (stepOf l Commit) refl (λ e h. step-added (l .head) (heldOf (l .head)) (usedOf (l .head) + length (l .words)) h)
+steps l (RollBack state) =
+    goes l _ (stepOf l (RollBack state)) refl
+    (λ e h. let ok = roll-ok (l .table) (l .journal) (l .head) state e in rolled (l .head) (keptOf (l .head) state) state (ok .low) (ok .high))
+steps l (Flush state) =
+    let used = length (mapHere (l .table) (l .journal) (l .head) state) in
+    goes l _ (stepOf l (Flush state)) refl (λ e h. let ok = flush-ok (l .table) (l .journal) (l .head) state e in flushed (l .head) used state (ok .low) (ok .high))
+
+reads : (l : Lent) (call : ReadCall)
+    → let left = settled (readCallOf l call) l in
+    Effect (acceptedB (left .answer)) false (counts 0 0 0) (l .head) (left .lent .head)
+reads l (Issue reader) = goes l _ (readCallOf l (Issue reader)) refl (λ e h. opens (l .head) (reader .slot) h)
+reads l (Forward reader state) = goes l _ (readCallOf l (Forward reader state)) refl (λ e h. shuts (l .head) (reader .slot) h)
+reads l (Release reader) = goes l _ (readCallOf l (Release reader)) refl (λ e h. shuts (l .head) (reader .slot) h)
+
+pub effect : (l : Lent) (call : Call)
+    → let left = performed l call in
+    Effect (acceptedB (left .answer)) (resetsB call) (countsOf (l .head .checkpoint) (l .head .tip) call) (l .head) (left .lent .head)
+effect l (Reset call) = resets l call (counts 0 0 0)
+effect l (Step call) = steps l call
+effect l (Read call) = reads l call
+effect l (Ask query) =
+    let a = queryOf l query in
+    stays l (a .check) (a .answer) (a .words) (a .bytes)

@@ -1,23 +1,21 @@
--- What is served, from its parts.
+-- What is served, from what the call performs and the tally after it.
 -- Assumes nothing.
-use mathlib.Core.Path.{_≡_, _∙_}
+use mathlib.Core.Path.{_≡_, ap, _∙_}
+use mathlib.Core.List.{List}
 use Prim.Native.Nat.{ℕ}
-use Rattle.layout.specs.declared.head.Head.{Head}
-use Rattle.calls.specs.declared.call.Call.{Call}
-use Rattle.calls.specs.declared.call.Reply.{Reply}
-use Rattle.calls.specs.Answers.{answerAs}
-use Rattle.tallies.specs.declared.Tally.{Tally}
-use Rattle.tallies.specs.Tally.{counts, countsOf, countAfter, tallyAfter}
-use Rattle.unit.specs.Serve.{servedAs, GivesServed}
+use Rattle.answers.specs.declared.answer.Answer.{Answer}
+use Rattle.answers.specs.declared.call.Call.{Call}
+use Rattle.answers.specs.declared.tally.Tally.{Tally}
+use Rattle.answers.specs.Counts.{tallyAfter}
+use Rattle.layout.specs.declared.head.Reply.{Reply}
+use Rattle.calls.specs.Lent.{Lent, Performs}
+use Rattle.calls.specs.Meaning.{performed}
+use Rattle.unit.specs.Serve.{Serves}
 
-module _ (c r f : ℕ) (head : Head) (call : Call) (meant : Reply) {reply : Reply} {one : Tally} {c' r' f' : ℕ} where
-  pub served-is : reply ≡ meant → one ≡ countsOf head call
-      → c' ≡ countAfter (reply .answer) call c (one .committed)
-      → r' ≡ countAfter (reply .answer) call r (one .«rolled_back»)
-      → f' ≡ countAfter (reply .answer) call f (one .flushed)
-      → GivesServed (servedAs reply (counts c' r' f')) (servedAs meant (tallyAfter (counts c r f) head call (meant .answer)))
-  served-is p q pc pr pf =
-      let sc = pc ∙ (λ i. countAfter (p i .answer) call c (q i .committed)) in
-      let sr = pr ∙ (λ i. countAfter (p i .answer) call r (q i .«rolled_back»)) in
-      let sf = pf ∙ (λ i. countAfter (p i .answer) call f (q i .flushed)) in
-      (λ i. servedAs (p i) (counts (sc i) (sr i) (sf i)), λ i. answerAs (p i .answer))
+pub served-is : (tally : Tally) (l : Lent) (call : Call) {reply : Reply} {after : Tally} {table journal words bytes : List ℕ}
+    → Performs (performed l call) (reply .answer) table journal words bytes (reply .head)
+    → after ≡ tallyAfter tally (l .head .checkpoint) (l .head .tip) call (reply .answer)
+    → Serves tally l call (record { reply = reply; tally = after }) table journal words bytes
+served-is tally l call g e =
+    let counted = e ∙ ap (tallyAfter tally (l .head .checkpoint) (l .head .tip) call) (g .0 .0) in
+    ((λ i. record { reply = record { answer = g .0 .0 i; head = g .5 i }; tally = counted i }, g .0 .1), g .1, g .2, g .3, g .4)

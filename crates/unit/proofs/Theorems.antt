@@ -7,21 +7,21 @@ use mathlib.Core.Bool.{true, false}
 use mathlib.Core.List.{List, []}
 use Prim.Native.Nat.{ℕ, _+_, _-_, _≤_, min}
 use native.Mathlib.Omega.{arith}
-use Rattle.layout.specs.declared.head.Head.{Head}
-use Rattle.calls.specs.declared.call.Answer.{Answer}
-use Rattle.calls.specs.declared.call.Call.{Call}
-use Rattle.tallies.specs.declared.Tally.{Tally}
-use Rattle.unit.specs.Runs.{Lent, Asked, next, after, setsToZeroB, committedBy, rolledBackBy, flushedBy}
-use Rattle.tallies.specs.Tally.{acceptedB, largest, startsAnew, counts, countsOf, tallyAfter}
+use Rattle.answers.specs.declared.answer.Answer.{Answer}
+use Rattle.answers.specs.declared.call.Call.{Call}
+use Rattle.answers.specs.declared.tally.Tally.{Tally}
+use Rattle.answers.specs.Answers.{acceptedB}
+use Rattle.answers.specs.Counts.{largest, resetsB, counts, countsOf, tallyAfter}
+use Rattle.answers.proofs.Counting.{count-kept}
+use Rattle.unit.specs.Runs.{Carried, Asked, next, after, setsToZeroB, committedBy, rolledBackBy, flushedBy}
 use Rattle.unit.proofs.Balance.{Balanced, kept-after, starts, exact}
-use Rattle.tallies.proofs.Counting.{count-kept}
 
 -- An accepted clear, load or restart, and then any calls: refused ones, and more clears, loads and restarts, among them.
-module _ (lent : Lent) (first : Asked) (zeroed : setsToZeroB lent first ≡ true) (asked : List Asked) where
-  abbrev start : Lent
+module _ (lent : Carried) (first : Asked) (zeroed : setsToZeroB lent first ≡ true) (asked : List Asked) where
+  abbrev start : Carried
   start = next lent first
 
-  abbrev end : Lent
+  abbrev end : Carried
   end = after start asked
 
   kept : Balanced (committedBy start asked) (rolledBackBy start asked) (flushedBy start asked) (end .tally) (end .head)
@@ -51,15 +51,15 @@ module _ (lent : Lent) (first : Asked) (zeroed : setsToZeroB lent first ≡ true
       ec ∙ sums-balance ∙ (λ i. sym er i + sym ef i + (end .head .tip - end .head .checkpoint))
 
 -- "everything lent and the head keep their values" where a call is turned away: the tally too
-pub refused-keeps : (tally : Tally) (head : Head) (call : Call) (answer : Answer) → acceptedB answer ≡ false → tallyAfter tally head call answer ≡ tally
-refused-keeps tally head call answer e = rw e refl
+pub refused-keeps : (tally : Tally) (checkpoint tip : ℕ) (call : Call) (answer : Answer) → acceptedB answer ≡ false → tallyAfter tally checkpoint tip call answer ≡ tally
+refused-keeps tally checkpoint tip call answer e = rw e refl
 
 -- a call that commits, rolls back and flushes nothing, and does not start the tally anew, leaves counts of 64 bits as they came
-pub others-keep : (tally : Tally) (head : Head) (call : Call) (answer : Answer)
+pub others-keep : (tally : Tally) (checkpoint tip : ℕ) (call : Call) (answer : Answer)
     → tally .committed ≤ largest → tally .«rolled_back» ≤ largest → tally .flushed ≤ largest
-    → startsAnew call ≡ false → countsOf head call ≡ counts 0 0 0 → tallyAfter tally head call answer ≡ tally
-others-keep tally head call answer hc hr hf on none =
-    let c = count-kept (acceptedB answer) (startsAnew call) (tally .committed) on hc in
-    let r = count-kept (acceptedB answer) (startsAnew call) (tally .«rolled_back») on hr in
-    let f = count-kept (acceptedB answer) (startsAnew call) (tally .flushed) on hf in
+    → resetsB call ≡ false → countsOf checkpoint tip call ≡ counts 0 0 0 → tallyAfter tally checkpoint tip call answer ≡ tally
+others-keep tally checkpoint tip call answer hc hr hf on none =
+    let c = count-kept (acceptedB answer) (resetsB call) (tally .committed) on hc in
+    let r = count-kept (acceptedB answer) (resetsB call) (tally .«rolled_back») on hr in
+    let f = count-kept (acceptedB answer) (resetsB call) (tally .flushed) on hf in
     rw none (λ i. counts (c i) (r i) (f i))

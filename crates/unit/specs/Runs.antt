@@ -5,14 +5,16 @@ use mathlib.Core.Bool.{Bool, _&&_, cond}
 use mathlib.Core.List.{List, [], _∷_}
 use Prim.Native.Nat.{ℕ, _+_}
 use Rattle.layout.specs.declared.head.Head.{Head}
-use Rattle.calls.specs.declared.call.Answer.{Answer}
-use Rattle.calls.specs.declared.call.Call.{Call}
-use Rattle.calls.specs.Calls.{answerTo, headAfter, tableAfter, journalAfter}
-use Rattle.tallies.specs.declared.Tally.{Tally}
-use Rattle.tallies.specs.Tally.{acceptedB, startsAnew, countsOf, tallyAfter}
+use Rattle.answers.specs.declared.call.Call.{Call}
+use Rattle.answers.specs.declared.tally.Tally.{Tally}
+use Rattle.answers.specs.Answers.{acceptedB}
+use Rattle.answers.specs.Counts.{resetsB, countsOf}
+use Rattle.calls.specs.Lent.{Lent, lent}
+use Rattle.calls.specs.Meaning.{performed}
+use Rattle.unit.specs.Serve.{tallyOn}
 
 -- what the caller hands from one call to the next
-pub record Lent : Type 0 where
+pub record Carried : Type 0 where
   pub tally : Tally
   pub table : List ℕ
   pub journal : List ℕ
@@ -24,29 +26,27 @@ pub record Asked : Type 0 where
   pub words : List ℕ
   pub bytes : List ℕ
 
-abbrev pub answered : Lent → Asked → Answer
-answered l a = answerTo (l .table) (l .journal) (a .words) (a .bytes) (l .head) (a .call)
+-- what is lent to it
+abbrev pub lentTo : Carried → Asked → Lent
+lentTo k a = lent (k .table) (k .journal) (a .words) (a .bytes) (k .head)
 
-abbrev pub acceptsB : Lent → Asked → Bool
-acceptsB l a = acceptedB (answered l a)
+abbrev pub acceptsB : Carried → Asked → Bool
+acceptsB k a = acceptedB (performed (lentTo k a) (a .call) .answer)
 
 -- what one call leaves, as the contract of `serve` has it
-unfoldable pub next : Lent → Asked → Lent
-next l a = record {
-  tally = tallyAfter (l .tally) (l .head) (a .call) (answered l a);
-  table = tableAfter (l .table) (l .journal) (a .words) (a .bytes) (l .head) (a .call);
-  journal = journalAfter (l .table) (l .journal) (a .words) (a .bytes) (l .head) (a .call);
-  head = headAfter (l .table) (l .journal) (a .words) (a .bytes) (l .head) (a .call);
-}
+unfoldable pub next : Carried → Asked → Carried
+next k a =
+    let left = performed (lentTo k a) (a .call) .lent in
+    record { tally = tallyOn (k .tally) (lentTo k a) (a .call); table = left .table; journal = left .journal; head = left .head }
 
 -- and what a list of calls leaves
-unfoldable pub after : Lent → List Asked → Lent
-after l [] = l
-after l (a ∷ asked) = after (next l a) asked
+unfoldable pub after : Carried → List Asked → Carried
+after k [] = k
+after k (a ∷ asked) = after (next k a) asked
 
 -- "Clear, load and restart set it to zero": an accepted one of these
-abbrev pub setsToZeroB : Lent → Asked → Bool
-setsToZeroB l a = acceptsB l a && startsAnew (a .call)
+abbrev pub setsToZeroB : Carried → Asked → Bool
+setsToZeroB k a = acceptsB k a && resetsB (a .call)
 
 -- an accepted call, and the head that it was made with
 pub record Accepted : Type 0 where
@@ -54,25 +54,25 @@ pub record Accepted : Type 0 where
   pub call : Call
 
 -- the accepted calls since the last one that set the tally to zero, newest first: those before a call, and with it
-unfoldable pub noted : List Accepted → Lent → Asked → List Accepted
-noted calls l a = cond (acceptsB l a) (cond (startsAnew (a .call)) [] (record { head = l .head; call = a .call } ∷ calls)) calls
+unfoldable pub noted : List Accepted → Carried → Asked → List Accepted
+noted calls k a = cond (acceptsB k a) (cond (resetsB (a .call)) [] (record { head = k .head; call = a .call } ∷ calls)) calls
 
 -- and with a list of calls
-unfoldable pub notedAll : List Accepted → Lent → List Asked → List Accepted
-notedAll calls l [] = calls
-notedAll calls l (a ∷ asked) = notedAll (noted calls l a) (next l a) asked
+unfoldable pub notedAll : List Accepted → Carried → List Asked → List Accepted
+notedAll calls k [] = calls
+notedAll calls k (a ∷ asked) = notedAll (noted calls k a) (next k a) asked
 
 -- the steps that calls committed, rolled back and flushed, with no stop at any value
 unfoldable pub sumOf : (Tally → ℕ) → List Accepted → ℕ
 sumOf count [] = 0
-sumOf count (c ∷ calls) = count (countsOf (c .head) (c .call)) + sumOf count calls
+sumOf count (c ∷ calls) = count (countsOf (c .head .checkpoint) (c .head .tip) (c .call)) + sumOf count calls
 
 -- the same of a list of calls that follows one that set the tally to zero; one of the list that sets it to zero starts the sums anew
-abbrev pub committedBy : Lent → List Asked → ℕ
-committedBy l asked = sumOf (λ (t : Tally). t .committed) (notedAll [] l asked)
+abbrev pub committedBy : Carried → List Asked → ℕ
+committedBy k asked = sumOf (λ (t : Tally). t .committed) (notedAll [] k asked)
 
-abbrev pub rolledBackBy : Lent → List Asked → ℕ
-rolledBackBy l asked = sumOf (λ (t : Tally). t .«rolled_back») (notedAll [] l asked)
+abbrev pub rolledBackBy : Carried → List Asked → ℕ
+rolledBackBy k asked = sumOf (λ (t : Tally). t .«rolled_back») (notedAll [] k asked)
 
-abbrev pub flushedBy : Lent → List Asked → ℕ
-flushedBy l asked = sumOf (λ (t : Tally). t .flushed) (notedAll [] l asked)
+abbrev pub flushedBy : Carried → List Asked → ℕ
+flushedBy k asked = sumOf (λ (t : Tally). t .flushed) (notedAll [] k asked)

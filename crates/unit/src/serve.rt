@@ -1,29 +1,22 @@
-// The one function that is lent the tally, and its core on plain numbers, which proved callers use.
-use calls::call::Call;
-use calls::call::Reply;
+// The one function that is lent the tally, and its core, which takes the tally by value.
+use answers::call::Call;
+use answers::tally::Tally;
+use answers::tally::tally_after;
 use calls::perform::perform;
 use layout::head::Head;
-use tallies::Tally;
-use tallies::count_after;
-use tallies::counts_of;
-ghost use mathlib.Core.Path.{_≡_};
-ghost use Rattle.calls.specs.Calls.{GivesReply, answerTo, replyTo, tableAfter, journalAfter, wordsAfter, bytesAfter};
-ghost use Rattle.unit.specs.Serve.{GivesServed, served};
-ghost use Rattle.tallies.specs.Tally.{tallyAfter};
+use layout::head::Reply;
+ghost use Rattle.calls.specs.Lent.{lent};
+ghost use Rattle.unit.specs.Serve.{Serves, Replies};
 
-// The reply to a call, and the counts of the tally after it.
+// The reply to a call, and the tally after it.
 pub struct Served {
     pub reply: Reply,
-    pub committed: u64,
-    pub rolled_back: u64,
-    pub flushed: u64,
+    pub tally: Tally,
 }
 
-// Serves a call; the counts of the tally go in and come back as numbers.
+// Serves a call; the tally goes in and comes back by value.
 pub fn serve_core(
-    committed: u64,
-    rolled_back: u64,
-    flushed: u64,
+    tally: Tally,
     table: &mut [u64],
     journal: &mut [u64],
     words: &mut [u64],
@@ -31,16 +24,13 @@ pub fn serve_core(
     head: Head,
     call: Call,
 ) -> Served
-    ensures { λ r. ⌜ GivesServed r (served committed «rolled_back» flushed (now (table .entry)) (now (journal .entry)) (now (words .entry)) (now (bytes .entry)) head call) × (now (table .exit) ≡ tableAfter (now (table .entry)) (now (journal .entry)) (now (words .entry)) (now (bytes .entry)) head call) × (now (journal .exit) ≡ journalAfter (now (table .entry)) (now (journal .entry)) (now (words .entry)) (now (bytes .entry)) head call) × (now (words .exit) ≡ wordsAfter (now (table .entry)) (now (journal .entry)) (now (words .entry)) (now (bytes .entry)) head call) × (now (bytes .exit) ≡ bytesAfter (now (table .entry)) (now (journal .entry)) (now (words .entry)) (now (bytes .entry)) head call) ⌝ }
+    ensures { λ r. ⌜ Serves tally (lent (now (table .entry)) (now (journal .entry)) (now (words .entry)) (now (bytes .entry)) head) call r (now (table .exit)) (now (journal .exit)) (now (words .exit)) (now (bytes .exit)) ⌝ }
 {
     let reply = perform(table, journal, words, bytes, head, call);
     let answer = reply.answer;
-    let counts = counts_of(head, call);
     Served {
         reply,
-        committed: count_after(answer, call, committed, counts.committed),
-        rolled_back: count_after(answer, call, rolled_back, counts.rolled_back),
-        flushed: count_after(answer, call, flushed, counts.flushed),
+        tally: tally_after(tally, head.checkpoint, head.tip, call, answer),
     }
 }
 
@@ -54,21 +44,10 @@ pub fn serve(
     head: Head,
     call: Call,
 ) -> Reply
-    ensures { λ r. ⌜ GivesReply r (replyTo (now (table .entry)) (now (journal .entry)) (now (words .entry)) (now (bytes .entry)) head call) × (now (tally .exit) ≡ tallyAfter (now (tally .entry)) head call (answerTo (now (table .entry)) (now (journal .entry)) (now (words .entry)) (now (bytes .entry)) head call)) × (now (table .exit) ≡ tableAfter (now (table .entry)) (now (journal .entry)) (now (words .entry)) (now (bytes .entry)) head call) × (now (journal .exit) ≡ journalAfter (now (table .entry)) (now (journal .entry)) (now (words .entry)) (now (bytes .entry)) head call) × (now (words .exit) ≡ wordsAfter (now (table .entry)) (now (journal .entry)) (now (words .entry)) (now (bytes .entry)) head call) × (now (bytes .exit) ≡ bytesAfter (now (table .entry)) (now (journal .entry)) (now (words .entry)) (now (bytes .entry)) head call) ⌝ }
+    ensures { λ r. ⌜ Replies (now (tally .entry)) (lent (now (table .entry)) (now (journal .entry)) (now (words .entry)) (now (bytes .entry)) head) call r (now (tally .exit)) (now (table .exit)) (now (journal .exit)) (now (words .exit)) (now (bytes .exit)) ⌝ }
 {
-    let s = serve_core(
-        tally.committed,
-        tally.rolled_back,
-        tally.flushed,
-        table,
-        journal,
-        words,
-        bytes,
-        head,
-        call,
-    );
-    tally.committed = s.committed;
-    tally.rolled_back = s.rolled_back;
-    tally.flushed = s.flushed;
+    let t = *tally;
+    let s = serve_core(t, table, journal, words, bytes, head, call);
+    *tally = s.tally;
     s.reply
 }

@@ -1,7 +1,9 @@
+pub mod Encodes
+pub mod Laid
 mod Moving
+pub mod Setters
 pub mod SlotLists
 pub mod SoundFacts
-pub mod Sounds
 pub mod States
 pub mod StepLists
 pub mod Trims

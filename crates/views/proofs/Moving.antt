@@ -1,18 +1,19 @@
 -- Marks moved to the start and down by a count of words, and a journal whose first words went.
 -- Assumes nothing.
-use mathlib.Core.Path.{_≡_, refl, sym, ap, ap₂, _∙_}
-use mathlib.Core.List.{List, [], _∷_, _++_, map, append-nil}
+use mathlib.Core.Path.{_≡_, sym, ap, ap₂, _∙_}
+use mathlib.Core.List.{List, [], _∷_, _++_, map}
 use Prim.Native.Nat.{ℕ, zero, suc, _+_, _-_, _≤_, _<_}
-use native.Mathlib.Nat.{sub-zero, add-zero}
+use native.Mathlib.Nat.{sub-zero}
 use native.Mathlib.Omega.{arith}
 use borrow.Rule.Slice.PartMut.{putMid}
-use lib.ListN.{length, take, drop, getD, set, replicate, length-append, length-drop, length-replicate, length-map, take-append-drop}
-use lib.Seq.{length-take-le, take-at}
-use Rattle.changes.specs.Runs.{startOf, Marked}
+use lib.ListN.{length, take, drop, getD, set, replicate, length-append, length-drop, length-replicate, take-append-drop}
+use lib.Seq.{take-at}
+use Rattle.changes.specs.Runs.{startOf}
 use Rattle.words.proofs.Parts.{next, part, put-part}
 use Rattle.words.proofs.Writing.{Writing, start, unwritten, stored, whole}
 use Rattle.layout.specs.declared.head.Head.{Head}
-use Rattle.layout.specs.Sound.{heldOf}
+use Rattle.layout.specs.Heads.{withFloor}
+use Rattle.layout.specs.States.{heldOf}
 use Rattle.views.specs.Trim.{floorOf, goneSteps, goneWords, movedEnds, trimmedHead, trimmedJournal, Trimmable}
 use Rattle.layout.proofs.StepTests.{start-next}
 
@@ -84,19 +85,11 @@ module _ {journal : List ℕ} {head : Head} (t : Trimmable journal head) (oldest
   pub marks-above : (i : ℕ) → oldest - head .oldest ≤ i → i < heldOf head → startOf (head .ends) (oldest - head .oldest) ≤ getD (head .ends) i 0
   marks-above i a b = omega (arith, t .marked .rises (oldest - head .oldest) (i + 1) (omega arith) (omega arith), start-next (head .ends) i)
 
-  pub head-trimmed : (words : ℕ) (moved : List ℕ) → words ≡ startOf (head .ends) (oldest - head .oldest) → moved ≡ movedEnds (head .ends) (oldest - head .oldest) (heldOf head) words
-      → _≡_ {A = Head} (record { used = head .used; oldest = oldest; checkpoint = head .checkpoint; tip = head .tip; held = head .held; issued = head .issued; ends = moved }) (trimmedHead head)
+  pub head-trimmed : (words : ℕ) (moved : List ℕ) → words ≡ startOf (head .ends) (oldest - head .oldest)
+      → moved ≡ movedEnds (head .ends) (oldest - head .oldest) (heldOf head) words
+      → withFloor head oldest moved ≡ trimmedHead head
   unfolding trimmedHead
-  head-trimmed words moved ew em i =
-      record {
-        used = head .used;
-        oldest = e i;
-        checkpoint = head .checkpoint;
-        tip = head .tip;
-        held = head .held;
-        issued = head .issued;
-        ends = ends-are i;
-      }
+  head-trimmed words moved ew em = ap₂ (withFloor head) e ends-are
     where
       gone : words ≡ goneWords head
       gone = ew ∙ ap (λ (n : ℕ). startOf (head .ends) (n - head .oldest)) e

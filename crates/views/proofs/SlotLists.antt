@@ -8,7 +8,7 @@ use native.Mathlib.Omega.{arith}
 use borrow.Author.Tests.{le-leb, leb-true, eqb-true}
 use lib.ListN.{length}
 use Rattle.changes.specs.Lists.{All}
-use Rattle.layout.specs.Sound.{slotB}
+use Rattle.layout.specs.Clauses.{slotB}
 use Rattle.layout.specs.Tests.{least}
 use Rattle.views.specs.View.{Slot, closed, holding, leastSlot, openOf, issuedOf, slotsOf, NotAbove}
 

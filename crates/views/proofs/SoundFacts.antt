@@ -6,13 +6,12 @@ use Prim.Native.Nat.{ℕ, _≤_}
 use native.Mathlib.Omega.{arith}
 use lib.ListN.{length, take}
 use lib.Seq.{length-take-le}
-use Rattle.changes.specs.Runs.{startOf}
+use Rattle.changes.specs.Runs.{startOf, Marked}
 use Rattle.layout.specs.declared.head.Head.{Head}
-use Rattle.layout.specs.Sound.{heldOf, stepB}
+use Rattle.layout.specs.States.{heldOf}
 use Rattle.views.specs.View.{Shaped}
-use Rattle.layout.proofs.Holds.{all-of}
-use Rattle.views.proofs.Sounds.{Sound}
-use Rattle.layout.proofs.StepTests.{steps-inside}
+use Rattle.views.proofs.Laid.{journal-inside, journal-marked}
+use Rattle.soundness.proofs.Sounds.{Sound}
 
 -- a head whose arrays have their lengths
 pub shaped : (head : Head) → length (head .held) ≡ 8 → length (head .issued) ≡ 8 → length (head .ends) ≡ 64 → Shaped head
@@ -25,4 +24,8 @@ module _ {table journal : List ℕ} {head : Head} (s : Sound table journal head)
 
   -- the held steps, or the first of them, end within the journal
   pub inside : (n : ℕ) → n ≤ heldOf head → startOf (head .ends) n ≤ length journal
-  inside n h = steps-inside journal (head .ends) n (all-of (stepB journal (head .ends)) n (λ k l. s .steps k (omega arith)))
+  inside = journal-inside journal (head .ends) (heldOf head) (s .lists)
+
+-- the marks of a sound store
+pub sound-marked : (table journal : List ℕ) (head : Head) → Shaped head → Sound table journal head → Marked journal (head .ends) (heldOf head)
+sound-marked table journal head p s = journal-marked journal (head .ends) (heldOf head) (s .lists) (omega (arith, s .few, p .ends-64))

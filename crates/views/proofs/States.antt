@@ -13,16 +13,15 @@ use Rattle.changes.proofs.Applying.{compose-all-nil, compose-all-one}
 use Rattle.changes.proofs.Each.{IsList, all-changes, all-at, all-take, all-second}
 use Rattle.changes.proofs.Laws.{apply-zero, apply-twice, apply-map, run-changes, run-split, steps-split}
 use Rattle.layout.specs.declared.head.Head.{Head}
-use Rattle.layout.specs.Sound.{heldOf}
-use Rattle.views.specs.States.{stepIndex, stepsBetween, mapHere}
+use Rattle.layout.specs.States.{heldOf, stepIndex, stepsBetween, mapHere}
 use Rattle.views.specs.View.{Store, View, decode, mapAt, tipOf, Good}
-use Rattle.views.proofs.Sounds.{Sound}
-use Rattle.views.proofs.Views.{run-count}
+use Rattle.soundness.proofs.Sounds.{Sound}
+use Rattle.views.proofs.Laid.{run-count}
 
 -- the steps of a good view are changes
 module _ (v : View) (g : Good v) where
   steps-changes : All Changes (v .steps)
-  steps-changes = all-changes (v .steps) (all-second IsList (v .old) (v .steps) (g .lists))
+  steps-changes = all-changes (v .steps) (all-second IsList (v .old) (v .steps) (g .held .each))
 
   -- the first of them, composed, are changes
   pub first-changes : (n : ℕ) → Changes (composeAll (take n (v .steps)))

@@ -12,8 +12,8 @@ use Rattle.changes.specs.Lists.{listB, All}
 use Rattle.changes.specs.Runs.{startOf, stepOf, runOf, runWords, Marked}
 use Rattle.words.proofs.Parts.{next}
 use Rattle.changes.proofs.Running.{step-length}
-use Rattle.layout.specs.Sound.{stepB}
-use Rattle.views.specs.View.{flat, marksFrom}
+use Rattle.layout.specs.Clauses.{stepB}
+use Rattle.views.specs.Laid.{flat, marksFrom}
 use Rattle.layout.proofs.Holds.{first-holds, last-test}
 use Rattle.layout.proofs.StepTests.{start-next}
 

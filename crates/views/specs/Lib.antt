@@ -1,3 +1,3 @@
+pub mod Laid
 pub mod Trim
 pub mod View
-pub mod States

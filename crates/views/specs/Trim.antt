@@ -6,9 +6,10 @@ use Prim.Native.Nat.{ℕ, _-_, _≤_}
 use lib.ListN.{length, take, drop, replicate}
 use Rattle.changes.specs.Runs.{startOf, Marked}
 use Rattle.layout.specs.declared.head.Head.{Head}
-use Rattle.layout.specs.Sound.{heldOf}
+use Rattle.layout.specs.Heads.{withFloor}
+use Rattle.layout.specs.States.{heldOf}
 use Rattle.layout.specs.Tests.{least}
-use Rattle.views.specs.View.{View, padded, leastSlot}
+use Rattle.views.specs.View.{View, viewOld, padded, leastSlot}
 
 -- the floor worked out anew, how many steps lie below it, and how many words they have
 abbrev pub floorOf : Head → ℕ
@@ -25,15 +26,7 @@ abbrev pub movedEnds : List ℕ → ℕ → ℕ → ℕ → List ℕ
 movedEnds ends from to words = padded 64 (map (λ e. e - words) (take (to - from) (drop from ends)))
 
 unfoldable pub trimmedHead : Head → Head
-trimmedHead head = record {
-  used = head .used;
-  oldest = floorOf head;
-  checkpoint = head .checkpoint;
-  tip = head .tip;
-  held = head .held;
-  issued = head .issued;
-  ends = movedEnds (head .ends) (goneSteps head) (heldOf head) (goneWords head);
-}
+trimmedHead head = withFloor head (floorOf head) (movedEnds (head .ends) (goneSteps head) (heldOf head) (goneWords head))
 
 -- the rest moved to the start, and as many zeros behind as words went
 unfoldable pub trimmedJournal : Head → List ℕ → List ℕ
@@ -48,11 +41,4 @@ pub record Trimmable (journal : List ℕ) (head : Head) : Type 0 where
 
 -- a view without the steps that lead up to its floor
 unfoldable pub trimmed : View → View
-trimmed v = record {
-  base = v .base;
-  old = drop (leastSlot (v .checkpoint) (v .slots) - (v .checkpoint - length (v .old))) (v .old);
-  steps = v .steps;
-  checkpoint = v .checkpoint;
-  slots = v .slots;
-  limits = v .limits;
-}
+trimmed v = viewOld v (drop (leastSlot (v .checkpoint) (v .slots) - (v .checkpoint - length (v .old))) (v .old))

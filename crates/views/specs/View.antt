@@ -4,12 +4,14 @@ use mathlib.Core.Path.{_≡_}
 use mathlib.Core.Bool.{Bool, true, false}
 use mathlib.Core.List.{List, [], _∷_, _++_, map}
 use Prim.Native.Nat.{ℕ, _+_, _-_, _≤_, min}
-use lib.ListN.{length, take, drop, replicate}
+use lib.ListN.{length, take, drop}
 use Rattle.changes.specs.Calculus.{apply, composeAll}
-use Rattle.changes.specs.Lists.{listB, All, Map}
+use Rattle.changes.specs.Lists.{All, Map}
 use Rattle.changes.specs.Runs.{runOf}
 use Rattle.layout.specs.declared.head.Head.{Head}
-use Rattle.layout.specs.Sound.{heldOf}
+use Rattle.layout.specs.States.{heldOf}
+use Rattle.views.specs.Laid.{laidWords, laidMarks, Fits}
+unfoldable pub use Rattle.views.specs.Laid.{padded, flat, marksFrom}
 
 -- the memory of a store with its head
 pub record Store : Type 0 where
@@ -37,6 +39,50 @@ pub record View : Type 0 where
   pub slots : List Slot
   pub limits : Limits
 
+-- a view with other steps that lead on from its checkpoint: commit, rollback
+abbrev pub viewSteps : View → List (List ℕ) → View
+viewSteps v steps = record {
+  base = v .base;
+  old = v .old;
+  steps = steps;
+  checkpoint = v .checkpoint;
+  slots = v .slots;
+  limits = v .limits;
+}
+
+-- a view with other steps that lead up to its checkpoint: trim
+abbrev pub viewOld : View → List (List ℕ) → View
+viewOld v old = record {
+  base = v .base;
+  old = old;
+  steps = v .steps;
+  checkpoint = v .checkpoint;
+  slots = v .slots;
+  limits = v .limits;
+}
+
+-- a view with other slots: issue, forward, release
+abbrev pub viewSlots : View → List Slot → View
+viewSlots v slots = record {
+  base = v .base;
+  old = v .old;
+  steps = v .steps;
+  checkpoint = v .checkpoint;
+  slots = slots;
+  limits = v .limits;
+}
+
+-- a view with another checkpoint, which has its map and the steps that lead up to it and on from it: flush
+abbrev pub viewTable : View → List ℕ → List (List ℕ) → List (List ℕ) → ℕ → View
+viewTable v base old steps checkpoint = record {
+  base = base;
+  old = old;
+  steps = steps;
+  checkpoint = checkpoint;
+  slots = v .slots;
+  limits = v .limits;
+}
+
 -- all held steps
 abbrev pub heldSteps : View → List (List ℕ)
 heldSteps v = v .old ++ v .steps
@@ -53,19 +99,6 @@ unfoldable pub leastSlot : ℕ → List Slot → ℕ
 leastSlot c [] = c
 leastSlot c (closed ∷ slots) = leastSlot c slots
 leastSlot c (holding n ∷ slots) = min n (leastSlot c slots)
-
--- words with zeros behind, to a length
-abbrev pub padded : ℕ → List ℕ → List ℕ
-padded n l = l ++ replicate (n - length l) 0
-
--- lists one after another, and where each ends
-unfoldable pub flat : List (List ℕ) → List ℕ
-flat [] = []
-flat (d ∷ ds) = d ++ flat ds
-
-unfoldable pub marksFrom : ℕ → List (List ℕ) → List ℕ
-marksFrom n [] = []
-marksFrom n (d ∷ ds) = (n + length d) ∷ marksFrom (n + length d) ds
 
 -- a slot as the head has it, and back
 abbrev pub openOf : Slot → Bool
@@ -89,7 +122,7 @@ slotsOf (m ∷ marks) (n ∷ numbers) = slotOf m n ∷ slotsOf marks numbers
 unfoldable pub encode : View → Store
 encode v = record {
   table = padded (v .limits .table) (v .base);
-  journal = padded (v .limits .journal) (flat (heldSteps v));
+  journal = laidWords (v .limits .journal) (heldSteps v);
   head = record {
     used = length (v .base);
     oldest = v .checkpoint - length (v .old);
@@ -97,7 +130,7 @@ encode v = record {
     tip = tipOf v;
     held = map openOf (v .slots);
     issued = map issuedOf (v .slots);
-    ends = padded 64 (marksFrom 0 (heldSteps v));
+    ends = laidMarks (heldSteps v);
   };
 }
 
@@ -120,17 +153,23 @@ abbrev pub NotAbove : ℕ → Slot → Type 0
 NotAbove c closed = Unit
 NotAbove c (holding n) = n ≤ c
 
--- a view that memory can hold
-pub record Good (v : View) : Type 0 where
+-- a view that memory can hold, where its floor stands so to the least of the checkpoint and the open slots' numbers
+pub record Storable (Stands : ℕ → ℕ → Type 0) (v : View) : Type 0 where
   pub map : Map (v .base)
   pub room : length (v .base) ≤ v .limits .table
-  pub lists : All (λ d. listB d ≡ true) (heldSteps v)
-  pub few : length (heldSteps v) ≤ 64
-  pub fits : length (flat (heldSteps v)) ≤ v .limits .journal
+  pub held : Fits (v .limits .journal) (heldSteps v)
   pub eight : length (v .slots) ≡ 8
   pub below : All (NotAbove (v .checkpoint)) (v .slots)
   pub since : length (v .old) ≤ v .checkpoint
-  pub oldest : v .checkpoint - length (v .old) ≡ leastSlot (v .checkpoint) (v .slots)
+  pub floor : Stands (v .checkpoint - length (v .old)) (leastSlot (v .checkpoint) (v .slots))
+
+-- a view that memory can hold: its floor is the least of them
+abbrev pub Good : View → Type 0
+Good v = Storable _≡_ v
+
+-- a view that memory can hold, but for a floor that may lie too low
+abbrev pub Nearly : View → Type 0
+Nearly v = Storable _≤_ v
 
 -- the arrays of a head have their lengths
 pub record Shaped (h : Head) : Type 0 where

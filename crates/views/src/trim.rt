@@ -1,7 +1,10 @@
 // The steps below the floor go (document 01, "Laws of changes"), after a flush, a forward or a release.
+use layout::clauses::least_of;
 use layout::head::Head;
-use layout::sound::end_of;
-use layout::sound::least_of;
+use layout::head::MARKS;
+use layout::states::end_of;
+use layout::states::held_count;
+use layout::states::step_index;
 use words::clear;
 use words::shift;
 ghost use mathlib.Core.Path.{_≡_};
@@ -10,11 +13,11 @@ ghost use lib.ListN.{getD};
 ghost use Rattle.views.specs.Trim.{movedEnds, trimmedHead, trimmedJournal, Trimmable};
 
 // The marks from a step up to another, exclusive, moved to the start and down by a count of words.
-fn move_ends(ends: [usize; 64], from: usize, to: usize, words: usize) -> [usize; 64]
+fn move_ends(ends: [usize; MARKS], from: usize, to: usize, words: usize) -> [usize; MARKS]
     requires { ⌜ (from ≤ to) × (to ≤ 64) × ((i : ℕ) → from ≤ i → i < to → words ≤ getD ends i 0) ⌝ }
     ensures { λ r. ⌜ r ≡ movedEnds ends from to words ⌝ }
 {
-    let mut next = [0; 64];
+    let mut next = [0; MARKS];
     let mut k = 0;
     while k < to - from {
         next[k] = ends[from + k] - words;
@@ -33,8 +36,8 @@ pub fn trim(journal: &mut [u64], head: Head) -> Head
     let issued = head.issued;
     let ends = head.ends;
     let oldest = least_of(head.checkpoint, is_held, issued);
-    let gone = (oldest - head.oldest) as usize;
-    let held = (head.tip - head.oldest) as usize;
+    let gone = step_index(head, oldest);
+    let held = held_count(head);
     let words = end_of(&ends, gone);
     let kept = journal.len() - words;
     shift(journal, words, 0);

@@ -1,12 +1,11 @@
 // The one function that makes a reference to a struct: it lends the tally to `unit::serve`.
+use answers::call::Call;
+use answers::tally::Tally;
 use layout::head::Head;
-use unit::Call;
-use unit::Reply;
-use unit::Tally;
+use layout::head::Reply;
 use unit::serve::serve;
-ghost use mathlib.Core.Path.{_≡_};
-ghost use Rattle.calls.specs.Calls.{GivesReply, answerTo, replyTo, tableAfter, journalAfter, wordsAfter, bytesAfter};
-ghost use Rattle.tallies.specs.Tally.{tallyAfter};
+ghost use Rattle.calls.specs.Lent.{lent};
+ghost use Rattle.unit.specs.Serve.{Replies};
 
 // What a call leaves beside the memory.
 pub struct After {
@@ -24,7 +23,7 @@ pub fn turn(
     head: Head,
     call: Call,
 ) -> After
-    ensures { λ r. ⌜ GivesReply (r .reply) (replyTo (now (table .entry)) (now (journal .entry)) (now (words .entry)) (now (bytes .entry)) head call) × (r .tally ≡ tallyAfter tally head call (answerTo (now (table .entry)) (now (journal .entry)) (now (words .entry)) (now (bytes .entry)) head call)) × (now (table .exit) ≡ tableAfter (now (table .entry)) (now (journal .entry)) (now (words .entry)) (now (bytes .entry)) head call) × (now (journal .exit) ≡ journalAfter (now (table .entry)) (now (journal .entry)) (now (words .entry)) (now (bytes .entry)) head call) × (now (words .exit) ≡ wordsAfter (now (table .entry)) (now (journal .entry)) (now (words .entry)) (now (bytes .entry)) head call) × (now (bytes .exit) ≡ bytesAfter (now (table .entry)) (now (journal .entry)) (now (words .entry)) (now (bytes .entry)) head call) ⌝ }
+    ensures { λ r. ⌜ Replies tally (lent (now (table .entry)) (now (journal .entry)) (now (words .entry)) (now (bytes .entry)) head) call (r .reply) (r .tally) (now (table .exit)) (now (journal .exit)) (now (words .exit)) (now (bytes .exit)) ⌝ }
 {
     let reply = serve(&mut tally, table, journal, words, bytes, head, call);
     After { reply, tally }

@@ -1,10 +1,10 @@
 // What the program prints, a line at a time.
+use answers::answer::Answer;
+use answers::refusal::number;
+use answers::tally::Tally;
 use entry::Entry;
-use grounds::number;
 use layout::head::Head;
 use libc::STDOUT_FILENO;
-use unit::Answer;
-use unit::Tally;
 
 pub fn show_text(text: &[u8]) {
     io::write_all(STDOUT_FILENO, text);

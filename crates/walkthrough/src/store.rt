@@ -4,10 +4,18 @@ use crate::print::show;
 use crate::print::show_bytes;
 use crate::print::show_call;
 use crate::print::show_states;
+use answers::call::Call;
+use answers::call::LookUp;
+use answers::call::Query;
+use answers::call::Read;
+use answers::call::Reader;
+use answers::call::Reset;
+use answers::call::Step;
+use answers::tally::Tally;
 use entry::Entry;
 use layout::head::Head;
-use unit::Call;
-use unit::Tally;
+use layout::head::MARKS;
+use layout::head::SLOTS;
 
 // What a caller hands from one call to the next: the memory of the store, a read set, bytes for an image, the head and
 // the tally.
@@ -27,9 +35,9 @@ fn unused() -> Store {
         oldest: 0,
         checkpoint: 0,
         tip: 0,
-        held: [false; 8],
-        issued: [0; 8],
-        ends: [0; 64],
+        held: [false; SLOTS],
+        issued: [0; SLOTS],
+        ends: [0; MARKS],
     };
     let tally = Tally {
         committed: 0,
@@ -94,37 +102,57 @@ fn read(name: &[u8], store: Store, call: Call) -> Store {
 // State 1 has offer 5 at 1200.
 fn start() -> Store {
     let mut first = [Entry::put(5, 1200)];
-    let mut s = ask(b"clear", unused(), Call::Clear);
-    s = make(b"commit", s, Call::Commit, &mut first);
-    ask(b"flush to 1", s, Call::Flush(1))
+    let mut s = ask(b"clear", unused(), Call::Reset(Reset::Clear));
+    s = make(b"commit", s, Call::Step(Step::Commit), &mut first);
+    ask(b"flush to 1", s, Call::Step(Step::Flush(1)))
 }
 
 // States 2 and 3.
 fn feed(store: Store, mut earlier: [u64; 2], mut later: [u64; 2]) -> Store {
-    let s = make(b"commit", store, Call::Commit, &mut earlier);
-    make(b"commit", s, Call::Commit, &mut later)
+    let s = make(b"commit", store, Call::Step(Step::Commit), &mut earlier);
+    make(b"commit", s, Call::Step(Step::Commit), &mut later)
 }
 
 // Each state is quoted as it is; price 0 is a price.
 fn quote(store: Store) -> Store {
-    let mut s = ask(b"look up 5 at 2", store, Call::LookUp(5, 2));
-    s = ask(b"look up 5 at 3", s, Call::LookUp(5, 3));
-    ask(b"look up 7 at 3", s, Call::LookUp(7, 3))
+    let mut s = ask(
+        b"look up 5 at 2",
+        store,
+        Call::Ask(Query::LookUp(LookUp { offer: 5, state: 2 })),
+    );
+    s = ask(
+        b"look up 5 at 3",
+        s,
+        Call::Ask(Query::LookUp(LookUp { offer: 5, state: 3 })),
+    );
+    ask(
+        b"look up 7 at 3",
+        s,
+        Call::Ask(Query::LookUp(LookUp { offer: 7, state: 3 })),
+    )
 }
 
 // A read starts at state 1, before states 2 and 3, and is carried across them. The flush keeps the steps that it needs.
 fn read_early(earlier: [u64; 2], later: [u64; 2]) -> Store {
-    let issued = read(b"issue slot 0", start(), Call::Issue(0));
+    let issued = read(
+        b"issue slot 0",
+        start(),
+        Call::Read(Read::Issue(Reader { slot: 0 })),
+    );
     let quoted = quote(feed(issued, earlier, later));
-    let flushed = ask(b"flush to 3", quoted, Call::Flush(3));
+    let flushed = ask(b"flush to 3", quoted, Call::Step(Step::Flush(3)));
     show_states(flushed.head, flushed.tally);
-    read(b"forward slot 0 to 3", flushed, Call::Forward(0, 3))
+    read(
+        b"forward slot 0 to 3",
+        flushed,
+        Call::Read(Read::Forward(Reader { slot: 0 }, 3)),
+    )
 }
 
 // Two calls that are turned away change nothing.
 fn refuse(store: Store, mut falling: [u64; 2]) -> Store {
-    let mut s = make(b"commit", store, Call::Commit, &mut falling);
-    s = ask(b"roll back to 2", s, Call::RollBack(2));
+    let mut s = make(b"commit", store, Call::Step(Step::Commit), &mut falling);
+    s = ask(b"roll back to 2", s, Call::Step(Step::RollBack(2)));
     show_states(s.head, s.tally);
     s
 }
@@ -132,19 +160,27 @@ fn refuse(store: Store, mut falling: [u64; 2]) -> Store {
 // State 4 is committed and rolled back.
 fn correct(store: Store) -> Store {
     let mut wrong = [Entry::put(5, 900)];
-    let s = make(b"commit", store, Call::Commit, &mut wrong);
-    ask(b"roll back to 3", s, Call::RollBack(3))
+    let s = make(b"commit", store, Call::Step(Step::Commit), &mut wrong);
+    ask(b"roll back to 3", s, Call::Step(Step::RollBack(3)))
 }
 
 // A slot is opened and closed.
 fn release(store: Store) -> Store {
-    let s = ask(b"issue slot 1", store, Call::Issue(1));
-    ask(b"release slot 1", s, Call::Release(1))
+    let s = ask(
+        b"issue slot 1",
+        store,
+        Call::Read(Read::Issue(Reader { slot: 1 })),
+    );
+    ask(
+        b"release slot 1",
+        s,
+        Call::Read(Read::Release(Reader { slot: 1 })),
+    )
 }
 
 // The image of state 3.
 fn write(store: Store) -> Store {
-    let s = ask(b"write image", store, Call::WriteImage);
+    let s = ask(b"write image", store, Call::Ask(Query::WriteImage));
     let bytes = s.bytes;
     show_bytes(&bytes);
     show_states(s.head, s.tally);
@@ -153,8 +189,8 @@ fn write(store: Store) -> Store {
 
 // The store starts anew from its image, twice.
 fn renew(store: Store) {
-    let mut s = ask(b"restart", store, Call::Restart);
-    s = ask(b"load", s, Call::Load);
+    let mut s = ask(b"restart", store, Call::Reset(Reset::Restart));
+    s = ask(b"load", s, Call::Reset(Reset::Load));
     show_states(s.head, s.tally);
 }
 

@@ -1,7 +1,8 @@
-//! The library and the model side by side: every command of a script on both, and what they leave compared after every call.
+//! The library and the model side by side: every command of a script on both, and what they leave compared after every
+//! call.
 
 use crate::library::Library;
-use crate::said::{Said, UNTOUCHED};
+use crate::said::{is_query, Said, UNTOUCHED};
 use crate::NO_PRICE;
 use model::script::{perform, Command};
 use model::unit::{Answer, Call, Reply, Unit};
@@ -40,11 +41,16 @@ impl Pair {
         }
     }
 
+    /// Makes a call on both. After a query the store and its tally must be as they were, whatever the answer.
     fn call(&mut self, call: &Call) -> Result<(), String> {
+        let before = is_query(call).then(|| self.library.lent.clone());
         let said = self.library.serve(call);
         let wanted = expected(&self.model.serve(call));
         if said != wanted {
             return Err(format!("the library said {said:?}, the model {wanted:?}"));
+        }
+        if before.is_some_and(|before| self.library.lent != before) {
+            return Err(format!("the query {call:?} changed the store"));
         }
         self.compare()
     }

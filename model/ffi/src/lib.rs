@@ -1,7 +1,8 @@
 //! The static library of the proved unit (include/cechnuol.h), called safely, and held to the model.
 //!
-//! The functions have no `requires`: what C owes is that each pointer and length name memory of the caller's and that no two
-//! overlap, and Rust's slices say so. Nothing checks the declarations below against crates/capi; the tests and [`differ`] do.
+//! The functions have no `requires`: what C owes is that each pointer and length name memory of the caller's and that
+//! no two overlap, and Rust's slices say so. Nothing checks the declarations below against crates/capi; the tests and
+//! [`differ`] do.
 
 pub mod differ;
 pub mod library;
@@ -23,10 +24,18 @@ macro_rules! declared {
                 head: *mut u64, head_words: usize, tally: *mut u64, tally_words: usize,
                 $($extra: $kind),*
             ) -> u64;)*
-            fn cechnuol_price_batch(
-                reads: *const u64, read_count: usize, orders: *const u64, order_count: usize,
-                out: *mut u64, out_count: usize, count: *mut u64,
-            ) -> u64;
+        }
+    };
+}
+
+/// The queries, which take a store to read only and are lent no tally.
+macro_rules! declared_queries {
+    ($($name:ident($($extra:ident: $kind:ty),*);)*) => {
+        extern "C" {
+            $(fn $name(
+                table: *const u64, table_words: usize, journal: *const u64, journal_words: usize,
+                head: *const u64, head_words: usize, $($extra: $kind),*
+            ) -> u64;)*
         }
     };
 }
@@ -34,15 +43,30 @@ macro_rules! declared {
 declared! {
     cechnuol_clear();
     cechnuol_load(bytes: *mut u8, byte_count: usize);
-    cechnuol_write_image(bytes: *mut u8, byte_count: usize, count: *mut u64);
     cechnuol_restart(bytes: *mut u8, byte_count: usize);
     cechnuol_commit(words: *mut u64, word_count: usize);
     cechnuol_roll_back(state: u32);
     cechnuol_flush(state: u32);
-    cechnuol_look_up(offer: u32, state: u32, price: *mut u64);
     cechnuol_issue(slot: usize, words: *mut u64, word_count: usize);
     cechnuol_forward(slot: usize, state: u32, words: *mut u64, word_count: usize);
     cechnuol_release(slot: usize);
+}
+
+declared_queries! {
+    cechnuol_write_image(bytes: *mut u8, byte_count: usize, count: *mut u64);
+    cechnuol_look_up(offer: u32, state: u32, price: *mut u64);
+}
+
+extern "C" {
+    fn cechnuol_price_batch(
+        reads: *const u64,
+        read_count: usize,
+        orders: *const u64,
+        order_count: usize,
+        out: *mut u64,
+        out_count: usize,
+        count: *mut u64,
+    ) -> u64;
 }
 
 /// A store's memory, lent as words.
@@ -56,7 +80,8 @@ pub struct Lent {
 
 macro_rules! call {
     ($store:ident, $name:ident $(, $extra:expr)*) => {
-        // The slices come from four vectors that are borrowed for the call, and from arguments that are borrowed mutably too.
+        // The slices come from four vectors that are borrowed for the call, and from arguments that are borrowed
+        // mutably too.
         unsafe {
             $name(
                 $store.table.as_mut_ptr(), $store.table.len(), $store.journal.as_mut_ptr(), $store.journal.len(),
@@ -65,6 +90,36 @@ macro_rules! call {
             )
         }
     };
+}
+
+/// What a query is lent of a store, to read only: all but the tally. Several threads may query it at once.
+#[derive(Clone, Copy, Debug)]
+pub struct Readable<'a> {
+    pub table: &'a [u64],
+    pub journal: &'a [u64],
+    pub head: &'a [u64],
+}
+
+macro_rules! query {
+    ($store:ident, $name:ident $(, $extra:expr)*) => {
+        // The store's slices are borrowed for the call, and the output is borrowed mutably.
+        unsafe {
+            $name(
+                $store.table.as_ptr(), $store.table.len(), $store.journal.as_ptr(), $store.journal.len(),
+                $store.head.as_ptr(), $store.head.len(), $($extra),*
+            )
+        }
+    };
+}
+
+impl Readable<'_> {
+    pub fn write_image(&self, bytes: &mut [u8], count: &mut u64) -> u64 {
+        query!(self, cechnuol_write_image, bytes.as_mut_ptr(), bytes.len(), count)
+    }
+
+    pub fn look_up(&self, offer: u32, state: u32, price: &mut u64) -> u64 {
+        query!(self, cechnuol_look_up, offer, state, price)
+    }
 }
 
 impl Lent {
@@ -78,6 +133,11 @@ impl Lent {
         }
     }
 
+    /// The store as a query is lent it.
+    pub fn to_read(&self) -> Readable<'_> {
+        Readable { table: &self.table, journal: &self.journal, head: &self.head }
+    }
+
     pub fn clear(&mut self) -> u64 {
         call!(self, cechnuol_clear)
     }
@@ -86,8 +146,8 @@ impl Lent {
         call!(self, cechnuol_load, bytes.as_mut_ptr(), bytes.len())
     }
 
-    pub fn write_image(&mut self, bytes: &mut [u8], count: &mut u64) -> u64 {
-        call!(self, cechnuol_write_image, bytes.as_mut_ptr(), bytes.len(), count)
+    pub fn write_image(&self, bytes: &mut [u8], count: &mut u64) -> u64 {
+        self.to_read().write_image(bytes, count)
     }
 
     pub fn restart(&mut self, bytes: &mut [u8]) -> u64 {
@@ -106,8 +166,8 @@ impl Lent {
         call!(self, cechnuol_flush, state)
     }
 
-    pub fn look_up(&mut self, offer: u32, state: u32, price: &mut u64) -> u64 {
-        call!(self, cechnuol_look_up, offer, state, price)
+    pub fn look_up(&self, offer: u32, state: u32, price: &mut u64) -> u64 {
+        self.to_read().look_up(offer, state, price)
     }
 
     pub fn issue(&mut self, slot: usize, words: &mut [u64]) -> u64 {

@@ -2,37 +2,61 @@
 
 use crate::differ::{expected, Pair};
 use crate::library::Library;
-use crate::said::{Said, UNTOUCHED};
+use crate::said::{is_query, Said, UNTOUCHED};
 use crate::{Lent, HEAD_WORDS, TALLY_WORDS};
 use model::rng::Rng;
 use model::store::{JOURNAL_WORDS, TABLE_WORDS};
 use model::unit::Call;
 
-/// Whether the words still have the lengths of a head and a tally.
-fn damage(head: &mut Vec<u64>, tally: &mut Vec<u64>, rng: &mut Rng) -> bool {
+/// What is wrong with a head or a tally.
+enum Damage {
+    /// The head has another length.
+    HeadLength,
+    /// The tally has another length.
+    TallyLength,
+    /// A word of the head does not fit its field; both lengths are right.
+    HeadWord,
+}
+
+fn damage(head: &mut Vec<u64>, tally: &mut Vec<u64>, rng: &mut Rng) -> Damage {
     match rng.below(4) {
-        0 => head.resize(rng.pick(&[0, 1, 2, 3, HEAD_WORDS - 1, HEAD_WORDS + 1, 200]), 1),
-        1 => tally.resize(rng.pick(&[0, 1, 2, TALLY_WORDS + 1, 84]), 1),
-        2 => head[rng.within(4, 11)] = rng.pick(&[2, 3, 256, 1 << 32, u64::MAX]),
+        0 => {
+            head.resize(rng.pick(&[0, 1, 2, 3, HEAD_WORDS - 1, HEAD_WORDS + 1, 200]), 1);
+            Damage::HeadLength
+        }
+        1 => {
+            tally.resize(rng.pick(&[0, 1, 2, TALLY_WORDS + 1, 84]), 1);
+            Damage::TallyLength
+        }
+        2 => {
+            head[rng.within(4, 11)] = rng.pick(&[2, 3, 256, 1 << 32, u64::MAX]);
+            Damage::HeadWord
+        }
         _ => {
             let at = rng.pick(&[1, 2, 3, 12, 13, 14, 15, 16, 17, 18, 19]);
             head[at] += rng.pick(&[1, 2, 1 << 31]) << 32;
+            Damage::HeadWord
         }
     }
-    head.len() == HEAD_WORDS && tally.len() == TALLY_WORDS
 }
 
-/// Makes a call on copies with such a head or tally: ground 1, else ground 2, and everything as it came; but clear and load
-/// mind the lengths alone.
+/// Makes a call on copies with such a head or tally: ground 1, else ground 2, and everything as it came; but clear and
+/// load mind the lengths alone, and a query is lent no tally.
 pub fn probe(pair: &Pair, call: &Call, rng: &mut Rng) -> Result<(), String> {
     if matches!(call, Call::PriceBatch { .. }) {
         return Ok(());
     }
     let mut library = pair.library.clone();
-    let long = damage(&mut library.lent.head, &mut library.lent.tally, rng);
-    if long && matches!(call, Call::Clear | Call::Load) {
-        return as_with_any_head(pair, call, library);
+    match damage(&mut library.lent.head, &mut library.lent.tally, rng) {
+        Damage::HeadWord if matches!(call, Call::Clear | Call::Load) => as_with_any_head(pair, call, library),
+        Damage::TallyLength if is_query(call) => as_with_any_tally(pair, call, library),
+        _ => turned_away(call, library),
     }
+}
+
+/// A call for which head or tally is not fit: ground 1 if table or journal has a length out of its range, else ground
+/// 2, and everything as it came.
+fn turned_away(call: &Call, mut library: Library) -> Result<(), String> {
     let before = library.clone();
     let said = library.serve(call);
     let Lent { table, journal, head, tally } = &before.lent;
@@ -72,4 +96,21 @@ fn as_with_any_head(pair: &Pair, call: &Call, library: Library) -> Result<(), St
     } else {
         Err(format!("with head {:?} a refused call left something else", before.lent.head))
     }
+}
+
+/// A query answers as the model does whatever the tally is, and leaves all but its output as it came, the tally too.
+fn as_with_any_tally(pair: &Pair, call: &Call, mut library: Library) -> Result<(), String> {
+    let mut model = pair.model.clone();
+    let mut after = library.clone();
+    let said = library.serve(call);
+    let wanted = expected(&model.serve(call));
+    after.bytes = model.bytes;
+    if said != wanted || library != after {
+        return Err(format!(
+            "with tally {:?} the library said {said:?}, the model {wanted:?}; nothing but the output stored: {}",
+            after.lent.tally,
+            library == after
+        ));
+    }
+    Ok(())
 }

@@ -16,8 +16,9 @@ pub struct Said {
     pub words: Vec<u64>,
 }
 
-/// The words of docs/REPLAY.md for whatever was said. A code that is no ground stands there as the number that it is, and a
-/// value stands there wherever one was given, so that no answer that document 01 does not know passes for one that it does.
+/// The words of docs/REPLAY.md for whatever was said. A code that is no ground stands there as the number that it is,
+/// and a value stands there wherever one was given, so that no answer that document 01 does not know passes for one
+/// that it does.
 impl fmt::Display for Said {
     fn fmt(&self, f: &mut fmt::Formatter<'_>) -> fmt::Result {
         match self.code {
@@ -30,6 +31,11 @@ impl fmt::Display for Said {
         }
         f.write_str(&words_text(&self.words))
     }
+}
+
+/// Whether the call is a query: it takes the store to read only, and no tally.
+pub fn is_query(call: &Call) -> bool {
+    matches!(call, Call::WriteImage | Call::LookUp { .. })
 }
 
 /// Makes a call on the library. A forward without words of its own is given those filled for its slot.

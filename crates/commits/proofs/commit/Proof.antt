@@ -1,83 +1,93 @@
--- `commits::commit` meets its contract: the list is copied to the unused end of the journal.
+-- `commit` meets its contract: the list is copied to the unused end of the journal.
 -- Assumes nothing.
-use Rattle.commits.proofs.Accepted.{CommitOk, commit-known, commit-refused, commit-done, used-inside, list-room, end-small, with-list}
-use borrow.Author.Needs.{needs}
+use mathlib.Core.Path.{_∙_, ap}
 use native.Mathlib.Omega.{arith}
+use Rattle.changes.specs.Runs.{startOf}
+use Rattle.commits.proofs.Accepted.{commit-known, commit-refused, commit-done, used-inside, list-room, end-small, with-list}
+use borrow.Author.Needs.{needs}
 use Rattle.commits.proofs.commit.Statement.{statement}
 use Rattle.commits.proofs.commit.Tie as tie
 
 commit-check-requires : tie.Need-commit-check-requires
 commit-check-requires c κs = search needs
 
-enum-told : tie.Need-enum-told
-enum-told c = search needs
-
-enum-told-2 : tie.Need-enum-told-2
-enum-told-2 c = search needs
+enum-known-check : tie.Need-enum-known-check
+enum-known-check c = search needs
 
 same-length : tie.Need-same-length
 same-length c = search needs
 
 returns : tie.Need-returns
-returns c = let s = c .before .before .before .before .before .before .before in commit-refused (s .args .table .now) (s .args .journal .now) (s .args .t3) (s .args .list .now) (c .before .before .commit-check .ensures) (c .enum-told2 .given .1)
+returns c = commit-refused (c .before .before .before .before .before .before .before .before .args .table .now) (c .before .before .before .before .before .before .before .before .args .journal .now) (c .before .before .before .before .before .before .before .before .args .t3) (c .before .before .before .before .before .before .before .before .args .list .now) (c .before .before .before .commit-check .ensures) (c .before .check .given .1)
 
--- what the accepted call knows, from the place where its test is told
-known : (d : tie.After-enum-told) → CommitOk (d .before .before .before .before .before .before .before .args .table .now) (d .before .before .before .before .before .before .before .args .journal .now) (d .before .before .before .before .before .before .before .args .t3) (d .before .before .before .before .before .before .before .args .list .now)
-known d = let s = d .before .before .before .before .before .before .before in commit-known (s .args .table .now) (s .args .journal .now) (s .args .t3) (s .args .list .now) (d .before .before .commit-check .ensures) (d .enum-told .given .1)
+enum-told : tie.Need-enum-told
+enum-told c = search needs
 
-sub-held : tie.Need-sub-held
-sub-held c = let ok = known c in omega (arith, ok .sound .low, ok .sound .high)
-
-cast-held : tie.Need-cast-held
-cast-held c = search needs
+held-count-requires : tie.Need-held-count-requires
+held-count-requires c κs =
+    let ok = commit-known (c .before .before .before .before .before .before .before .args .table .now) (c .before .before .before .before .before .before .before .args .journal .now) (c .before .before .before .before .before .before .before .args .t3) (c .before .before .before .before .before .before .before .args .list .now) (c .before .before .commit-check .ensures) (c .enum-told .given .1) in
+    omega (arith, ok .sound .low, ok .sound .high)
 
 end-of-requires : tie.Need-end-of-requires
-end-of-requires c κs = omega (arith, known (c .before .before .before) .room)
+end-of-requires c κs =
+    let ok = commit-known (c .before .before .before .before .before .before .before .before .before .before .before .args .table .now) (c .before .before .before .before .before .before .before .before .before .before .before .args .journal .now) (c .before .before .before .before .before .before .before .before .before .before .before .args .t3) (c .before .before .before .before .before .before .before .before .before .before .before .args .list .now) (c .before .before .before .before .before .before .commit-check .ensures) (c .before .before .before .before .enum-told .given .1) in
+    omega (arith, ok .room, (c .before .before .before .held-count .ensures))
 
 mul-copy : tie.Need-mul-copy
-mul-copy c = let ok = known (c .before .before .before .before) in omega (arith, used-inside ok (c .end-of .result) (c .end-of .ensures), ok .range .journal-most)
+mul-copy c =
+    let ok = commit-known (c .before .before .before .before .before .before .before .before .before .before .before .before .args .table .now) (c .before .before .before .before .before .before .before .before .before .before .before .before .args .journal .now) (c .before .before .before .before .before .before .before .before .before .before .before .before .args .t3) (c .before .before .before .before .before .before .before .before .before .before .before .before .args .list .now) (c .before .before .before .before .before .before .before .commit-check .ensures) (c .before .before .before .before .before .enum-told .given .1) in
+    let used = (c .end-of .ensures) ∙ ap (startOf ((c .before .before .before .before .before .before .before .before .before .before .before .before .args .t3) .ends)) (c .before .before .before .before .held-count .ensures) in
+    omega (arith, used-inside ok (c .end-of .result) used, ok .range .journal-most)
 
 sub-copy : tie.Need-sub-copy
-sub-copy c = used-inside (known (c .before .before .before .before)) (c .end-of .result) (c .end-of .ensures)
+sub-copy c =
+    let ok = commit-known (c .before .before .before .before .before .before .before .before .before .before .before .before .args .table .now) (c .before .before .before .before .before .before .before .before .before .before .before .before .args .journal .now) (c .before .before .before .before .before .before .before .before .before .before .before .before .args .t3) (c .before .before .before .before .before .before .before .before .before .before .before .before .args .list .now) (c .before .before .before .before .before .before .before .commit-check .ensures) (c .before .before .before .before .before .enum-told .given .1) in
+    used-inside ok (c .end-of .result) ((c .end-of .ensures) ∙ ap (startOf ((c .before .before .before .before .before .before .before .before .before .before .before .before .args .t3) .ends)) (c .before .before .before .before .held-count .ensures))
 
 part-copy-start : tie.Need-part-copy-start
-part-copy-start c = used-inside (known (c .before .before .before .before)) (c .end-of .result) (c .end-of .ensures)
+part-copy-start c =
+    let ok = commit-known (c .before .before .before .before .before .before .before .before .before .before .before .before .args .table .now) (c .before .before .before .before .before .before .before .before .before .before .before .before .args .journal .now) (c .before .before .before .before .before .before .before .before .before .before .before .before .args .t3) (c .before .before .before .before .before .before .before .before .before .before .before .before .args .list .now) (c .before .before .before .before .before .before .before .commit-check .ensures) (c .before .before .before .before .before .enum-told .given .1) in
+    used-inside ok (c .end-of .result) ((c .end-of .ensures) ∙ ap (startOf ((c .before .before .before .before .before .before .before .before .before .before .before .before .args .t3) .ends)) (c .before .before .before .before .held-count .ensures))
 
 part-copy-end : tie.Need-part-copy-end
 part-copy-end c = search needs
 
 copy-requires : tie.Need-copy-requires
-copy-requires c κs = list-room (known (c .before .before .before .before .before)) (c .before .end-of .result) (c .before .end-of .ensures)
+copy-requires c κs =
+    let ok = commit-known (c .before .before .before .before .before .before .before .before .before .before .before .before .before .args .table .now) (c .before .before .before .before .before .before .before .before .before .before .before .before .before .args .journal .now) (c .before .before .before .before .before .before .before .before .before .before .before .before .before .args .t3) (c .before .before .before .before .before .before .before .before .before .before .before .before .before .args .list .now) (c .before .before .before .before .before .before .before .before .commit-check .ensures) (c .before .before .before .before .before .before .enum-told .given .1) in
+    list-room ok (c .before .end-of .result) ((c .before .end-of .ensures) ∙ ap (startOf ((c .before .before .before .before .before .before .before .before .before .before .before .before .before .args .t3) .ends)) (c .before .before .before .before .before .held-count .ensures))
 
 add-with-step : tie.Need-add-with-step
-add-with-step c = omega (arith, end-small (known (c .before .before .before .before .before .before .before .before)) (c .before .before .before .before .end-of .result) (c .before .before .before .before .end-of .ensures))
+add-with-step c =
+    let ok = commit-known (c .before .before .before .before .before .before .before .before .before .before .before .before .before .before .before .before .args .table .now) (c .before .before .before .before .before .before .before .before .before .before .before .before .before .before .before .before .args .journal .now) (c .before .before .before .before .before .before .before .before .before .before .before .before .before .before .before .before .args .t3) (c .before .before .before .before .before .before .before .before .before .before .before .before .before .before .before .before .args .list .now) (c .before .before .before .before .before .before .before .before .before .before .before .commit-check .ensures) (c .before .before .before .before .before .before .before .before .before .enum-told .given .1) in
+    omega (arith, end-small ok (c .before .before .before .before .end-of .result) ((c .before .before .before .before .end-of .ensures) ∙ ap (startOf ((c .before .before .before .before .before .before .before .before .before .before .before .before .before .before .before .before .args .t3) .ends)) (c .before .before .before .before .before .before .before .before .held-count .ensures)))
 
 with-step-requires : tie.Need-with-step-requires
-with-step-requires c κs = let ok = known (c .before .before .before .before .before .before .before .before) in (ok .room, omega (arith, ok .not-last))
+with-step-requires c κs =
+    let ok = commit-known (c .before .before .before .before .before .before .before .before .before .before .before .before .before .before .before .before .args .table .now) (c .before .before .before .before .before .before .before .before .before .before .before .before .before .before .before .before .args .journal .now) (c .before .before .before .before .before .before .before .before .before .before .before .before .before .before .before .before .args .t3) (c .before .before .before .before .before .before .before .before .before .before .before .before .before .before .before .before .args .list .now) (c .before .before .before .before .before .before .before .before .before .before .before .commit-check .ensures) (c .before .before .before .before .before .before .before .before .before .enum-told .given .1) in
+    (omega (arith, ok .room, (c .before .before .before .before .before .before .before .before .held-count .ensures)), omega (arith, ok .not-last))
 
 same-length-2 : tie.Need-same-length-2
 same-length-2 c = search needs
 
 returns-2 : tie.Need-returns-2
 returns-2 c =
-    let s = c .before .before .before .before .before .before .before .before .before .before .before .before .before .before .before .before in
-    let u = c .before .before .before .before .before .end-of .result in
-    let f = c .before .before .before .before .before .end-of .ensures in
-    commit-done (s .args .table .now) (s .args .journal .now) (s .args .t3) (s .args .list .now) (c .before .before .before .before .before .before .before .before .before .before .before .commit-check .ensures) (c .before .before .before .before .before .before .before .before .before .enum-told .given .1) u f
-    (c .with-step .ensures)
-    (with-list (s .args .journal .now) (s .args .list .now) (c .before .before .before .copy .last .1 .0) u (used-inside (known (c .before .before .before .before .before .before .before .before .before)) u f) (c .before .before .before .copy .ensures))
+    let ok = commit-known (c .before .before .before .before .before .before .before .before .before .before .before .before .before .before .before .before .before .args .table .now) (c .before .before .before .before .before .before .before .before .before .before .before .before .before .before .before .before .before .args .journal .now) (c .before .before .before .before .before .before .before .before .before .before .before .before .before .before .before .before .before .args .t3) (c .before .before .before .before .before .before .before .before .before .before .before .before .before .before .before .before .before .args .list .now) (c .before .before .before .before .before .before .before .before .before .before .before .before .commit-check .ensures) (c .before .before .before .before .before .before .before .before .before .before .enum-told .given .1) in
+    let used = (c .before .before .before .before .before .end-of .ensures) ∙ ap (startOf ((c .before .before .before .before .before .before .before .before .before .before .before .before .before .before .before .before .before .args .t3) .ends)) (c .before .before .before .before .before .before .before .before .before .held-count .ensures) in
+    commit-done (c .before .before .before .before .before .before .before .before .before .before .before .before .before .before .before .before .before .args .table .now) (c .before .before .before .before .before .before .before .before .before .before .before .before .before .before .before .before .before .args .journal .now) (c .before .before .before .before .before .before .before .before .before .before .before .before .before .before .before .before .before .args .t3) (c .before .before .before .before .before .before .before .before .before .before .before .before .before .before .before .before .before .args .list .now) (c .before .before .before .before .before .before .before .before .before .before .before .before .commit-check .ensures) (c .before .before .before .before .before .before .before .before .before .before .enum-told .given .1)
+    (c .before .before .before .before .before .before .before .before .before .held-count .result) (c .before .before .before .before .before .end-of .result) (c .before .before .before .before .before .before .before .before .before .held-count .ensures) (c .before .before .before .before .before .end-of .ensures) (c .with-step .ensures)
+    (with-list (c .before .before .before .before .before .before .before .before .before .before .before .before .before .before .before .before .before .args .journal .now) (c .before .before .before .before .before .before .before .before .before .before .before .before .before .before .before .before .before .args .list .now) (c .before .before .before .copy .last .1 .0) (c .before .before .before .before .before .end-of .result) (used-inside ok (c .before .before .before .before .before .end-of .result) used) (c .before .before .before .copy .ensures))
 
 pub commit-spec : {M : Type 1} → statement M
 commit-spec =
     tie.close
     (tie.spec
     commit-check-requires
-    enum-told
-    enum-told-2
+    enum-known-check
     same-length
     returns
-    sub-held
-    cast-held
+    enum-told
+    held-count-requires
     end-of-requires
     mul-copy
     sub-copy

@@ -1,84 +1,104 @@
--- `commits::commit_check` meets its contract.
+-- `commit_check` meets its contract.
 -- Assumes nothing.
 use mathlib.Core.Path.{_∙_, sym, ap}
 use mathlib.Core.Bool.{not}
 use Prim.Native.Nat.{_-_}
 use native.Mathlib.Nat.{le-refl}
-use borrow.Author.Tests.{not-false, lt-ltb, le-ltb, eq-eqb, ne-eqb}
+use native.Mathlib.Omega.{arith}
+use borrow.Author.Tests.{lt-ltb, le-ltb, eq-eqb, ne-eqb}
 use lib.ListN.{length}
-use Rattle.grounds.proofs.Firsts.{first-met, first-not, none-met}
-use Rattle.layout.specs.Sound.{heldOf}
-use Rattle.views.proofs.Sounds.{sound-facts}
-use Rattle.commits.specs.Commit.{usedOf}
+use Rattle.changes.specs.Runs.{startOf}
+use Rattle.answers.proofs.Firsts.{stops, goes-on, first-met, first-not, none-met}
+use Rattle.layout.specs.States.{heldOf}
+use Rattle.soundness.proofs.Passed.{StoreOk, store-ok}
 use Rattle.views.proofs.SoundFacts.{inside}
 use borrow.Author.Needs.{needs}
-use native.Mathlib.Omega.{arith}
 use Rattle.commits.proofs.commit_check.Statement.{statement}
 use Rattle.commits.proofs.commit_check.Tie as tie
 
-lengths-fit-requires : tie.Need-lengths-fit-requires
-lengths-fit-requires c κs = search needs
+store-check-requires : tie.Need-store-check-requires
+store-check-requires c κs = search needs
+
+enum-told : tie.Need-enum-told
+enum-told c = search needs
+
+enum-told-2 : tie.Need-enum-told-2
+enum-told-2 c = search needs
 
 returns : tie.Need-returns
-returns c = sym (first-met _ _ _ (ap not (sym (c .before .lengths-fit .ensures)) ∙ (c .if1 .taken)))
-
-is-sound-requires : tie.Need-is-sound-requires
-is-sound-requires c κs = search needs
-
-returns-2 : tie.Need-returns-2
-returns-2 c = sym (first-not _ _ _ (ap not (sym (c .before .before .before .lengths-fit .ensures)) ∙ (c .before .before .if1 .left)) ∙ first-met _ _ _ (ap not (sym (c .before .is-sound .ensures)) ∙ (c .if2 .taken)))
+returns c = stops _ _ (c .before .before .store-check .ensures) (c .enum-told2 .given .1)
 
 is-list-requires : tie.Need-is-list-requires
 is-list-requires c κs = search needs
 
+returns-2 : tie.Need-returns-2
+returns-2 c = sym (goes-on _ _ (c .before .before .before .before .store-check .ensures) (c .before .before .enum-told .given .1) ∙ first-met _ _ _ (ap not (sym (c .before .is-list .ensures)) ∙ (c .if1 .taken)))
+
 returns-3 : tie.Need-returns-3
-returns-3 c = sym (first-not _ _ _ (ap not (sym (c .before .before .before .before .before .lengths-fit .ensures)) ∙ (c .before .before .before .before .if1 .left)) ∙ first-not _ _ _ (ap not (sym (c .before .before .before .is-sound .ensures)) ∙ (c .before .before .if2 .left)) ∙ first-met _ _ _ (ap not (sym (c .before .is-list .ensures)) ∙ (c .if3 .taken)))
+returns-3 c =
+    sym
+    (goes-on _ _ (c .before .before .before .before .before .store-check .ensures) (c .before .before .before .enum-told .given .1)
+    ∙ first-not _ _ _ (ap not (sym (c .before .before .is-list .ensures)) ∙ (c .before .if1 .left))
+    ∙ first-met _ _ _ (eq-eqb ((c .before .before .before .before .before .before .before .before .before .args .t3) .tip) 4294967295 (c .if2 .taken)))
+
+held-count-requires : tie.Need-held-count-requires
+held-count-requires c κs =
+    let ok = store-ok (c .before .before .before .before .before .before .before .before .before .args .table .now) (c .before .before .before .before .before .before .before .before .before .args .journal .now) (c .before .before .before .before .before .before .before .before .before .args .t3) (c .before .before .before .before .before .store-check .ensures) (c .before .before .before .enum-told .given .1) in
+    omega (arith, ok .sound .low, ok .sound .high)
 
 returns-4 : tie.Need-returns-4
-returns-4 c = sym (first-not _ _ _ (ap not (sym (c .before .before .before .before .before .before .lengths-fit .ensures)) ∙ (c .before .before .before .before .before .if1 .left)) ∙ first-not _ _ _ (ap not (sym (c .before .before .before .before .is-sound .ensures)) ∙ (c .before .before .before .if2 .left)) ∙ first-not _ _ _ (ap not (sym (c .before .before .is-list .ensures)) ∙ (c .before .if3 .left)) ∙ first-met _ _ _ (eq-eqb (((c .before .before .before .before .before .before .before .before .before .before .args .t3)) .tip) 4294967295 (c .if4 .taken)))
-
-sub-held : tie.Need-sub-held
-sub-held c =
-    let s = sound-facts ((c .before .before .before .before .before .before .before .before .before .before .args .table .now)) ((c .before .before .before .before .before .before .before .before .before .before .args .journal .now)) ((c .before .before .before .before .before .before .before .before .before .before .args .t3)) (sym (c .before .before .before .before .is-sound .ensures) ∙ not-false _ (c .before .before .before .if2 .left)) in
-    omega (arith, s .low, s .high)
-
-cast-held : tie.Need-cast-held
-cast-held c = search needs
-
-returns-5 : tie.Need-returns-5
-returns-5 c = sym (first-not _ _ _ (ap not (sym (c .before .before .before .before .before .before .before .lengths-fit .ensures)) ∙ (c .before .before .before .before .before .before .if1 .left)) ∙ first-not _ _ _ (ap not (sym (c .before .before .before .before .before .is-sound .ensures)) ∙ (c .before .before .before .before .if2 .left)) ∙ first-not _ _ _ (ap not (sym (c .before .before .before .is-list .ensures)) ∙ (c .before .before .if3 .left)) ∙ first-not _ _ _ (ne-eqb (((c .before .before .before .before .before .before .before .before .before .before .before .args .t3)) .tip) 4294967295 (c .before .if4 .left)) ∙ first-met _ _ _ (eq-eqb (heldOf ((c .before .before .before .before .before .before .before .before .before .before .before .args .t3))) 64 (c .if5 .taken)))
+returns-4 c =
+    sym
+    (goes-on _ _ (c .before .before .before .before .before .before .before .store-check .ensures) (c .before .before .before .before .before .enum-told .given .1)
+    ∙ first-not _ _ _ (ap not (sym (c .before .before .before .before .is-list .ensures)) ∙ (c .before .before .before .if1 .left))
+    ∙ first-not _ _ _ (ne-eqb ((c .before .before .before .before .before .before .before .before .before .before .before .args .t3) .tip) 4294967295 (c .before .before .if2 .left))
+    ∙ first-met _ _ _ (eq-eqb (heldOf (c .before .before .before .before .before .before .before .before .before .before .before .args .t3)) 64 (sym (c .before .held-count .ensures) ∙ (c .if3 .taken))))
 
 end-of-requires : tie.Need-end-of-requires
 end-of-requires c κs =
-    let s = sound-facts ((c .before .before .before .before .before .before .before .before .before .before .before .before .before .before .args .table .now)) ((c .before .before .before .before .before .before .before .before .before .before .before .before .before .before .args .journal .now)) ((c .before .before .before .before .before .before .before .before .before .before .before .before .before .before .args .t3)) (sym (c .before .before .before .before .before .before .before .before .is-sound .ensures) ∙ not-false _ (c .before .before .before .before .before .before .before .if2 .left)) in
-    omega (arith, s .few)
+    let ok = store-ok (c .before .before .before .before .before .before .before .before .before .before .before .before .before .before .args .table .now) (c .before .before .before .before .before .before .before .before .before .before .before .before .before .before .args .journal .now) (c .before .before .before .before .before .before .before .before .before .before .before .before .before .before .args .t3) (c .before .before .before .before .before .before .before .before .before .before .store-check .ensures) (c .before .before .before .before .before .before .before .before .enum-told .given .1) in
+    omega (arith, ok .sound .few, (c .before .before .before .before .held-count .ensures))
 
-sub-if6 : tie.Need-sub-if6
-sub-if6 c =
-    let s = sound-facts ((c .before .before .before .before .before .before .before .before .before .before .before .before .before .before .before .args .table .now)) ((c .before .before .before .before .before .before .before .before .before .before .before .before .before .before .before .args .journal .now)) ((c .before .before .before .before .before .before .before .before .before .before .before .before .before .before .before .args .t3)) (sym (c .before .before .before .before .before .before .before .before .before .is-sound .ensures) ∙ not-false _ (c .before .before .before .before .before .before .before .before .if2 .left)) in
-    omega (arith, inside s (heldOf ((c .before .before .before .before .before .before .before .before .before .before .before .before .before .before .before .args .t3))) (le-refl (heldOf ((c .before .before .before .before .before .before .before .before .before .before .before .before .before .before .before .args .t3)))), (c .end-of .ensures))
+sub-if4 : tie.Need-sub-if4
+sub-if4 c =
+    let ok = store-ok (c .before .before .before .before .before .before .before .before .before .before .before .before .before .before .before .args .table .now) (c .before .before .before .before .before .before .before .before .before .before .before .before .before .before .before .args .journal .now) (c .before .before .before .before .before .before .before .before .before .before .before .before .before .before .before .args .t3) (c .before .before .before .before .before .before .before .before .before .before .before .store-check .ensures) (c .before .before .before .before .before .before .before .before .before .enum-told .given .1) in
+    omega (arith, inside (ok .sound) (heldOf (c .before .before .before .before .before .before .before .before .before .before .before .before .before .before .before .args .t3)) (le-refl (heldOf (c .before .before .before .before .before .before .before .before .before .before .before .before .before .before .before .args .t3))), (c .end-of .ensures) ∙ ap (startOf ((c .before .before .before .before .before .before .before .before .before .before .before .before .before .before .before .args .t3) .ends)) (c .before .before .before .before .before .held-count .ensures))
+
+returns-5 : tie.Need-returns-5
+returns-5 c =
+    let used = (c .before .end-of .ensures) ∙ ap (startOf ((c .before .before .before .before .before .before .before .before .before .before .before .before .before .before .before .before .args .t3) .ends)) (c .before .before .before .before .before .before .held-count .ensures) in
+    sym
+    (goes-on _ _ (c .before .before .before .before .before .before .before .before .before .before .before .before .store-check .ensures) (c .before .before .before .before .before .before .before .before .before .before .enum-told .given .1)
+    ∙ first-not _ _ _ (ap not (sym (c .before .before .before .before .before .before .before .before .before .is-list .ensures)) ∙ (c .before .before .before .before .before .before .before .before .if1 .left))
+    ∙ first-not _ _ _ (ne-eqb ((c .before .before .before .before .before .before .before .before .before .before .before .before .before .before .before .before .args .t3) .tip) 4294967295 (c .before .before .before .before .before .before .before .if2 .left))
+    ∙ first-not _ _ _ (ne-eqb (heldOf (c .before .before .before .before .before .before .before .before .before .before .before .before .before .before .before .before .args .t3)) 64 (λ e. (c .before .before .before .before .before .if3 .left) ((c .before .before .before .before .before .before .held-count .ensures) ∙ e)))
+    ∙ first-met _ _ _ (lt-ltb (length (c .before .before .before .before .before .before .before .before .before .before .before .before .before .before .before .before .args .journal .now) - startOf ((c .before .before .before .before .before .before .before .before .before .before .before .before .before .before .before .before .args .t3) .ends) (heldOf (c .before .before .before .before .before .before .before .before .before .before .before .before .before .before .before .before .args .t3))) (length (c .before .before .before .before .before .before .before .before .before .before .before .before .before .before .before .before .args .list .now)) (omega (arith, used, (c .if4 .taken)))))
 
 returns-6 : tie.Need-returns-6
-returns-6 c = sym (first-not _ _ _ (ap not (sym (c .before .before .before .before .before .before .before .before .before .before .before .before .lengths-fit .ensures)) ∙ (c .before .before .before .before .before .before .before .before .before .before .before .if1 .left)) ∙ first-not _ _ _ (ap not (sym (c .before .before .before .before .before .before .before .before .before .before .is-sound .ensures)) ∙ (c .before .before .before .before .before .before .before .before .before .if2 .left)) ∙ first-not _ _ _ (ap not (sym (c .before .before .before .before .before .before .before .before .is-list .ensures)) ∙ (c .before .before .before .before .before .before .before .if3 .left)) ∙ first-not _ _ _ (ne-eqb (((c .before .before .before .before .before .before .before .before .before .before .before .before .before .before .before .before .args .t3)) .tip) 4294967295 (c .before .before .before .before .before .before .if4 .left)) ∙ first-not _ _ _ (ne-eqb (heldOf ((c .before .before .before .before .before .before .before .before .before .before .before .before .before .before .before .before .args .t3))) 64 (c .before .before .before .before .before .if5 .left)) ∙ first-met _ _ _ (lt-ltb (length ((c .before .before .before .before .before .before .before .before .before .before .before .before .before .before .before .before .args .journal .now)) - usedOf ((c .before .before .before .before .before .before .before .before .before .before .before .before .before .before .before .before .args .t3))) (length ((c .before .before .before .before .before .before .before .before .before .before .before .before .before .before .before .before .args .list .now))) (omega (arith, (c .before .end-of .ensures), (c .if6 .taken)))))
-
-returns-7 : tie.Need-returns-7
-returns-7 c = sym (first-not _ _ _ (ap not (sym (c .before .before .before .before .before .before .before .before .before .before .before .before .lengths-fit .ensures)) ∙ (c .before .before .before .before .before .before .before .before .before .before .before .if1 .left)) ∙ first-not _ _ _ (ap not (sym (c .before .before .before .before .before .before .before .before .before .before .is-sound .ensures)) ∙ (c .before .before .before .before .before .before .before .before .before .if2 .left)) ∙ first-not _ _ _ (ap not (sym (c .before .before .before .before .before .before .before .before .is-list .ensures)) ∙ (c .before .before .before .before .before .before .before .if3 .left)) ∙ first-not _ _ _ (ne-eqb (((c .before .before .before .before .before .before .before .before .before .before .before .before .before .before .before .before .args .t3)) .tip) 4294967295 (c .before .before .before .before .before .before .if4 .left)) ∙ first-not _ _ _ (ne-eqb (heldOf ((c .before .before .before .before .before .before .before .before .before .before .before .before .before .before .before .before .args .t3))) 64 (c .before .before .before .before .before .if5 .left)) ∙ first-not _ _ _ (le-ltb (length ((c .before .before .before .before .before .before .before .before .before .before .before .before .before .before .before .before .args .journal .now)) - usedOf ((c .before .before .before .before .before .before .before .before .before .before .before .before .before .before .before .before .args .t3))) (length ((c .before .before .before .before .before .before .before .before .before .before .before .before .before .before .before .before .args .list .now))) (omega (arith, (c .before .end-of .ensures), (c .if6 .left)))) ∙ none-met)
+returns-6 c =
+    let used = (c .before .end-of .ensures) ∙ ap (startOf ((c .before .before .before .before .before .before .before .before .before .before .before .before .before .before .before .before .args .t3) .ends)) (c .before .before .before .before .before .before .held-count .ensures) in
+    sym
+    (goes-on _ _ (c .before .before .before .before .before .before .before .before .before .before .before .before .store-check .ensures) (c .before .before .before .before .before .before .before .before .before .before .enum-told .given .1)
+    ∙ first-not _ _ _ (ap not (sym (c .before .before .before .before .before .before .before .before .before .is-list .ensures)) ∙ (c .before .before .before .before .before .before .before .before .if1 .left))
+    ∙ first-not _ _ _ (ne-eqb ((c .before .before .before .before .before .before .before .before .before .before .before .before .before .before .before .before .args .t3) .tip) 4294967295 (c .before .before .before .before .before .before .before .if2 .left))
+    ∙ first-not _ _ _ (ne-eqb (heldOf (c .before .before .before .before .before .before .before .before .before .before .before .before .before .before .before .before .args .t3)) 64 (λ e. (c .before .before .before .before .before .if3 .left) ((c .before .before .before .before .before .before .held-count .ensures) ∙ e)))
+    ∙ first-not _ _ _ (le-ltb (length (c .before .before .before .before .before .before .before .before .before .before .before .before .before .before .before .before .args .journal .now) - startOf ((c .before .before .before .before .before .before .before .before .before .before .before .before .before .before .before .before .args .t3) .ends) (heldOf (c .before .before .before .before .before .before .before .before .before .before .before .before .before .before .before .before .args .t3))) (length (c .before .before .before .before .before .before .before .before .before .before .before .before .before .before .before .before .args .list .now)) (omega (arith, used, (c .if4 .left))))
+    ∙ none-met)
 
 pub commit-check-spec : {M : Type 1} → statement M
 commit-check-spec =
     tie.close
     (tie.spec
-    lengths-fit-requires
+    store-check-requires
+    enum-told
+    enum-told-2
     returns
-    is-sound-requires
-    returns-2
     is-list-requires
+    returns-2
     returns-3
+    held-count-requires
     returns-4
-    sub-held
-    cast-held
-    returns-5
     end-of-requires
-    sub-if6
-    returns-6
-    returns-7)
+    sub-if4
+    returns-5
+    returns-6)

@@ -1,35 +1,20 @@
--- `flushes::flush` meets its contract.
+-- `flush` meets its contract.
 -- Assumes nothing.
-use mathlib.Core.Path.{sym, subst, _∙_}
+use mathlib.Core.Path.{_∙_, sym, subst}
 use mathlib.Core.Bool.{Bool}
 use Prim.Native.Nat.{ℕ}
-use borrow.Author.Needs.{needs, length-unmapped}
 use Rattle.views.specs.Trim.{Trimmable}
 use Rattle.views.proofs.SoundFacts.{shaped}
 use Rattle.flushes.proofs.Flushing.{refused-of, counted-of, flush-refused, flush-done, flush-ok, flushed-trimmable}
+use borrow.Author.Needs.{needs, length-unmapped}
 use Rattle.flushes.proofs.flush.Statement.{statement}
 use Rattle.flushes.proofs.flush.Tie as tie
 
 flush-table-requires : tie.Need-flush-table-requires
 flush-table-requires c κs = search needs
 
-enum-known-ground : tie.Need-enum-known-ground
-enum-known-ground c = search needs
-
-enum-known-size : tie.Need-enum-known-size
-enum-known-size c = search needs
-
-flushed-head-requires : tie.Need-flushed-head-requires
-flushed-head-requires c κs = search needs
-
-trim-requires : tie.Need-trim-requires
-trim-requires c κs =
-    let s = c .before .before .before .before .before .before .before .before .before .before .before .before in
-    let k = counted-of _ _ (sym (c .before .before .before .size .given .1) ∙ c .before .before .before .before .before .before .before .flush-table .ensures .0) in
-    subst (Trimmable (s .args .journal .now)) (sym (c .flushed-head .ensures)) (flushed-trimmable (shaped (s .args .head)
-    (length-unmapped Bool (s .args .head .held) 8 (s .good .1 .1 .0 .1 .1 .1 .1 .1 .1 .0 .1 .0 .1))
-    (length-unmapped ℕ (s .args .head .issued) 8 (s .good .1 .1 .0 .1 .1 .1 .1 .1 .1 .1 .0 .1 .0 .1))
-    (length-unmapped ℕ (s .args .head .ends) 64 (s .good .1 .1 .0 .1 .1 .1 .1 .1 .1 .1 .1 .0 .1 .0 .1))) (flush-ok (s .args .table .now) (s .args .journal .now) (s .args .head) (s .args .state) (k .0)) _)
+enum-known-made : tie.Need-enum-known-made
+enum-known-made c = search needs
 
 same-length : tie.Need-same-length
 same-length c = search needs
@@ -39,9 +24,26 @@ same-length-2 c = search needs
 
 returns : tie.Need-returns
 returns c =
-    let s = c .before .before .before .before .before .before .before .before .before .before in
-    let f = flush-refused (s .args .table .now) (s .args .journal .now) (s .args .head) (s .args .state) (refused-of _ _ (sym (c .before .ground .given .1) ∙ c .before .before .before .before .before .flush-table .ensures .0)) in
-    (f .0, f .1, c .before .before .before .before .before .flush-table .ensures .1, f .2)
+    let s = c .before .before .before .before .before .before .before .before in
+    let f = flush-refused (s .args .table .now) (s .args .journal .now) (s .args .head) (s .args .state)
+    (refused-of _ _ (c .before .before .before .flush-table .ensures .0) (c .match .keys2)) in
+    (f .0, f .1, (c .before .before .before .flush-table .ensures .1), f .2)
+
+flushed-head-requires : tie.Need-flushed-head-requires
+flushed-head-requires c κs = search needs
+
+trim-requires : tie.Need-trim-requires
+trim-requires c κs =
+    let s = c .before .before .before .before .before .before .before .before .before .before .before .before in
+    let shape =
+    shaped (s .args .head)
+    (length-unmapped Bool (s .args .head .held) 8 (s .good .1 .1 .0 .1 .1 .1 .1 .1 .1 .0 .1 .0 .1))
+    (length-unmapped ℕ (s .args .head .issued) 8 (s .good .1 .1 .0 .1 .1 .1 .1 .1 .1 .1 .0 .1 .0 .1))
+    (length-unmapped ℕ (s .args .head .ends) 64 (s .good .1 .1 .0 .1 .1 .1 .1 .1 .1 .1 .1 .0 .1 .0 .1)) in
+    let k = counted-of _ _ (sym (c .before .before .before .made .given .1)
+    ∙ (c .before .before .before .before .before .before .before .flush-table .ensures .0)) in
+    let ok = flush-ok (s .args .table .now) (s .args .journal .now) (s .args .head) (s .args .state) (k .0) in
+    subst (Trimmable (s .args .journal .now)) (sym (c .flushed-head .ensures)) (flushed-trimmable shape ok _)
 
 same-length-3 : tie.Need-same-length-3
 same-length-3 c = search needs
@@ -51,23 +53,24 @@ same-length-4 c = search needs
 
 returns-2 : tie.Need-returns-2
 returns-2 c =
-    let s = c .before .before .before .before .before .before .before .before .before .before .before .before .before .before .before in
-    let k = counted-of _ _ (sym (c .before .before .before .before .before .before .size .given .1) ∙ c .before .before .before .before .before .before .before .before .before .before .flush-table .ensures .0) in
-    let f = flush-done (s .args .table .now) (s .args .journal .now) (s .args .head) (s .args .state) (k .0) (k .1) (c .before .before .before .flushed-head .ensures) (c .before .before .trim .ensures .0) (c .before .before .trim .ensures .1) in
-    (f .0, f .1, c .before .before .before .before .before .before .before .before .before .before .flush-table .ensures .1, f .2)
+    let d = c .before .before .before .before .before .before .before .before .before .before in
+    let s = d .before .before .before .before .before in
+    let k = counted-of _ _ (sym (c .before .before .before .before .before .before .made .given .1) ∙ (d .flush-table .ensures .0)) in
+    let f = flush-done (s .args .table .now) (s .args .journal .now) (s .args .head) (s .args .state) (k .0) (k .1)
+    (c .before .before .before .flushed-head .ensures) (c .before .before .trim .ensures .0) (c .before .before .trim .ensures .1) in
+    (f .0, f .1, (d .flush-table .ensures .1), f .2)
 
 pub flush-spec : {M : Type 1} → statement M
 flush-spec =
     tie.close
     (tie.spec
     flush-table-requires
-    enum-known-ground
-    enum-known-size
-    flushed-head-requires
-    trim-requires
+    enum-known-made
     same-length
     same-length-2
     returns
+    flushed-head-requires
+    trim-requires
     same-length-3
     same-length-4
     returns-2)

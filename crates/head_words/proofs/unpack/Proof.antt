@@ -2,6 +2,7 @@
 -- Assumes nothing.
 use mathlib.Core.Path.{_≡_, refl}
 use lib.ListN.{getD}
+use Rattle.layout.specs.Heads.{withSteps, withSlots}
 use Rattle.head_words.specs.HeadWords.{headOf}
 use borrow.Author.Needs.{needs}
 use Rattle.head_words.proofs.unpack.Statement.{statement}
@@ -65,7 +66,12 @@ ends-of-requires : tie.Need-ends-of-requires
 ends-of-requires c κs = search needs
 
 returns : tie.Need-returns
-returns c = λ i. record { used = headOf (c .before .before .before .before .before .before .before .before .before .before .before .args .words .now) .used; oldest = headOf (c .before .before .before .before .before .before .before .before .before .before .before .args .words .now) .oldest; checkpoint = headOf (c .before .before .before .before .before .before .before .before .before .before .before .args .words .now) .checkpoint; tip = headOf (c .before .before .before .before .before .before .before .before .before .before .before .args .words .now) .tip; held = (c .before .before .before .before .flags-of .ensures) i; issued = (c .before .before .numbers-of .ensures) i; ends = (c .ends-of .ensures) i }
+returns c i =
+    let there = headOf (c .before .before .before .before .before .before .before .before .before .before .before .args .words .now) in
+    withSteps
+    (withSlots there ((c .before .before .before .before .flags-of .ensures) i) ((c .before .before .numbers-of .ensures) i))
+    (there .tip)
+    ((c .ends-of .ensures) i)
 
 pub unpack-spec : {M : Type 1} → statement M
 unpack-spec =

@@ -1,43 +1,30 @@
--- `rollbacks::roll_back_check` meets its contract.
+-- `roll_back_check` meets its contract.
 -- Assumes nothing.
-use mathlib.Core.Path.{_∙_, sym, ap}
-use mathlib.Core.Bool.{not}
-use borrow.Author.Tests.{lt-ltb, le-ltb}
-use Rattle.grounds.proofs.Firsts.{first-met, first-not, none-met}
-use Rattle.rollbacks.proofs.Accepted.{below-low, not-below}
+use mathlib.Core.Path.{_∙_, sym}
+use Rattle.answers.proofs.Firsts.{stops, goes-on}
 use borrow.Author.Needs.{needs}
 use Rattle.rollbacks.proofs.roll_back_check.Statement.{statement}
 use Rattle.rollbacks.proofs.roll_back_check.Tie as tie
 
-lengths-fit-requires : tie.Need-lengths-fit-requires
-lengths-fit-requires c κs = search needs
+store-check-requires : tie.Need-store-check-requires
+store-check-requires c κs = search needs
+
+enum-told : tie.Need-enum-told
+enum-told c = search needs
+
+enum-told-2 : tie.Need-enum-told-2
+enum-told-2 c = search needs
 
 returns : tie.Need-returns
-returns c = sym (first-met _ _ _ (ap not (sym (c .before .lengths-fit .ensures)) ∙ (c .if1 .taken)))
+returns c = stops _ _ (c .before .before .store-check .ensures) (c .enum-told2 .given .1)
 
-is-sound-requires : tie.Need-is-sound-requires
-is-sound-requires c κs = search needs
+state-check-requires : tie.Need-state-check-requires
+state-check-requires c κs = search needs
 
 returns-2 : tie.Need-returns-2
-returns-2 c = sym (first-not _ _ _ (ap not (sym (c .before .before .before .lengths-fit .ensures)) ∙ (c .before .before .if1 .left)) ∙ first-met _ _ _ (ap not (sym (c .before .is-sound .ensures)) ∙ (c .if2 .taken)))
-
-returns-3 : tie.Need-returns-3
-returns-3 c = sym (first-not _ _ _ (ap not (sym (c .before .before .before .before .before .lengths-fit .ensures)) ∙ (c .before .before .before .before .if1 .left)) ∙ first-not _ _ _ (ap not (sym (c .before .before .before .is-sound .ensures)) ∙ (c .before .before .if2 .left)) ∙ first-met _ _ _ (below-low (c .before .before .before .before .before .before .before .before .args .state) (((c .before .before .before .before .before .before .before .before .args .head)) .checkpoint) (((c .before .before .before .before .before .before .before .before .args .head)) .tip) (lt-ltb (c .before .before .before .before .before .before .before .before .args .state) (((c .before .before .before .before .before .before .before .before .args .head)) .checkpoint) (c .if3 .taken))))
-
-returns-4 : tie.Need-returns-4
-returns-4 c = sym (first-not _ _ _ (ap not (sym (c .before .before .before .before .before .before .before .lengths-fit .ensures)) ∙ (c .before .before .before .before .before .before .if1 .left)) ∙ first-not _ _ _ (ap not (sym (c .before .before .before .before .before .is-sound .ensures)) ∙ (c .before .before .before .before .if2 .left)) ∙ first-met _ _ _ (not-below (c .before .before .before .before .before .before .before .before .before .before .args .state) (((c .before .before .before .before .before .before .before .before .before .before .args .head)) .checkpoint) (((c .before .before .before .before .before .before .before .before .before .before .args .head)) .tip) (le-ltb (c .before .before .before .before .before .before .before .before .before .before .args .state) (((c .before .before .before .before .before .before .before .before .before .before .args .head)) .checkpoint) (c .before .before .if3 .left)) ∙ lt-ltb (((c .before .before .before .before .before .before .before .before .before .before .args .head)) .tip) (c .before .before .before .before .before .before .before .before .before .before .args .state) (c .if4 .taken)))
-
-returns-5 : tie.Need-returns-5
-returns-5 c = sym (first-not _ _ _ (ap not (sym (c .before .before .before .before .before .before .before .lengths-fit .ensures)) ∙ (c .before .before .before .before .before .before .if1 .left)) ∙ first-not _ _ _ (ap not (sym (c .before .before .before .before .before .is-sound .ensures)) ∙ (c .before .before .before .before .if2 .left)) ∙ first-not _ _ _ (not-below (c .before .before .before .before .before .before .before .before .before .before .args .state) (((c .before .before .before .before .before .before .before .before .before .before .args .head)) .checkpoint) (((c .before .before .before .before .before .before .before .before .before .before .args .head)) .tip) (le-ltb (c .before .before .before .before .before .before .before .before .before .before .args .state) (((c .before .before .before .before .before .before .before .before .before .before .args .head)) .checkpoint) (c .before .before .if3 .left)) ∙ le-ltb (((c .before .before .before .before .before .before .before .before .before .before .args .head)) .tip) (c .before .before .before .before .before .before .before .before .before .before .args .state) (c .if4 .left)) ∙ none-met)
+returns-2 c = (c .state-check .ensures) ∙ sym (goes-on _ _ (c .before .before .before .store-check .ensures) (c .before .enum-told .given .1))
 
 pub roll-back-check-spec : {M : Type 1} → statement M
 roll-back-check-spec =
     tie.close
-    (tie.spec
-    lengths-fit-requires
-    returns
-    is-sound-requires
-    returns-2
-    returns-3
-    returns-4
-    returns-5)
+    (tie.spec store-check-requires enum-told enum-told-2 returns state-check-requires returns-2)

@@ -1,50 +1,61 @@
--- `state_maps::map_at` meets its contract.
+-- `map_at` meets its contract.
 -- Assumes nothing.
-use mathlib.Core.Bool.{Bool}
-use Prim.Native.Nat.{ℕ}
 use native.Mathlib.Omega.{arith}
-use borrow.Author.Needs.{needs, length-unmapped}
 use Rattle.views.specs.View.{Shaped}
-use Rattle.views.proofs.SoundFacts.{shaped}
 use Rattle.state_maps.proofs.Working.{state-facts, used-long, run-room, count-in, changes-long, has-room, size-is, map-is}
+use borrow.Author.Needs.{needs}
 use Rattle.state_maps.proofs.map_at.Statement.{statement}
 use Rattle.state_maps.proofs.map_at.Tie as tie
 
 -- the shape of the head that is lent
 shape : (d : tie.After-slice-known) → Shaped (d .before .before .before .args .t3)
-shape d =
-    let s = d .before .before .before in
-    shaped (s .args .t3)
-    (length-unmapped Bool (s .args .t3 .held) 8 (s .good .1 .1 .0 .1 .1 .1 .1 .1 .1 .0 .1 .0 .1))
-    (length-unmapped ℕ (s .args .t3 .issued) 8 (s .good .1 .1 .0 .1 .1 .1 .1 .1 .1 .1 .0 .1 .0 .1))
-    (length-unmapped ℕ (s .args .t3 .ends) 64 (s .good .1 .1 .0 .1 .1 .1 .1 .1 .1 .1 .1 .0 .1 .0 .1))
+shape d = record { held-8 = search needs; issued-8 = search needs; ends-64 = search needs }
 
-sub-from : tie.Need-sub-from
-sub-from c = omega (arith, state-facts (c .before .before .before .before .pre .0) .sound .low)
+step-index-requires : tie.Need-step-index-requires
+step-index-requires c κs = omega (arith, state-facts (c .before .before .before .before .pre .0) .sound .low)
 
-cast-from : tie.Need-cast-from
-cast-from c = search needs
-
-sub-to : tie.Need-sub-to
-sub-to c = let k = state-facts (c .before .before .before .before .pre .0) in omega (arith, k .sound .low, k .low)
-
-cast-to : tie.Need-cast-to
-cast-to c = search needs
+step-index-requires-2 : tie.Need-step-index-requires-2
+step-index-requires-2 c κs =
+    let ok = state-facts (c .before .before .before .before .before .pre .0) in omega (arith, ok .sound .low, ok .low)
 
 compose-run-requires : tie.Need-compose-run-requires
-compose-run-requires c κs = run-room (shape (c .before .before .before .before .before .before)) (state-facts (c .before .before .before .before .before .before .before .before .before .pre .0)) (c .before .before .before .before .before .before .before .before .before .pre .1)
+compose-run-requires c κs =
+    let s = c .before .before .before .before .before .before .before .before .before .before .before in
+    run-room (shape (c .before .before .before .before .before .before .before .before)) (state-facts (s .pre .0))
+    (c .before .before .before .before .before .before .step-index .ensures)
+    (c .before .before .before .before .before .step-index2 .ensures) (s .pre .1)
 
 slice-aggregate-apply : tie.Need-slice-aggregate-apply
-slice-aggregate-apply c = used-long (shape (c .before .before .before .before .before .before .before .before .before .before .before .before)) (state-facts (c .before .before .before .before .before .before .before .before .before .before .before .before .before .before .before .pre .0))
+slice-aggregate-apply c =
+    let d = c .before .before .before .before .before .before .before .before .before .before .before .before .before .before in
+    used-long (shape d) (state-facts (d .before .before .before .pre .0))
 
 slice-reshare-prefix-apply : tie.Need-slice-reshare-prefix-apply
-slice-reshare-prefix-apply c = count-in (shape (c .before .before .before .before .before .before .before .before .before .before .before .before)) (state-facts (c .before .before .before .before .before .before .before .before .before .before .before .before .before .before .before .pre .0)) (c .before .before .before .before .before .compose-run .ensures)
+slice-reshare-prefix-apply c =
+    let d = c .before .before .before .before .before .before .before .before .before .before .before .before .before .before in
+    count-in (shape d) (state-facts (d .before .before .before .pre .0))
+    (c .before .before .before .before .before .before .before .before .before .before .before .before .step-index .ensures)
+    (c .before .before .before .before .before .before .before .before .before .before .before .step-index2 .ensures)
+    (c .before .before .before .before .before .compose-run .ensures)
 
 slice-aggregate-apply-2 : tie.Need-slice-aggregate-apply-2
-slice-aggregate-apply-2 c = changes-long (shape (c .before .before .before .before .before .before .before .before .before .before .before .before .before)) (state-facts (c .before .before .before .before .before .before .before .before .before .before .before .before .before .before .before .before .pre .0)) (c .before .before .before .before .before .before .compose-run .ensures)
+slice-aggregate-apply-2 c =
+    let d = c .before .before .before .before .before .before .before .before .before .before .before .before .before in
+    changes-long (shape (d .before .before)) (state-facts (d .before .before .before .before .before .pre .0)) (d .step-index .ensures)
+    (c .before .before .before .before .before .before .before .before .before .before .before .before .step-index2 .ensures)
+    (c .before .before .before .before .before .before .compose-run .ensures)
 
 apply-requires : tie.Need-apply-requires
-apply-requires c κs = (state-facts (c .before .before .before .before .before .before .before .before .before .before .before .before .before .before .before .before .before .pre .0) .sound .map .puts, has-room (shape (c .before .before .before .before .before .before .before .before .before .before .before .before .before .before)) (state-facts (c .before .before .before .before .before .before .before .before .before .before .before .before .before .before .before .before .before .pre .0)) (c .before .before .before .before .before .before .before .compose-run .ensures) (c .before .before .before .before .before .before .before .before .before .before .before .before .before .before .before .before .before .pre .1) (c .before .before .before .before .map .given))
+apply-requires c κs =
+    let d = c .before .before .before .before .before .before .before .before .before .before .before .before .before .before in
+    let s = d .before .before .before .before .before in
+    let ok = state-facts (s .pre .0) in (
+      ok .sound .map .puts,
+      has-room (shape (d .before .before)) ok (d .step-index .ensures)
+          (c .before .before .before .before .before .before .before .before .before .before .before .before .before .step-index2 .ensures)
+          (c .before .before .before .before .before .before .before .compose-run .ensures) (s .pre .1)
+          (c .before .before .before .before .map .given),
+    )
 
 same-length : tie.Need-same-length
 same-length c = search needs
@@ -53,16 +64,24 @@ same-length-2 : tie.Need-same-length-2
 same-length-2 c = search needs
 
 returns : tie.Need-returns
-returns c = (size-is (shape (c .before .before .before .before .before .before .before .before .before .before .before .before .before .before .before .before .before)) (state-facts (c .before .before .before .before .before .before .before .before .before .before .before .before .before .before .before .before .before .before .before .before .pre .0)) (c .before .before .before .before .before .before .before .before .before .before .compose-run .ensures) _ _ (c .before .before .apply .ensures .0) (c .before .before .apply .ensures .1), map-is (shape (c .before .before .before .before .before .before .before .before .before .before .before .before .before .before .before .before .before)) (state-facts (c .before .before .before .before .before .before .before .before .before .before .before .before .before .before .before .before .before .before .before .before .pre .0)) (c .before .before .before .before .before .before .before .before .before .before .compose-run .ensures) _ _ (c .before .before .apply .ensures .0) (c .before .before .apply .ensures .1))
+returns c =
+    let d = c .before .before .before .before .before .before .before .before .before .before in
+    let ok = state-facts (d .before .before .before .before .before .before .before .before .before .before .before .before .pre .0) in
+    let p = shape (d .before .before .before .before .before .before .before .before .before) in (
+      size-is p ok (d .before .before .before .before .before .before .before .step-index .ensures)
+          (d .before .before .before .before .before .before .step-index2 .ensures) (d .compose-run .ensures) _ _
+          (c .before .before .apply .ensures .0) (c .before .before .apply .ensures .1),
+      map-is p ok (d .before .before .before .before .before .before .before .step-index .ensures)
+          (d .before .before .before .before .before .before .step-index2 .ensures) (d .compose-run .ensures) _ _
+          (c .before .before .apply .ensures .0) (c .before .before .apply .ensures .1),
+    )
 
 pub map-at-spec : {M : Type 1} → statement M
 map-at-spec =
     tie.close
     (tie.spec
-    sub-from
-    cast-from
-    sub-to
-    cast-to
+    step-index-requires
+    step-index-requires-2
     compose-run-requires
     slice-aggregate-apply
     slice-reshare-prefix-apply

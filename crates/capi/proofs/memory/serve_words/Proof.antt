@@ -31,7 +31,21 @@ same-length-5 : tie.Need-same-length-5
 same-length-5 c = search needs
 
 returns : tie.Need-returns
-returns c = (serves (c .before .before .before .before .before .before .before .before .before .before .before .before .before .before .before .before .before .before .before .before .before .before .before .before .args .table .now) (c .before .before .before .before .before .before .before .before .before .before .before .before .before .before .before .before .before .before .before .before .before .before .before .before .args .journal .now) (c .before .before .before .before .before .before .before .before .before .before .before .before .before .before .before .before .before .before .before .before .before .before .before .before .args .words .now) [] (c .before .before .before .before .before .before .before .before .before .before .before .before .before .before .before .before .before .before .before .before .before .before .before .before .args .head .now) (c .before .before .before .before .before .before .before .before .before .before .before .before .before .before .before .before .before .before .before .before .before .before .before .before .args .tally .now) (c .before .before .before .before .before .before .before .before .before .before .before .before .before .before .before .before .before .before .before .before .before .before .before .before .args .call) (c .code-of .ensures) (c .before .before .before .before .before .before .before .before .before .before .before .before .call-on .ensures), (c .before .before .before .before .before .before .before .before .before .before .before .before .call-on .ensures .3))
+returns c = (
+  serves (c .before .before .before .before .before .before .before .before .before .before .before .before .before .before .before .before .before .before .before .before .before .before .before .before .args .table .now) (c .before .before .before .before .before .before .before .before .before .before .before .before .before .before .before .before .before .before .before .before .before .before .before .before .args .journal .now) (c .before .before .before .before .before .before .before .before .before .before .before .before .before .before .before .before .before .before .before .before .before .before .before .before .args .words .now) [] (c .before .before .before .before .before .before .before .before .before .before .before .before .before .before .before .before .before .before .before .before .before .before .before .before .args .head .now) (c .before .before .before .before .before .before .before .before .before .before .before .before .before .before .before .before .before .before .before .before .before .before .before .before .args .tally .now) (c .before .before .before .before .before .before .before .before .before .before .before .before .before .before .before .before .before .before .before .before .before .before .before .before .args .call) (c .code-of .ensures) (c .before .before .before .before .before .before .before .before .before .before .before .before .call-on .ensures),
+  (c .before .before .before .before .before .before .before .before .before .before .before .before .call-on .ensures .3),
+)
 
 pub serve-words-spec : {M : Type 1} → statement M
-serve-words-spec = tie.close (tie.spec slice-aggregate-call-on call-on-requires code-of-requires same-length same-length-2 same-length-3 same-length-4 same-length-5 returns)
+serve-words-spec =
+    tie.close
+    (tie.spec
+    slice-aggregate-call-on
+    call-on-requires
+    code-of-requires
+    same-length
+    same-length-2
+    same-length-3
+    same-length-4
+    same-length-5
+    returns)

@@ -1,7 +1,7 @@
 -- `pricing::cechnuol_price_batch` meets its contract.
 -- Assumes nothing.
 use mathlib.Core.Path.{ap, _∙_}
-use Rattle.grounds.specs.Numbers.{Answer}
+use Rattle.answers.specs.Answers.{Said}
 use Rattle.lent.specs.Codes.{codeOf, valueOf}
 use borrow.Author.Needs.{needs}
 use Rattle.capi.proofs.pricing.cechnuol_price_batch.Statement.{statement}
@@ -10,17 +10,23 @@ use Rattle.capi.proofs.pricing.cechnuol_price_batch.Tie as tie
 price-batch-requires : tie.Need-price-batch-requires
 price-batch-requires c κs = search needs
 
-batch-value-requires : tie.Need-batch-value-requires
-batch-value-requires c κs = search needs
+value-of-requires : tie.Need-value-of-requires
+value-of-requires c κs = search needs
 
-batch-code-requires : tie.Need-batch-code-requires
-batch-code-requires c κs = search needs
+code-of-requires : tie.Need-code-of-requires
+code-of-requires c κs = search needs
 
 same-length : tie.Need-same-length
 same-length c = search needs
 
 returns : tie.Need-returns
-returns c = ((c .batch-code .ensures) ∙ ap codeOf (c .before .before .before .before .before .price-batch .ensures .0), (c .before .before .before .before .before .price-batch .ensures .1), (c .before .batch-value .ensures) ∙ ap (λ (a : Answer). valueOf a (c .before .before .before .before .before .before .before .before .before .before .args .count .now)) (c .before .before .before .before .before .price-batch .ensures .0))
+returns c = (
+  (c .code-of .ensures) ∙ ap codeOf (c .before .before .before .before .before .price-batch .ensures .0),
+  (c .before .before .before .before .before .price-batch .ensures .1),
+  (c .before .value-of .ensures) ∙ ap (λ (a : Said). valueOf a (c .before .before .before .before .before .before .before .before .before .before .args .count .now)) (c .before .before .before .before .before .price-batch .ensures .0),
+)
 
 pub cechnuol-price-batch-spec : {M : Type 1} → statement M
-cechnuol-price-batch-spec = tie.close (tie.spec price-batch-requires batch-value-requires batch-code-requires same-length returns)
+cechnuol-price-batch-spec =
+    tie.close
+    (tie.spec price-batch-requires value-of-requires code-of-requires same-length returns)

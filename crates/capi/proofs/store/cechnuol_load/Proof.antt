@@ -1,7 +1,7 @@
 -- `store::cechnuol_load` meets its contract: it has what the call on lent memory promises.
 -- Assumes nothing.
 use mathlib.Core.List.{[]}
-use Rattle.calls.specs.declared.call.Call.the-variants.{Load}
+use Rattle.lent.specs.Asked.{load}
 use Rattle.capi.proofs.Serving.{serves}
 use borrow.Author.Needs.{needs}
 use Rattle.capi.proofs.store.cechnuol_load.Statement.{statement}
@@ -32,7 +32,21 @@ same-length-5 : tie.Need-same-length-5
 same-length-5 c = search needs
 
 returns : tie.Need-returns
-returns c = (serves (c .before .before .before .before .before .before .before .before .before .before .before .before .before .before .before .before .before .before .before .before .before .before .before .before .args .table .now) (c .before .before .before .before .before .before .before .before .before .before .before .before .before .before .before .before .before .before .before .before .before .before .before .before .args .journal .now) [] (c .before .before .before .before .before .before .before .before .before .before .before .before .before .before .before .before .before .before .before .before .before .before .before .before .args .bytes .now) (c .before .before .before .before .before .before .before .before .before .before .before .before .before .before .before .before .before .before .before .before .before .before .before .before .args .head .now) (c .before .before .before .before .before .before .before .before .before .before .before .before .before .before .before .before .before .before .before .before .before .before .before .before .args .tally .now) Load (c .code-of .ensures) (c .before .before .before .before .before .before .before .before .before .before .before .before .call-on .ensures), (c .before .before .before .before .before .before .before .before .before .before .before .before .call-on .ensures .4))
+returns c = (
+  serves (c .before .before .before .before .before .before .before .before .before .before .before .before .before .before .before .before .before .before .before .before .before .before .before .before .args .table .now) (c .before .before .before .before .before .before .before .before .before .before .before .before .before .before .before .before .before .before .before .before .before .before .before .before .args .journal .now) [] (c .before .before .before .before .before .before .before .before .before .before .before .before .before .before .before .before .before .before .before .before .before .before .before .before .args .bytes .now) (c .before .before .before .before .before .before .before .before .before .before .before .before .before .before .before .before .before .before .before .before .before .before .before .before .args .head .now) (c .before .before .before .before .before .before .before .before .before .before .before .before .before .before .before .before .before .before .before .before .before .before .before .before .args .tally .now) load (c .code-of .ensures) (c .before .before .before .before .before .before .before .before .before .before .before .before .call-on .ensures),
+  (c .before .before .before .before .before .before .before .before .before .before .before .before .call-on .ensures .4),
+)
 
 pub cechnuol-load-spec : {M : Type 1} → statement M
-cechnuol-load-spec = tie.close (tie.spec slice-aggregate-call-on call-on-requires code-of-requires same-length same-length-2 same-length-3 same-length-4 same-length-5 returns)
+cechnuol-load-spec =
+    tie.close
+    (tie.spec
+    slice-aggregate-call-on
+    call-on-requires
+    code-of-requires
+    same-length
+    same-length-2
+    same-length-3
+    same-length-4
+    same-length-5
+    returns)

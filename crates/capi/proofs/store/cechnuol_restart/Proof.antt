@@ -1,7 +1,7 @@
 -- `store::cechnuol_restart` meets its contract: it has what the call on lent memory promises.
 -- Assumes nothing.
 use mathlib.Core.List.{[]}
-use Rattle.calls.specs.declared.call.Call.the-variants.{Restart}
+use Rattle.lent.specs.Asked.{restart}
 use Rattle.capi.proofs.Serving.{serves}
 use borrow.Author.Needs.{needs}
 use Rattle.capi.proofs.store.cechnuol_restart.Statement.{statement}
@@ -32,7 +32,21 @@ same-length-5 : tie.Need-same-length-5
 same-length-5 c = search needs
 
 returns : tie.Need-returns
-returns c = (serves (c .before .before .before .before .before .before .before .before .before .before .before .before .before .before .before .before .before .before .before .before .before .before .before .before .args .table .now) (c .before .before .before .before .before .before .before .before .before .before .before .before .before .before .before .before .before .before .before .before .before .before .before .before .args .journal .now) [] (c .before .before .before .before .before .before .before .before .before .before .before .before .before .before .before .before .before .before .before .before .before .before .before .before .args .bytes .now) (c .before .before .before .before .before .before .before .before .before .before .before .before .before .before .before .before .before .before .before .before .before .before .before .before .args .head .now) (c .before .before .before .before .before .before .before .before .before .before .before .before .before .before .before .before .before .before .before .before .before .before .before .before .args .tally .now) Restart (c .code-of .ensures) (c .before .before .before .before .before .before .before .before .before .before .before .before .call-on .ensures), (c .before .before .before .before .before .before .before .before .before .before .before .before .call-on .ensures .4))
+returns c = (
+  serves (c .before .before .before .before .before .before .before .before .before .before .before .before .before .before .before .before .before .before .before .before .before .before .before .before .args .table .now) (c .before .before .before .before .before .before .before .before .before .before .before .before .before .before .before .before .before .before .before .before .before .before .before .before .args .journal .now) [] (c .before .before .before .before .before .before .before .before .before .before .before .before .before .before .before .before .before .before .before .before .before .before .before .before .args .bytes .now) (c .before .before .before .before .before .before .before .before .before .before .before .before .before .before .before .before .before .before .before .before .before .before .before .before .args .head .now) (c .before .before .before .before .before .before .before .before .before .before .before .before .before .before .before .before .before .before .before .before .before .before .before .before .args .tally .now) restart (c .code-of .ensures) (c .before .before .before .before .before .before .before .before .before .before .before .before .call-on .ensures),
+  (c .before .before .before .before .before .before .before .before .before .before .before .before .call-on .ensures .4),
+)
 
 pub cechnuol-restart-spec : {M : Type 1} → statement M
-cechnuol-restart-spec = tie.close (tie.spec slice-aggregate-call-on call-on-requires code-of-requires same-length same-length-2 same-length-3 same-length-4 same-length-5 returns)
+cechnuol-restart-spec =
+    tie.close
+    (tie.spec
+    slice-aggregate-call-on
+    call-on-requires
+    code-of-requires
+    same-length
+    same-length-2
+    same-length-3
+    same-length-4
+    same-length-5
+    returns)

@@ -23,4 +23,5 @@ returns-2 : tie.Need-returns-2
 returns-2 c = (refl, (c .before .before .pack .ensures) ∙ sym (chosen (sym (c .before .before .before .before .before .is-accepted .ensures) ∙ not-false _ (c .before .before .before .before .if1 .left)) _ _))
 
 pub put-reply-spec : {M : Type 1} → statement M
-put-reply-spec = tie.close (tie.spec is-accepted-requires returns pack-requires same-length returns-2)
+put-reply-spec =
+    tie.close (tie.spec is-accepted-requires returns pack-requires same-length returns-2)

@@ -1,6 +1,6 @@
 -- `serve::serve_core` meets its contract.
 -- Assumes nothing.
-use Rattle.calls.specs.Calls.{replyTo}
+use Rattle.calls.specs.Lent.{lent}
 use Rattle.unit.proofs.Serving.{served-is}
 use borrow.Author.Needs.{needs}
 use Rattle.unit.proofs.serve.serve_core.Statement.{statement}
@@ -9,17 +9,8 @@ use Rattle.unit.proofs.serve.serve_core.Tie as tie
 perform-requires : tie.Need-perform-requires
 perform-requires c κs = search needs
 
-counts-of-requires : tie.Need-counts-of-requires
-counts-of-requires c κs = search needs
-
-count-after-requires : tie.Need-count-after-requires
-count-after-requires c κs = search needs
-
-count-after-requires-2 : tie.Need-count-after-requires-2
-count-after-requires-2 c κs = search needs
-
-count-after-requires-3 : tie.Need-count-after-requires-3
-count-after-requires-3 c κs = search needs
+tally-after-requires : tie.Need-tally-after-requires
+tally-after-requires c κs = search needs
 
 same-length : tie.Need-same-length
 same-length c = search needs
@@ -34,17 +25,16 @@ same-length-4 : tie.Need-same-length-4
 same-length-4 c = search needs
 
 returns : tie.Need-returns
-returns c = (served-is (c .before .before .before .before .before .before .before .before .before .before .before .before .before .before .before .before .before .before .before .before .before .args .committed) (c .before .before .before .before .before .before .before .before .before .before .before .before .before .before .before .before .before .before .before .before .before .args .rolled-back) (c .before .before .before .before .before .before .before .before .before .before .before .before .before .before .before .before .before .before .before .before .before .args .flushed) (c .before .before .before .before .before .before .before .before .before .before .before .before .before .before .before .before .before .before .before .before .before .args .head) (c .before .before .before .before .before .before .before .before .before .before .before .before .before .before .before .before .before .before .before .before .before .args .call) (replyTo (c .before .before .before .before .before .before .before .before .before .before .before .before .before .before .before .before .before .before .before .before .before .args .table .now) (c .before .before .before .before .before .before .before .before .before .before .before .before .before .before .before .before .before .before .before .before .before .args .journal .now) (c .before .before .before .before .before .before .before .before .before .before .before .before .before .before .before .before .before .before .before .before .before .args .words .now) (c .before .before .before .before .before .before .before .before .before .before .before .before .before .before .before .before .before .before .before .before .before .args .bytes .now) (c .before .before .before .before .before .before .before .before .before .before .before .before .before .before .before .before .before .before .before .before .before .args .head) (c .before .before .before .before .before .before .before .before .before .before .before .before .before .before .before .before .before .before .before .before .before .args .call)) ((c .before .before .before .before .before .before .before .before .before .before .before .before .perform .ensures .0 .0)) ((c .before .before .before .counts-of .ensures)) ((c .before .before .count-after .ensures)) ((c .before .count-after2 .ensures)) ((c .count-after3 .ensures)), (c .before .before .before .before .before .before .before .before .before .before .before .before .perform .ensures .1), (c .before .before .before .before .before .before .before .before .before .before .before .before .perform .ensures .2), (c .before .before .before .before .before .before .before .before .before .before .before .before .perform .ensures .3), (c .before .before .before .before .before .before .before .before .before .before .before .before .perform .ensures .4))
+returns c =
+    let l = lent (c .before .before .before .before .before .before .before .before .before .before .before .before .before .before .before .before .before .before .args .table .now) (c .before .before .before .before .before .before .before .before .before .before .before .before .before .before .before .before .before .before .args .journal .now) (c .before .before .before .before .before .before .before .before .before .before .before .before .before .before .before .before .before .before .args .words .now) (c .before .before .before .before .before .before .before .before .before .before .before .before .before .before .before .before .before .before .args .bytes .now) (c .before .before .before .before .before .before .before .before .before .before .before .before .before .before .before .before .before .before .args .head) in
+    served-is (c .before .before .before .before .before .before .before .before .before .before .before .before .before .before .before .before .before .before .args .tally) l (c .before .before .before .before .before .before .before .before .before .before .before .before .before .before .before .before .before .before .args .call) (c .before .before .before .before .before .before .before .before .before .perform .ensures) (c .tally-after .ensures)
 
 pub serve-core-spec : {M : Type 1} → statement M
 serve-core-spec =
     tie.close
     (tie.spec
     perform-requires
-    counts-of-requires
-    count-after-requires
-    count-after-requires-2
-    count-after-requires-3
+    tally-after-requires
     same-length
     same-length-2
     same-length-3

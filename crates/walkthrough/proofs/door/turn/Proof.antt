@@ -54,23 +54,23 @@ use Rattle.walkthrough.proofs.door.turn.Key.{name as #this}
 use Rattle.walkthrough.proofs.door.turn as this
 use Rattle.walkthrough.proofs.door.turn.Statement as stated
 use Rattle.walkthrough.proofs.door.turn.Code as code
-use Rattle.tallies.specs.declared.Tally.{Tally}
-use Rattle.tallies.proofs.Tally as tally
-use Rattle.tallies.proofs.Tally.Laws as tally-laws
-use Rattle.calls.specs.declared.call.Reply.{Reply}
-use Rattle.calls.proofs.call.Reply as reply
-use Rattle.calls.proofs.call.Reply.Laws as reply-laws
+use Rattle.answers.specs.declared.tally.Tally.{Tally}
+use Rattle.answers.proofs.tally.Tally as tally
+use Rattle.answers.proofs.tally.Tally.Laws as tally-laws
+use Rattle.layout.specs.declared.head.Reply.{Reply}
+use Rattle.layout.proofs.head.Reply as reply
+use Rattle.layout.proofs.head.Reply.Laws as reply-laws
 use Rattle.layout.specs.declared.head.Head.{Head}
 use Rattle.layout.proofs.head.Head as head
 use Rattle.layout.proofs.head.Head.Laws as head-laws
-use Rattle.calls.specs.declared.call.Call.{Call}
-use Rattle.calls.proofs.call.Call as call
-use Rattle.calls.proofs.call.Call.Laws as call-laws
+use Rattle.answers.specs.declared.call.Call.{Call}
+use Rattle.answers.proofs.call.Call as call
+use Rattle.answers.proofs.call.Call.Laws as call-laws
 use Rattle.walkthrough.specs.declared.door.After.{After}
 use Rattle.walkthrough.proofs.door.After as after
 use Rattle.walkthrough.proofs.door.After.Laws as after-laws
-use Rattle.calls.specs.Calls.{GivesReply, answerTo, replyTo, tableAfter, journalAfter, wordsAfter, bytesAfter}
-use Rattle.tallies.specs.Tally.{tallyAfter}
+use Rattle.calls.specs.Lent.{lent as lentOf}
+use Rattle.unit.specs.Serve.{Replies}
 
 -- the machine values of the declared types, and what relates them to their denotations
 abbrev tally-val : Tally → Val
@@ -171,13 +171,7 @@ module _ {M : Type 1} (𝓤 : URA M) (H : Heap 𝓤) (A : Atoms 𝓤) (W : Given
 
   -- what serve ensures of its reply, of the tally and of the slices
   abbrev Says : Reply → Tally → List ℕ → List ℕ → List ℕ → List ℕ → Type 0
-  Says s t z₁ z₂ z₃ z₄ =
-      GivesReply s (replyTo (x₁ .now) (x₂ .now) (x₃ .now) (x₄ .now) x₅ x₆)
-      × (t ≡ tallyAfter x₀ x₅ x₆ (answerTo (x₁ .now) (x₂ .now) (x₃ .now) (x₄ .now) x₅ x₆))
-      × (z₁ ≡ tableAfter (x₁ .now) (x₂ .now) (x₃ .now) (x₄ .now) x₅ x₆)
-      × (z₂ ≡ journalAfter (x₁ .now) (x₂ .now) (x₃ .now) (x₄ .now) x₅ x₆)
-      × (z₃ ≡ wordsAfter (x₁ .now) (x₂ .now) (x₃ .now) (x₄ .now) x₅ x₆)
-      × (z₄ ≡ bytesAfter (x₁ .now) (x₂ .now) (x₃ .now) (x₄ .now) x₅ x₆)
+  Says s t z₁ z₂ z₃ z₄ = Replies x₀ (lentOf (x₁ .now) (x₂ .now) (x₃ .now) (x₄ .now) x₅) x₆ s t z₁ z₂ z₃ z₄
 
   module _ (s : Reply) (t : Tally) (z₁ z₂ z₃ z₄ : List ℕ) where
     abbrev Left : List (Item 𝓤)

@@ -1,0 +1,42 @@
+-- What a call answers, and what the answer says in document 01's terms.
+-- Assumes nothing.
+use mathlib.Core.Path.{_≡_}
+use mathlib.Core.Bool.{Bool, true, false}
+use Prim.Native.Nat.{ℕ}
+use Rattle.answers.specs.declared.answer.Answer.{Answer}
+use Rattle.answers.specs.declared.answer.Answer.the-variants.{Done, Price, NoPrice, Count, Refused}
+use Rattle.answers.specs.declared.answer.Check.{Check}
+use Rattle.answers.specs.declared.answer.Check.the-variants.{Passed, Refused as Stopped}
+use Rattle.answers.specs.Numbers.{numberOf}
+
+-- a value where the call is accepted, "the number alone" where it is turned away
+pub data Said : Type 0 where
+  accepted : ℕ → Said
+  refused : ℕ → Said
+  -- a lookup of an offer that has no price
+  without : Said
+
+-- a price, a count or nothing but that the call was accepted, or the number of the ground
+abbrev pub saidBy : Answer → Said
+saidBy Done = accepted 0
+saidBy (Price p) = accepted p
+saidBy NoPrice = without
+saidBy (Count n) = accepted n
+saidBy (Refused ground) = refused (numberOf ground)
+
+-- whether a call was accepted
+abbrev pub acceptedB : Answer → Bool
+acceptedB Done = true
+acceptedB (Price p) = true
+acceptedB NoPrice = true
+acceptedB (Count n) = true
+acceptedB (Refused ground) = false
+
+-- what a call answers where its check passes, and the ground where it does not
+abbrev pub answered : Check → Answer → Answer
+answered Passed answer = answer
+answered (Stopped ground) answer = Refused ground
+
+-- The promise of an answer: it is the one that is meant, and says the same in document 01's terms.
+abbrev pub Gives : Answer → Answer → Type 0
+Gives answer meant = (answer ≡ meant) × (saidBy answer ≡ saidBy meant)

@@ -1,0 +1,4 @@
+pub mod Numbers
+pub mod First
+pub mod Answers
+pub mod Counts

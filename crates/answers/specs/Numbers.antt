@@ -1,0 +1,27 @@
+-- The numbers of the grounds (document 01, "Grounds for turning a call away").
+-- Assumes nothing.
+use Prim.Native.Nat.{ℕ}
+use Rattle.answers.specs.declared.refusal.Refusal.{Refusal}
+use Rattle.answers.specs.declared.refusal.Refusal.the-variants.{Lengths, Unsound, SlotRange, SlotTaken, SlotClosed, BadList}
+use Rattle.answers.specs.declared.refusal.Refusal.the-variants.{BadOrder, OfferNotRead, NoPrice, PriceRange, StateRange, LastState}
+use Rattle.answers.specs.declared.refusal.Refusal.the-variants.{StepsFull, JournalFull, BadImage, TableFull, OutputShort}
+
+-- the number of each ground, in the order in which they are checked
+abbrev pub numberOf : Refusal → ℕ
+numberOf Lengths = 1
+numberOf Unsound = 2
+numberOf SlotRange = 3
+numberOf SlotTaken = 4
+numberOf SlotClosed = 5
+numberOf BadList = 6
+numberOf BadOrder = 7
+numberOf OfferNotRead = 8
+numberOf NoPrice = 9
+numberOf PriceRange = 10
+numberOf StateRange = 11
+numberOf LastState = 12
+numberOf StepsFull = 13
+numberOf JournalFull = 14
+numberOf BadImage = 15
+numberOf TableFull = 16
+numberOf OutputShort = 17

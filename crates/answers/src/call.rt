@@ -1,0 +1,58 @@
+// The calls on a store, in groups. A list, read set or image is in the words or bytes lent with the call, and takes all
+// of them.
+
+// A call with its numbers.
+pub enum Call {
+    Reset(Reset),
+    Step(Step),
+    Read(Read),
+    Ask(Query),
+}
+
+// The calls that make a store anew and set the tally to zero.
+pub enum Reset {
+    // The empty map as state 0.
+    Clear,
+    // The bytes are the image.
+    Load,
+    // The image goes to the start of the bytes and is loaded back.
+    Restart,
+}
+
+// The calls that add steps, take them back and flush them.
+pub enum Step {
+    // The words are the list.
+    Commit,
+    // A state.
+    RollBack(u32),
+    // A state.
+    Flush(u32),
+}
+
+// The calls that open and close slots.
+pub enum Read {
+    // The words are the list to be filled.
+    Issue(Reader),
+    // A state; the words are the read set.
+    Forward(Reader, u32),
+    // Document 01: drop.
+    Release(Reader),
+}
+
+// Which slot a call opens or closes.
+pub struct Reader {
+    pub slot: usize,
+}
+
+// The calls that change nothing of a store.
+pub enum Query {
+    LookUp(LookUp),
+    // The image goes to the start of the bytes.
+    WriteImage,
+}
+
+// Whose price is asked for, and at which state.
+pub struct LookUp {
+    pub offer: u32,
+    pub state: u32,
+}

@@ -1,0 +1,51 @@
+-- `ask::ask` meets its contract: each arm has what its call promises.
+-- Assumes nothing.
+use Rattle.answers.specs.declared.call.Query.the-variants.{LookUp, WriteImage}
+use Rattle.calls.specs.Lent.{asks}
+use Rattle.calls.specs.Lent.{lent}
+use Rattle.calls.specs.Meaning.{queryOf}
+use Rattle.calls.proofs.Settling.{kept, settles}
+use borrow.Author.Needs.{needs}
+use Rattle.calls.proofs.ask.ask.Statement.{statement}
+use Rattle.calls.proofs.ask.ask.Tie as tie
+
+enum-known-query : tie.Need-enum-known-query
+enum-known-query c = search needs
+
+look-up-requires : tie.Need-look-up-requires
+look-up-requires c κs = search needs
+
+enum-told : tie.Need-enum-told
+enum-told c = search needs
+
+write-image-requires : tie.Need-write-image-requires
+write-image-requires c κs = search needs
+
+returns : tie.Need-returns
+returns c =
+    let l = lent (c .before .before .before .before .before .before .before .before .args .table .now) (c .before .before .before .before .before .before .before .before .args .journal .now) (c .before .before .before .before .before .before .before .before .args .words .now) (c .before .before .before .before .before .before .before .before .args .bytes .now) (c .before .before .before .before .before .before .before .before .args .head) in
+    let m = asks l (queryOf l (LookUp ((c .before .before .query .given .0 .0)))) in
+    rw ((c .before .before .query .given .1))
+    (settles m l (c .look-up .ensures) (kept (m .check) (l .table)) (kept (m .check) (l .journal)) (kept (m .check) (l .words)) (kept (m .check) (l .bytes)) (kept (m .check) (l .head)))
+
+same-length : tie.Need-same-length
+same-length c = search needs
+
+returns-2 : tie.Need-returns-2
+returns-2 c =
+    let l = lent (c .before .before .before .before .before .before .before .before .before .before .args .table .now) (c .before .before .before .before .before .before .before .before .before .before .args .journal .now) (c .before .before .before .before .before .before .before .before .before .before .args .words .now) (c .before .before .before .before .before .before .before .before .before .before .args .bytes .now) (c .before .before .before .before .before .before .before .before .before .before .args .head) in
+    let m = asks l (queryOf l WriteImage) in
+    rw ((c .before .before .before .before .enum-told .given .1))
+    (settles m l (c .before .before .write-image .ensures .0) (kept (m .check) (l .table)) (kept (m .check) (l .journal)) (kept (m .check) (l .words)) (c .before .before .write-image .ensures .1) (kept (m .check) (l .head)))
+
+pub ask-spec : {M : Type 1} → statement M
+ask-spec =
+    tie.close
+    (tie.spec
+    enum-known-query
+    look-up-requires
+    enum-told
+    write-image-requires
+    returns
+    same-length
+    returns-2)

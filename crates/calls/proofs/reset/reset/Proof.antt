@@ -1,0 +1,94 @@
+-- `reset::reset` meets its contract: each arm has what its call promises.
+-- Assumes nothing.
+use Rattle.answers.specs.declared.call.Reset.the-variants.{Clear, Load, Restart}
+use Rattle.calls.specs.Lent.{lent}
+use Rattle.calls.specs.Meaning.{resetOf}
+use Rattle.calls.proofs.Settling.{kept, settles}
+use borrow.Author.Needs.{needs}
+use Rattle.calls.proofs.reset.reset.Statement.{statement}
+use Rattle.calls.proofs.reset.reset.Tie as tie
+
+enum-told : tie.Need-enum-told
+enum-told c = search needs
+
+clear-requires : tie.Need-clear-requires
+clear-requires c κs = search needs
+
+enum-told-2 : tie.Need-enum-told-2
+enum-told-2 c = search needs
+
+load-requires : tie.Need-load-requires
+load-requires c κs = search needs
+
+enum-told-3 : tie.Need-enum-told-3
+enum-told-3 c = search needs
+
+restart-requires : tie.Need-restart-requires
+restart-requires c κs = search needs
+
+same-length : tie.Need-same-length
+same-length c = search needs
+
+same-length-2 : tie.Need-same-length-2
+same-length-2 c = search needs
+
+returns : tie.Need-returns
+returns c =
+    let l = lent (c .before .before .before .before .before .before .before .before .before .before .before .before .before .args .table .now) (c .before .before .before .before .before .before .before .before .before .before .before .before .before .args .journal .now) (c .before .before .before .before .before .before .before .before .before .before .before .before .before .args .words .now) (c .before .before .before .before .before .before .before .before .before .before .before .before .before .args .bytes .now) (c .before .before .before .before .before .before .before .before .before .before .before .before .before .args .head) in
+    let m = resetOf l Clear in
+    rw ((c .before .before .before .before .before .before .before .enum-told .given .1))
+    (settles m l (c .before .before .before .before .clear .ensures .0) (c .before .before .before .before .clear .ensures .2) (c .before .before .before .before .clear .ensures .3) (kept (m .check) (l .words)) (kept (m .check) (l .bytes)) (c .before .before .before .before .clear .ensures .1))
+
+same-length-3 : tie.Need-same-length-3
+same-length-3 c = search needs
+
+same-length-4 : tie.Need-same-length-4
+same-length-4 c = search needs
+
+same-length-5 : tie.Need-same-length-5
+same-length-5 c = search needs
+
+returns-2 : tie.Need-returns-2
+returns-2 c =
+    let l = lent (c .before .before .before .before .before .before .before .before .before .before .before .before .before .before .args .table .now) (c .before .before .before .before .before .before .before .before .before .before .before .before .before .before .args .journal .now) (c .before .before .before .before .before .before .before .before .before .before .before .before .before .before .args .words .now) (c .before .before .before .before .before .before .before .before .before .before .before .before .before .before .args .bytes .now) (c .before .before .before .before .before .before .before .before .before .before .before .before .before .before .args .head) in
+    let m = resetOf l Load in
+    rw ((c .before .before .before .before .before .before .before .before .enum-told2 .given .1))
+    (settles m l (c .before .before .before .before .load .ensures .0) (c .before .before .before .before .load .ensures .2) (c .before .before .before .before .load .ensures .3) (kept (m .check) (l .words)) (kept (m .check) (l .bytes)) (c .before .before .before .before .load .ensures .1))
+
+same-length-6 : tie.Need-same-length-6
+same-length-6 c = search needs
+
+same-length-7 : tie.Need-same-length-7
+same-length-7 c = search needs
+
+same-length-8 : tie.Need-same-length-8
+same-length-8 c = search needs
+
+returns-3 : tie.Need-returns-3
+returns-3 c =
+    let l = lent (c .before .before .before .before .before .before .before .before .before .before .before .before .before .before .before .before .args .table .now) (c .before .before .before .before .before .before .before .before .before .before .before .before .before .before .before .before .args .journal .now) (c .before .before .before .before .before .before .before .before .before .before .before .before .before .before .before .before .args .words .now) (c .before .before .before .before .before .before .before .before .before .before .before .before .before .before .before .before .args .bytes .now) (c .before .before .before .before .before .before .before .before .before .before .before .before .before .before .before .before .args .head) in
+    let m = resetOf l Restart in
+    rw ((c .before .before .before .before .before .before .before .before .before .before .enum-told3 .given .1))
+    (settles m l (c .before .before .before .before .before .before .restart .ensures .0) (c .before .before .before .before .before .before .restart .ensures .2) (c .before .before .before .before .before .before .restart .ensures .3) (kept (m .check) (l .words)) (c .before .before .before .before .before .before .restart .ensures .4) (c .before .before .before .before .before .before .restart .ensures .1))
+
+pub reset-spec : {M : Type 1} → statement M
+reset-spec =
+    tie.close
+    (tie.spec
+    enum-told
+    clear-requires
+    enum-told-2
+    load-requires
+    enum-told-3
+    restart-requires
+    same-length
+    same-length-2
+    returns
+    same-length-3
+    same-length-4
+    same-length-5
+    returns-2
+    same-length-6
+    same-length-7
+    same-length-8
+    returns-3)

@@ -1,0 +1,112 @@
+-- What each call means, by the definitions that its own contract cites: one clause a call.
+-- Assumes nothing.
+use mathlib.Core.List.{_++_}
+use Prim.Native.Nat.{_+_, _*_}
+use lib.ListN.{length, take, drop, getD, replicate}
+use Rattle.changes.specs.Calculus.{find, composeAll}
+use Rattle.changes.specs.ReadSets.{readOf, over}
+use Rattle.changes.specs.Runs.{startOf}
+use Rattle.answers.specs.declared.answer.Answer.the-variants.{Done, Count}
+use Rattle.answers.specs.declared.call.Call.{Call}
+use Rattle.answers.specs.declared.call.Call.the-variants.{Reset, Step, Read, Ask}
+use Rattle.answers.specs.declared.call.Query.{Query}
+use Rattle.answers.specs.declared.call.Query.the-variants.{LookUp, WriteImage}
+use Rattle.answers.specs.declared.call.Read.{Read as ReadCall}
+use Rattle.answers.specs.declared.call.Read.the-variants.{Issue, Forward, Release}
+use Rattle.answers.specs.declared.call.Reset.{Reset as ResetCall}
+use Rattle.answers.specs.declared.call.Reset.the-variants.{Clear, Load, Restart}
+use Rattle.answers.specs.declared.call.Step.{Step as StepCall}
+use Rattle.answers.specs.declared.call.Step.the-variants.{Commit, RollBack, Flush}
+use Rattle.image.specs.Image.{countIn, numberIn, wordsIn}
+use Rattle.layout.specs.States.{heldOf, mapHere}
+use Rattle.views.specs.Laid.{padded}
+use Rattle.views.specs.Trim.{trimmedHead, trimmedJournal}
+use Rattle.slots.specs.Slots.{opened, shut}
+use Rattle.snapshot.specs.Calls.{clearCheck, loadCheck, writeCheck, imageHere}
+use Rattle.snapshot.specs.Fresh.{freshHead}
+use Rattle.commits.specs.Commit.{commitCheck, usedOf, withList, withStep}
+use Rattle.rollbacks.specs.RollBack.{rollCheck, keptOf, cutAt, cutTo}
+use Rattle.flushes.specs.Flush.{flushCheck, flushedHead}
+use Rattle.lookups.specs.LookUp.{lookUpCheck, quoteOf}
+use Rattle.issues.specs.Issue.{issueCheck}
+use Rattle.forwards.specs.Forward.{forwardCheck, stepsFor}
+use Rattle.releases.specs.Release.{releaseCheck}
+use Rattle.calls.specs.Lent.{Lent, withStore, withWords, withBytes, Left, Meaning, means, Asking, asks, settled}
+
+module _ (l : Lent) where
+  -- the calls that make a store anew
+  abbrev pub resetOf : ResetCall → Meaning
+  resetOf Clear =
+      means (clearCheck (l .table) (l .journal)) Done
+      (withStore l (replicate (length (l .table)) 0) (replicate (length (l .journal)) 0) (freshHead 0 0))
+  resetOf Load =
+      means (loadCheck (l .table) (l .journal) (l .bytes)) Done
+      (withStore l
+      (padded (length (l .table)) (wordsIn (l .bytes)))
+      (replicate (length (l .journal)) 0)
+      (freshHead (countIn (l .bytes)) (numberIn (l .bytes))))
+  resetOf Restart =
+      let image = imageHere (l .table) (l .head) in
+      means (writeCheck (l .table) (l .journal) (l .head) (length (l .bytes))) Done
+      (withBytes
+      (withStore l (padded (length (l .table)) (wordsIn image)) (replicate (length (l .journal)) 0) (freshHead (countIn image) (numberIn image)))
+      (image ++ drop (6 + 8 * l .head .used) (l .bytes)))
+
+  -- the calls that add steps, take them back and flush them
+  abbrev pub stepOf : StepCall → Meaning
+  stepOf Commit =
+      let used = usedOf (l .head) in
+      means (commitCheck (l .table) (l .journal) (l .head) (l .words)) Done
+      (withStore l (l .table) (withList (l .journal) used (l .words)) (withStep (l .head) (heldOf (l .head)) (used + length (l .words))))
+  stepOf (RollBack state) =
+      let kept = keptOf (l .head) state in
+      means (rollCheck (l .table) (l .journal) (l .head) state) Done
+      (withStore l (l .table) (cutAt (l .journal) (startOf (l .head .ends) kept)) (cutTo (l .head) kept state))
+  stepOf (Flush state) =
+      let map = mapHere (l .table) (l .journal) (l .head) state in
+      let head = flushedHead (l .head) (length map) state in
+      means (flushCheck (l .table) (l .journal) (l .head) state) Done
+      (withStore l (padded (length (l .table)) map) (trimmedJournal head (l .journal)) (trimmedHead head))
+
+  -- the calls that open and close slots
+  abbrev pub readCallOf : ReadCall → Meaning
+  readCallOf (Issue reader) =
+      means (issueCheck (l .table) (l .journal) (l .head) reader (l .words)) Done
+      (withWords
+      (withStore l (l .table) (l .journal) (opened (l .head) (reader .slot)))
+      (readOf (take (l .head .used) (l .table)) (l .words)))
+  readCallOf (Forward reader state) =
+      let head = shut (l .head) (reader .slot) in
+      means (forwardCheck (l .table) (l .journal) (l .head) reader state (l .words)) Done
+      (withWords
+      (withStore l (l .table) (trimmedJournal head (l .journal)) (trimmedHead head))
+      (over (l .words) (composeAll (stepsFor (l .journal) (l .head) reader state))))
+  readCallOf (Release reader) =
+      let head = shut (l .head) (reader .slot) in
+      means (releaseCheck (l .table) (l .journal) (l .head) reader) Done
+      (withStore l (l .table) (trimmedJournal head (l .journal)) (trimmedHead head))
+
+  -- the calls that change nothing of a store
+  abbrev pub queryOf : Query → Asking
+  queryOf (LookUp asked) = record {
+    check = lookUpCheck (l .table) (l .journal) (l .head) asked;
+    answer = quoteOf (find (asked .offer) (mapHere (l .table) (l .journal) (l .head) (asked .state)));
+    words = l .words;
+    bytes = l .bytes;
+  }
+  queryOf WriteImage = record {
+    check = writeCheck (l .table) (l .journal) (l .head) (length (l .bytes));
+    answer = Count (6 + 8 * l .head .used);
+    words = l .words;
+    bytes = imageHere (l .table) (l .head) ++ drop (6 + 8 * l .head .used) (l .bytes);
+  }
+
+  abbrev pub meaning : Call → Meaning
+  meaning (Reset call) = resetOf call
+  meaning (Step call) = stepOf call
+  meaning (Read call) = readCallOf call
+  meaning (Ask query) = asks l (queryOf query)
+
+-- what a call answers and leaves
+abbrev pub performed : Lent → Call → Left
+performed l call = settled (meaning l call) l

@@ -1,0 +1,26 @@
+// The calls that change nothing of a store: they are lent it to read, and memory for what they write.
+use answers::answer::Answer;
+use answers::call::Query;
+use layout::head::Head;
+use lookups::look_up;
+use snapshot::write::write_image;
+ghost use mathlib.Core.Path.{_≡_};
+ghost use Rattle.answers.specs.Answers.{Gives};
+ghost use Rattle.calls.specs.Lent.{lent, asks, settled, Performs};
+ghost use Rattle.calls.specs.Meaning.{queryOf};
+
+pub fn ask(
+    table: &[u64],
+    journal: &[u64],
+    words: &mut [u64],
+    bytes: &mut [u8],
+    head: Head,
+    query: Query,
+) -> Answer
+    ensures { λ r. ⌜ Performs (settled (asks (lent (now (table .entry)) (now (journal .entry)) (now (words .entry)) (now (bytes .entry)) head) (queryOf (lent (now (table .entry)) (now (journal .entry)) (now (words .entry)) (now (bytes .entry)) head) query)) (lent (now (table .entry)) (now (journal .entry)) (now (words .entry)) (now (bytes .entry)) head)) r (now (table .entry)) (now (journal .entry)) (now (words .exit)) (now (bytes .exit)) head ⌝ }
+{
+    match query {
+        Query::LookUp(asked) => look_up(table, journal, head, asked),
+        Query::WriteImage => write_image(table, journal, head, bytes),
+    }
+}

@@ -1,0 +1,26 @@
+// The calls that make a store anew.
+use answers::call::Reset;
+use layout::head::Head;
+use layout::head::Reply;
+use snapshot::clear::clear;
+use snapshot::load::load;
+use snapshot::restart::restart;
+ghost use Rattle.calls.specs.Lent.{lent, settled, Performs};
+ghost use Rattle.calls.specs.Meaning.{resetOf};
+
+pub fn reset(
+    table: &mut [u64],
+    journal: &mut [u64],
+    words: &mut [u64],
+    bytes: &mut [u8],
+    head: Head,
+    call: Reset,
+) -> Reply
+    ensures { λ r. ⌜ Performs (settled (resetOf (lent (now (table .entry)) (now (journal .entry)) (now (words .entry)) (now (bytes .entry)) head) call) (lent (now (table .entry)) (now (journal .entry)) (now (words .entry)) (now (bytes .entry)) head)) (r .answer) (now (table .exit)) (now (journal .exit)) (now (words .exit)) (now (bytes .exit)) (r .head) ⌝ }
+{
+    match call {
+        Reset::Clear => clear(table, journal, head),
+        Reset::Load => load(table, journal, head, bytes),
+        Reset::Restart => restart(table, journal, head, bytes),
+    }
+}

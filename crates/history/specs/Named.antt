@@ -1,0 +1,152 @@
+-- The calls that condition 3 names, with their arguments, and what each is answered. Document 01's book is here the table, its change
+-- memory the journal, its anchor the checkpoint, a reading place a slot, and drop is release.
+-- Assumes nothing.
+use mathlib.Core.Bool.{Bool, true, false, cond}
+use mathlib.Core.List.{List, [], _∷_, _++_}
+use Prim.Native.Nat.{ℕ}
+use Rattle.answers.specs.declared.call.Call.{Call as UnitCall}
+use Rattle.answers.specs.declared.call.Call.the-variants.{Step, Read, Ask}
+use Rattle.answers.specs.declared.call.Query.{Query}
+use Rattle.answers.specs.declared.call.Query.the-variants.{LookUp, WriteImage}
+use Rattle.answers.specs.declared.call.Read.{Read as ReadCall}
+use Rattle.answers.specs.declared.call.Read.the-variants.{Issue, Forward, Release}
+use Rattle.answers.specs.declared.call.Step.{Step as StepCall}
+use Rattle.answers.specs.declared.call.Step.the-variants.{Commit, RollBack, Flush}
+use Rattle.answers.specs.Answers.{Said, accepted, refused as turnedAway, without}
+
+-- the calls of condition 3 with their numbers: all but clear, load and restart
+pub data Named : Type 0 where
+  step : StepCall → Named
+  read : ReadCall → Named
+  ask : Query → Named
+
+abbrev pub unitCall : Named → UnitCall
+unitCall (step call) = Step call
+unitCall (read call) = Read call
+unitCall (ask query) = Ask query
+
+-- a call with its arguments: its numbers, its list and the bytes lent; a forward's read set is no part of it
+pub record Call : Type 0 where
+  pub named : Named
+  pub list : List ℕ
+  pub bytes : List ℕ
+
+abbrev pub calling : Named → List ℕ → List ℕ → Call
+calling named list bytes = record { named = named; list = list; bytes = bytes }
+
+-- an offer and a state
+abbrev pub lookUp : ℕ → ℕ → Call
+lookUp offer state = calling (ask (LookUp (record { offer = offer; state = state }))) [] []
+
+-- a list
+abbrev pub commit : List ℕ → Call
+commit list = calling (step Commit) list []
+
+-- a state
+abbrev pub rollBack : ℕ → Call
+rollBack state = calling (step (RollBack state)) [] []
+
+abbrev pub flush : ℕ → Call
+flush state = calling (step (Flush state)) [] []
+
+-- a slot and a list
+abbrev pub issue : ℕ → List ℕ → Call
+issue slot list = calling (read (Issue (record { slot = slot }))) list []
+
+-- a slot and a state
+abbrev pub forward : ℕ → ℕ → Call
+forward slot state = calling (read (Forward (record { slot = slot }) state)) [] []
+
+-- a slot: document 01's drop
+abbrev pub release : ℕ → Call
+release slot = calling (read (Release (record { slot = slot }))) [] []
+
+-- the bytes lent
+abbrev pub writeImage : List ℕ → Call
+writeImage out = calling (ask WriteImage) [] out
+
+-- what a call answers, with what it leaves in the caller's words or bytes
+pub data Response : Type 0 where
+  -- "the answer is the number alone"
+  refused : ℕ → Response
+  -- a commit, rollback, flush or release
+  done : Response
+  -- a lookup: the offer's price, or none
+  price : ℕ → Response
+  noPrice : Response
+  -- an issue: the list as it was filled
+  filled : List ℕ → Response
+  -- "A forwarded read is the read set's words after an accepted forward."
+  forwarded : List ℕ → Response
+  -- the count of the bytes written, and the bytes lent as they are then
+  written : ℕ → List ℕ → Response
+
+-- an accepted call with its value, and the words and bytes that it leaves
+abbrev pub acceptedAs : Named → ℕ → List ℕ → List ℕ → Response
+acceptedAs (step call) value words bytes = done
+acceptedAs (read (Issue reader)) value words bytes = filled words
+acceptedAs (read (Forward reader state)) value words bytes = forwarded words
+acceptedAs (read (Release reader)) value words bytes = done
+acceptedAs (ask (LookUp asked)) value words bytes = price value
+acceptedAs (ask WriteImage) value words bytes = written value bytes
+
+abbrev pub responseTo : Named → Said → List ℕ → List ℕ → Response
+responseTo named (accepted value) words bytes = acceptedAs named value words bytes
+responseTo named (turnedAway n) words bytes = refused n
+responseTo named without words bytes = noPrice
+
+-- what a call answers and leaves
+pub record Turn (S : Type 0) : Type 0 where
+  pub response : Response
+  pub next : S
+
+abbrev pub acceptedB : Response → Bool
+acceptedB (refused n) = false
+acceptedB done = true
+acceptedB (price p) = true
+acceptedB noPrice = true
+acceptedB (filled l) = true
+acceptedB (forwarded l) = true
+acceptedB (written n l) = true
+
+-- the list among a call's arguments
+abbrev pub listIn : Named → List ℕ → List ℕ
+listIn (step Commit) list = list
+listIn (step (RollBack state)) list = []
+listIn (step (Flush state)) list = []
+listIn (read (Issue reader)) list = list
+listIn (read (Forward reader state)) list = []
+listIn (read (Release reader)) list = []
+listIn (ask query) list = []
+
+-- "Two calls are the same when kind, offer, state, place and list agree; a forward's read set and an image's bytes aren't compared",
+-- and flushes are left apart: what of a call is compared.
+abbrev pub nameOf : Call → Call
+nameOf call = calling (call .named) (listIn (call .named) (call .list)) []
+
+abbrev pub unlessFlush : Named → Call → List Call
+unlessFlush (step Commit) name = name ∷ []
+unlessFlush (step (RollBack state)) name = name ∷ []
+unlessFlush (step (Flush state)) name = []
+unlessFlush (read call) name = name ∷ []
+unlessFlush (ask query) name = name ∷ []
+
+abbrev pub compared : Call → List Call
+compared call = unlessFlush (call .named) (nameOf call)
+
+-- the calls that were accepted, in their order, flushes apart
+unfoldable pub acceptedCalls : List Call → List Response → List Call
+acceptedCalls [] responses = []
+acceptedCalls (c ∷ calls) [] = []
+acceptedCalls (c ∷ calls) (r ∷ responses) = cond (acceptedB r) (compared c) [] ++ acceptedCalls calls responses
+
+-- the prices of the lookups and the forwarded reads, in their order
+unfoldable pub quotes : List Response → List Response
+quotes [] = []
+quotes (refused n ∷ responses) = quotes responses
+quotes (done ∷ responses) = quotes responses
+quotes (price p ∷ responses) = price p ∷ quotes responses
+quotes (noPrice ∷ responses) = noPrice ∷ quotes responses
+quotes (filled l ∷ responses) = quotes responses
+quotes (forwarded l ∷ responses) = forwarded l ∷ quotes responses
+quotes (written n l ∷ responses) = quotes responses

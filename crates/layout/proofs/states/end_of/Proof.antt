@@ -1,0 +1,25 @@
+-- `states::end_of` meets its contract.
+-- Assumes nothing.
+use mathlib.Core.Path.{sym}
+use Rattle.changes.proofs.Running.{start-later}
+use borrow.Author.Needs.{needs}
+use Rattle.layout.proofs.states.end_of.Statement.{statement}
+use Rattle.layout.proofs.states.end_of.Tie as tie
+
+returns : tie.Need-returns
+returns c = search needs
+
+sub-result : tie.Need-sub-result
+sub-result c = search needs
+
+mul-result : tie.Need-mul-result
+mul-result c = search needs
+
+shared-slice-read-result : tie.Need-shared-slice-read-result
+shared-slice-read-result c = search needs
+
+returns-2 : tie.Need-returns-2
+returns-2 c = sym (start-later ((c .before .before .args .ends .now)) (c .before .before .args .n) (c .before .if1 .left))
+
+pub end-of-spec : {M : Type 1} → statement M
+end-of-spec = tie.close (tie.spec returns sub-result mul-result shared-slice-read-result returns-2)

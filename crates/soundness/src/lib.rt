@@ -1,0 +1,64 @@
+// Whether a store is sound, and the grounds that several calls share: those of the store, and that of a state named.
+use answers::answer::Check;
+use answers::refusal::Refusal;
+use layout::clauses::is_journal;
+use layout::clauses::is_table;
+use layout::clauses::least_of;
+use layout::clauses::lengths_fit;
+use layout::clauses::numbers_fit;
+use layout::clauses::slots_fit;
+use layout::head::Head;
+use layout::states::held_count;
+ghost use mathlib.Core.Path.{_≡_};
+ghost use Rattle.answers.specs.First.{first};
+ghost use Rattle.soundness.specs.Checks.{storeGrounds, stateGrounds};
+ghost use Rattle.soundness.specs.Sound.{soundB};
+
+// Whether the store is sound.
+pub fn is_sound(table: &[u64], journal: &[u64], head: Head) -> bool
+    ensures { λ r. ⌜ r ≡ soundB (now (table .entry)) (now (journal .entry)) head ⌝ }
+{
+    let checkpoint = head.checkpoint;
+    let held = head.held;
+    let issued = head.issued;
+    if !is_table(table, head.used) {
+        return false;
+    }
+    if !numbers_fit(head.oldest, checkpoint, head.tip) {
+        return false;
+    }
+    let n = held_count(head);
+    if !is_journal(journal, &head.ends, n) {
+        return false;
+    }
+    if !slots_fit(checkpoint, held, issued) {
+        return false;
+    }
+    head.oldest == least_of(checkpoint, held, issued)
+}
+
+// Whether the lengths lent are in their ranges, and the store is sound.
+pub fn store_check(table: &[u64], journal: &[u64], head: Head) -> Check
+    ensures { λ r. ⌜ r ≡ first (storeGrounds (now (table .entry)) (now (journal .entry)) head) ⌝ }
+{
+    if !lengths_fit(table.len(), journal.len()) {
+        return Check::Refused(Refusal::Lengths);
+    }
+    if !is_sound(table, journal, head) {
+        return Check::Refused(Refusal::Unsound);
+    }
+    Check::Passed
+}
+
+// Whether a state lies from the checkpoint to the tip.
+pub fn state_check(head: Head, state: u32) -> Check
+    ensures { λ r. ⌜ r ≡ first (stateGrounds head state) ⌝ }
+{
+    if state < head.checkpoint {
+        return Check::Refused(Refusal::StateRange);
+    }
+    if head.tip < state {
+        return Check::Refused(Refusal::StateRange);
+    }
+    Check::Passed
+}

@@ -1,0 +1,201 @@
+//! The queries: they read a store, which may lie in read-only memory and may be queried from several threads at once,
+//! and store nothing but their output.
+
+use ffi::said::UNTOUCHED;
+use ffi::{Lent, Readable, HEAD_WORDS, NO_PRICE};
+use model::word::entry;
+use std::ffi::{c_int, c_void};
+use std::ptr::null_mut;
+use std::{fs, slice, thread};
+
+/// State 1, with offers 5 and 9, in the table; a step to state 2 above it, slot 3 open, and counts in the tally.
+fn store() -> Lent {
+    let mut lent = Lent::of_lengths(8, 16);
+    assert_eq!(lent.clear(), 0);
+    assert_eq!(lent.commit(&mut [entry(5, Some(1200)), entry(9, Some(700))]), 0);
+    assert_eq!(lent.flush(1), 0);
+    assert_eq!(lent.issue(3, &mut [entry(5, None)]), 0);
+    assert_eq!(lent.commit(&mut [entry(5, Some(1100)), entry(9, None), entry(11, Some(0))]), 0);
+    assert_eq!(lent.tally, [2, 0, 1]);
+    lent
+}
+
+/// The image of state 1 of that store.
+const IMAGE: [u8; 22] = [0, 0, 0, 1, 0, 2, 0x80, 0, 0, 5, 0, 0, 0x04, 0xB0, 0x80, 0, 0, 9, 0, 0, 0x02, 0xBC];
+
+/// What a lookup answers, and what it leaves in a price word that held [`UNTOUCHED`].
+fn look_up(store: Readable, offer: u32, state: u32) -> (u64, u64) {
+    let mut price = UNTOUCHED;
+    let code = store.look_up(offer, state, &mut price);
+    (code, price)
+}
+
+/// What writing an image answers, what it leaves in a count that held [`UNTOUCHED`], and so many bytes that were 0xAA.
+fn write_image(store: Readable, length: usize) -> (u64, u64, Vec<u8>) {
+    let (mut bytes, mut count) = (vec![0xAA; length], UNTOUCHED);
+    let code = store.write_image(&mut bytes, &mut count);
+    (code, count, bytes)
+}
+
+/// Queries of that store, accepted and turned away, with their answers and output.
+fn ask(store: Readable) {
+    let prices = [
+        (5, 1, (0, 1200)),
+        (9, 1, (0, 700)),
+        (11, 1, (NO_PRICE, UNTOUCHED)),
+        (5, 2, (0, 1100)),
+        (9, 2, (NO_PRICE, UNTOUCHED)),
+        (11, 2, (0, 0)),
+        (5, 0, (11, UNTOUCHED)),
+        (5, 3, (11, UNTOUCHED)),
+        (1 << 31, 1, (6, UNTOUCHED)),
+    ];
+    for (offer, state, wanted) in prices {
+        assert_eq!(look_up(store, offer, state), wanted, "offer {offer} at state {state}");
+    }
+    assert_eq!(write_image(store, 22), (0, 22, IMAGE.to_vec()));
+    assert_eq!(write_image(store, 25), (0, 22, [&IMAGE[..], &[0xAA; 3]].concat()));
+    assert_eq!(write_image(store, 21), (17, UNTOUCHED, vec![0xAA; 21]));
+    assert_eq!(write_image(store, 0), (17, UNTOUCHED, vec![]));
+}
+
+/// Both queries turned away on a ground, their output as it came.
+fn ask_in_vain(store: Readable, ground: u64) {
+    assert_eq!(look_up(store, 5, 1), (ground, UNTOUCHED));
+    assert_eq!(write_image(store, 22), (ground, UNTOUCHED, vec![0xAA; 22]));
+}
+
+/// The ground on which queries are turned away after a change to a store, and that change.
+type Damage = (u64, fn(&mut Lent));
+
+/// Table, journal, head and tally are word for word as before, after queries that are accepted and such as are not.
+#[test]
+fn a_query_leaves_the_store() {
+    let lent = store();
+    ask(lent.to_read());
+    assert_eq!(lent, store());
+    let damages: [Damage; 12] = [
+        (1, |lent| lent.table.clear()),
+        (1, |lent| lent.table.resize(8001, 0)),
+        (1, |lent| lent.journal.clear()),
+        (1, |lent| lent.journal.resize(4097, 0)),
+        (2, |lent| lent.head.clear()),
+        (2, |lent| lent.head.truncate(HEAD_WORDS - 1)),
+        (2, |lent| lent.head.push(0)),
+        (2, |lent| lent.head[3] += 1 << 32),
+        (2, |lent| lent.head[4] = 2),
+        (2, |lent| lent.table[7] = 1),
+        (1, |lent| (lent.table, lent.head) = (vec![], vec![0; HEAD_WORDS + 1])),
+        (1, |lent| (lent.journal, lent.head[3]) = (vec![], 1 << 32)),
+    ];
+    for (ground, damage) in damages {
+        let mut lent = store();
+        damage(&mut lent);
+        let before = lent.clone();
+        ask_in_vain(lent.to_read(), ground);
+        assert_eq!(lent, before);
+    }
+}
+
+/// No tally is lent: one of another length, which turns every other call away, makes no difference.
+#[test]
+fn a_query_minds_no_tally() {
+    for length in [0, 1, 2, 4, 84] {
+        let mut lent = store();
+        lent.tally.resize(length, u64::MAX);
+        let before = lent.clone();
+        assert_eq!(lent.release(3), 2);
+        ask(lent.to_read());
+        assert_eq!(lent, before);
+    }
+}
+
+/// Several threads query one store at once.
+#[test]
+fn queries_from_several_threads() {
+    let lent = store();
+    thread::scope(|scope| {
+        for _ in 0..4 {
+            scope.spawn(|| (0..1000).for_each(|_| ask(lent.to_read())));
+        }
+    });
+    assert_eq!(lent, store());
+}
+
+// The functions and numbers of Linux's sys/mman.h that are used.
+extern "C" {
+    fn mmap(
+        start: *mut c_void,
+        length: usize,
+        access: c_int,
+        flags: c_int,
+        file: c_int,
+        at: i64,
+    ) -> *mut c_void;
+    fn mprotect(start: *mut c_void, length: usize, access: c_int) -> c_int;
+}
+
+const READ: c_int = 1;
+const WRITE: c_int = 2;
+const PRIVATE: c_int = 2;
+const ANONYMOUS: c_int = 0x20;
+
+/// A copy of the words in memory that is mapped read-only; a program that writes there is ended.
+fn read_only(words: &[u64]) -> &'static [u64] {
+    let length = size_of_val(words);
+    // The pages are new and stay until the program ends; they are written here, and not once they are read-only.
+    let copy: &[u64] = unsafe {
+        let pages = mmap(null_mut(), length, READ | WRITE, PRIVATE | ANONYMOUS, -1, 0);
+        assert_ne!(pages as isize, -1, "memory is mapped");
+        pages.cast::<u64>().copy_from_nonoverlapping(words.as_ptr(), words.len());
+        assert_eq!(mprotect(pages, length, READ), 0, "it is made read-only");
+        slice::from_raw_parts(pages.cast(), words.len())
+    };
+    assert!(is_read_only(copy), "the system has it as read-only");
+    copy
+}
+
+/// Whether the system has the memory where the words begin as one that may only be read.
+fn is_read_only(words: &[u64]) -> bool {
+    let start = words.as_ptr() as usize;
+    let maps = fs::read_to_string("/proc/self/maps").expect("Linux lists what is mapped");
+    maps.lines().any(|line| {
+        let (range, rest) = line.split_once(' ').expect("a range and more");
+        let (from, to) = range.split_once('-').expect("where it begins and ends");
+        let [from, to] = [from, to].map(|place| usize::from_str_radix(place, 16).expect("a place"));
+        (from..to).contains(&start) && rest.starts_with("r--")
+    })
+}
+
+/// A store in read-only memory answers as it does elsewhere, whether queries of it are accepted or not.
+#[test]
+fn a_store_in_read_only_memory() {
+    assert!(!is_read_only(&store().table));
+    let Lent { table, journal, head, .. } = store();
+    let [table, journal, head] = [table, journal, head].map(|words| read_only(&words));
+    ask(Readable { table, journal, head });
+    ask_in_vain(Readable { table: &[], journal, head }, 1);
+    ask_in_vain(Readable { table, journal, head: &head[1..] }, 2);
+    ask_in_vain(Readable { table: &table[1..], journal, head }, 2);
+}
+
+/// The same of the longest table and journal, both full.
+#[test]
+fn a_full_store_in_read_only_memory() {
+    let mut image = vec![0, 0, 0, 0];
+    image.extend(8000u16.to_be_bytes());
+    image.extend((0..8000).flat_map(|k| entry(2 * k, Some(k)).to_be_bytes()));
+    let mut lent = Lent::of_lengths(8000, 4096);
+    assert_eq!(lent.load(&mut image), 0);
+    for step in 0..64 {
+        let mut list: Vec<u64> = (0..64).map(|k| entry(2 * k + 1, Some(100 * step + k))).collect();
+        assert_eq!(lent.commit(&mut list), 0);
+    }
+    let [table, journal, head] = [&lent.table, &lent.journal, &lent.head].map(|words| read_only(words));
+    let full = Readable { table, journal, head };
+    assert_eq!(look_up(full, 15_998, 64), (0, 7999));
+    assert_eq!(look_up(full, 127, 1), (0, 63));
+    assert_eq!(look_up(full, 127, 64), (0, 6363));
+    assert_eq!(look_up(full, 127, 0), (NO_PRICE, UNTOUCHED));
+    assert_eq!(write_image(full, 64_006), (0, 64_006, image));
+}
