@@ -47,7 +47,7 @@ enum {
     CECHNUOL_OLDEST = 1,      /* the floor */
     CECHNUOL_CHECKPOINT = 2,  /* the anchor: the state that the table holds */
     CECHNUOL_TIP = 3,         /* the newest state */
-    CECHNUOL_HELD = 4,        /* 8 words: 1 for a slot that is open, else 0 */
+    CECHNUOL_TAKEN = 4,       /* 8 words: 1 for a slot that is open, else 0 */
     CECHNUOL_ISSUED = 12,     /* 8 words: the checkpoint at the issue of each open slot, else 0 */
     CECHNUOL_ENDS = 20,       /* 64 words: the marks of the held steps; those not in use are 0 */
     CECHNUOL_HEAD_WORDS = 84

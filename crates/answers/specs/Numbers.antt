@@ -1,13 +1,13 @@
 -- The numbers of the grounds (document 01, "Grounds for turning a call away").
 -- Assumes nothing.
 use Prim.Native.Nat.{ℕ}
-use Rattle.answers.specs.declared.refusal.Refusal.{Refusal}
-use Rattle.answers.specs.declared.refusal.Refusal.the-variants.{Lengths, Unsound, SlotRange, SlotTaken, SlotClosed, BadList}
-use Rattle.answers.specs.declared.refusal.Refusal.the-variants.{BadOrder, OfferNotRead, NoPrice, PriceRange, StateRange, LastState}
-use Rattle.answers.specs.declared.refusal.Refusal.the-variants.{StepsFull, JournalFull, BadImage, TableFull, OutputShort}
+use Rattle.answers.specs.declared.ground.Ground.{Ground}
+use Rattle.answers.specs.declared.ground.Ground.the-variants.{Lengths, Unsound, SlotRange, SlotTaken, SlotClosed, BadList}
+use Rattle.answers.specs.declared.ground.Ground.the-variants.{BadOrder, OfferNotRead, NoPrice, PriceRange, StateRange, LastState}
+use Rattle.answers.specs.declared.ground.Ground.the-variants.{StepsFull, JournalFull, BadImage, TableFull, OutputShort}
 
 -- the number of each ground, in the order in which they are checked
-abbrev pub numberOf : Refusal → ℕ
+abbrev pub numberOf : Ground → ℕ
 numberOf Lengths = 1
 numberOf Unsound = 2
 numberOf SlotRange = 3

@@ -1,12 +1,12 @@
 // What a check finds, and what a call answers.
-use crate::refusal::Refusal;
+use crate::ground::Ground;
 ghost use mathlib.Core.Path.{_≡_};
 ghost use Rattle.answers.specs.Answers.{acceptedB};
 
 // What a check finds: no ground, or the first one that turns the call away.
 pub enum Check {
     Passed,
-    Refused(Refusal),
+    Refused(Ground),
 }
 
 // What a call answers: done, the price of a lookup or that there is none, the count of the words or bytes written, or
@@ -16,7 +16,7 @@ pub enum Answer {
     Price(u32),
     NoPrice,
     Count(usize),
-    Refused(Refusal),
+    Refused(Ground),
 }
 
 // Whether the call was accepted.

@@ -2,5 +2,5 @@
 // numbers, and what a call counts in the tally.
 pub mod answer;
 pub mod call;
-pub mod refusal;
+pub mod ground;
 pub mod tally;

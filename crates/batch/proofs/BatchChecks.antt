@@ -1,4 +1,4 @@
--- The refusals before any order runs, one by one, and what is known where none applies; the test of the output's length.
+-- The refusals before any order is executed, one by one, and what is known where none applies; the test of the output's length.
 -- Assumes nothing.
 use mathlib.Core.Path.{_≡_, refl, sym, _∙_, ap}
 use mathlib.Core.Bool.{Bool, true, false, _&&_, cond}
@@ -10,17 +10,17 @@ use lib.Dec.{leb}
 use lib.ListN.{length, take, drop, replicate, drop-of-length-le}
 use Rattle.changes.specs.Lists.{listB, From}
 use Rattle.changes.proofs.ListTest.{list-facts}
-use Rattle.answers.specs.declared.refusal.Refusal.the-variants.{BadList, BadOrder, OfferNotRead, OutputShort}
-use Rattle.answers.specs.declared.refusal.Refusal.{Refusal}
+use Rattle.answers.specs.declared.ground.Ground.the-variants.{BadList, BadOrder, OfferNotRead, OutputShort}
+use Rattle.answers.specs.declared.ground.Ground.{Ground}
 use Rattle.answers.specs.Answers.{Said, accepted, refused}
 use Rattle.answers.specs.Numbers.{numberOf}
 use Rattle.answers.specs.declared.answer.Check.{Check}
 use Rattle.answers.specs.declared.answer.Check.the-variants.{Passed, Refused}
 use Rattle.orders.specs.Orders.{allowedB}
-use Rattle.order_runs.specs.Tests.{allB, readB}
-use Rattle.order_runs.specs.Running.{Ran, done, fails, priced, after}
+use Rattle.execution.specs.Tests.{allB, readB}
+use Rattle.execution.specs.Executing.{Executed, done, fails, priced, after}
 use Rattle.batch.specs.Batches.{checked, fitting, batch, answer, output}
-use Rattle.order_runs.specs.Working.{Accepted, Placed, Ready, Room}
+use Rattle.execution.specs.Working.{Accepted, Located, Ready, Room}
 
 module _ (reads orders : List ℕ) where
   pub stop-list : listB reads ≡ false → checked reads orders ≡ Refused BadList
@@ -47,7 +47,8 @@ module _ (reads orders : List ℕ) where
         passes e = rw (list, le-leb (length orders) 64 few, allowed, e)
 
 -- what is known of a batch that passes
-tests : (a b c d : Bool) → cond (a && b) (cond c (cond d Passed (Refused OfferNotRead)) (Refused BadOrder)) (Refused BadList) ≡ Passed → (a ≡ true) × (b ≡ true) × (d ≡ true)
+tests : (a b c d : Bool) → cond (a && b) (cond c (cond d Passed (Refused OfferNotRead)) (Refused BadOrder))
+    (Refused BadList) ≡ Passed → (a ≡ true) × (b ≡ true) × (d ≡ true)
 tests true true true true e = (refl, refl, refl)
 tests true true true false e = absurd (let z : _≡_ {A = ℕ} 0 1 = cc in omega arith)
 tests true true false d e = absurd (let z : _≡_ {A = ℕ} 0 1 = cc in omega arith)
@@ -67,14 +68,15 @@ passed reads orders e =
     let facts = list-facts reads (all .0) in
     record { short = facts .0; rises = facts .1; few = leb-true (length orders) 64 (all .1); named = all .2 }
 
--- and what its run relies on, the orders' places noted
-pub accepted-at : (reads orders places : List ℕ) → checked reads orders ≡ Passed → length places ≡ 64 → Placed reads orders places (length orders) → Accepted reads orders places
-accepted-at reads orders places e s p =
+-- and what its execution relies on, the orders' positions noted
+pub accepted-at : (reads orders positions : List ℕ) → checked reads orders ≡ Passed → length positions ≡ 64
+    → Located reads orders positions (length orders) → Accepted reads orders positions
+accepted-at reads orders positions e s p =
     let facts = passed reads orders e in
-    record { short = facts .short; rises = facts .rises; enough = omega (arith, facts .few); placed = p }
+    record { short = facts .short; rises = facts .rises; enough = omega (arith, facts .few); located = p }
 
 -- a ground stops a batch, so that it does not pass
-pub not-passed : {ground : Refusal} {P : Type 0} → Refused ground ≡ Passed → P
+pub not-passed : {ground : Ground} {P : Type 0} → Refused ground ≡ Passed → P
 not-passed e = absurd (let z : _≡_ {A = ℕ} 0 1 = cc in omega arith)
 
 -- the output's length
@@ -84,47 +86,53 @@ fits room d h = rw (le-leb (length d) room h)
 pub too-short : (room : ℕ) (d : List ℕ) → room < length d → fitting room (done d) ≡ fails (numberOf OutputShort)
 too-short room d h = rw (lt-leb (length d) room h)
 
--- a batch that is stopped, and one whose orders run
+-- a batch that is stopped, and one whose orders are executed
 module _ (reads orders : List ℕ) (room : ℕ) where
-  pub batch-stopped : {ground : Refusal} → checked reads orders ≡ Refused ground → batch reads orders room ≡ fails (numberOf ground)
+  pub batch-stopped : {ground : Ground} → checked reads orders ≡ Refused ground → batch reads orders room ≡ fails (numberOf ground)
   unfolding batch
   batch-stopped e = ap (λ (c : Check). after c (fitting room (priced reads orders))) e
 
-  pub batch-runs : checked reads orders ≡ Passed → batch reads orders room ≡ fitting room (priced reads orders)
+  pub batch-executes : checked reads orders ≡ Passed → batch reads orders room ≡ fitting room (priced reads orders)
   unfolding batch
-  batch-runs e = ap (λ (c : Check). after c (fitting room (priced reads orders))) e
+  batch-executes e = ap (λ (c : Check). after c (fitting room (priced reads orders))) e
 
--- from a check to a run, and from a run to the answer and the memory
-pub went : {check : Check} (d : List ℕ) {ran : Ran} → check ≡ Passed → after check (done d) ≡ ran → done d ≡ ran
+-- from a check to an execution, and from an execution to the answer and the memory
+pub went : {check : Check} (d : List ℕ) {executed : Executed} → check ≡ Passed → after check (done d) ≡ executed → done d ≡ executed
 went d e i = sym (ap (λ (c : Check). after c (done d)) e) ∙ i
 
-pub stopped : {check : Check} {ground : Refusal} (d : List ℕ) {ran : Ran} → check ≡ Refused ground → after check (done d) ≡ ran → fails (numberOf ground) ≡ ran
+pub stopped : {check : Check} {ground : Ground} (d : List ℕ) {executed : Executed} → check ≡ Refused ground
+    → after check (done d) ≡ executed → fails (numberOf ground) ≡ executed
 stopped d e i = sym (ap (λ (c : Check). after c (done d)) e) ∙ i
 
-pub tell-fails : {n : ℕ} {ran : Ran} (out : List ℕ) → fails n ≡ ran → (refused n ≡ answer ran) × (out ≡ output ran out)
-tell-fails out e = (ap answer e, ap (λ (r : Ran). output r out) e)
+pub tell-fails : {n : ℕ} {executed : Executed} (out : List ℕ) → fails n ≡ executed → (refused n ≡ answer executed)
+    × (out ≡ output executed out)
+tell-fails out e = (ap answer e, ap (λ (r : Executed). output r out) e)
 
-pub tell-done : {d : List ℕ} {ran : Ran} {n : ℕ} (list₀ : List ℕ) {list : List ℕ} → done d ≡ ran → n ≡ length d → list ≡ d ++ drop n list₀ → (accepted n ≡ answer ran) × (list ≡ output ran list₀)
+pub tell-done : {d : List ℕ} {executed : Executed} {n : ℕ} (list₀ : List ℕ) {list : List ℕ} → done d ≡ executed → n
+    ≡ length d → list ≡ d ++ drop n list₀ → (accepted n ≡ answer executed) × (list ≡ output executed list₀)
 tell-done {d} list₀ e count i =
-    (ap accepted count ∙ ap answer e, i ∙ ap (λ (k : ℕ). d ++ drop k list₀) count ∙ ap (λ (r : Ran). output r list₀) e)
+    (ap accepted count ∙ ap answer e, i ∙ ap (λ (k : ℕ). d ++ drop k list₀) count ∙ ap (λ (r : Executed). output r list₀) e)
 
--- the answer and the memory of a run are those of another that it equals
-pub tell-same : {ran ran′ : Ran} → ran ≡ ran′ → (out : List ℕ) {told : Said} {list : List ℕ} → (told ≡ answer ran) × (list ≡ output ran out) → (told ≡ answer ran′) × (list ≡ output ran′ out)
-tell-same e out h = (h .0 ∙ ap answer e, h .1 ∙ ap (λ (r : Ran). output r out) e)
+-- the answer and the memory of an execution are those of another that it equals
+pub tell-same : {executed executed′ : Executed} → executed ≡ executed′ → (out : List ℕ) {told : Said} {list : List ℕ}
+    → (told ≡ answer executed) × (list ≡ output executed out) → (told ≡ answer executed′) × (list ≡ output executed′ out)
+tell-same e out h = (h .0 ∙ ap answer e, h .1 ∙ ap (λ (r : Executed). output r out) e)
 
 -- a copy of a read set in memory of its length
-pub whole-copy : (reads words₀ : List ℕ) {words : List ℕ} → length words₀ ≡ length reads → words ≡ reads ++ drop (length reads) words₀ → words ≡ reads
+pub whole-copy : (reads words₀ : List ℕ) {words : List ℕ} → length words₀ ≡ length reads → words ≡ reads
+    ++ drop (length reads) words₀ → words ≡ reads
 whole-copy reads words₀ s e =
     let all : length words₀ ≤ length reads = omega arith in
     e ∙ ap (_++_ reads) (drop-of-length-le words₀ all) ∙ append-nil reads
 
--- the orders' places in a read set are their places in its copy
-pub ready : {reads orders places words₀ words : List ℕ} {marks : List Bool} → Room reads orders places words₀ marks → words ≡ reads → Ready words orders places marks
+-- the orders' positions in a read set are their positions in its copy
+pub ready : {reads orders positions words₀ words : List ℕ} {flags : List Bool}
+    → Room reads orders positions words₀ flags → words ≡ reads → Ready words orders positions flags
 ready room e =
     let batch = room .accepted-batch in
-    rw e (record { rises = batch .rises; enough = batch .enough; placed = batch .placed; unmarked = room .unmarked })
+    rw e (record { rises = batch .rises; enough = batch .enough; located = batch .located; unflagged = room .unflagged })
 
--- the marks of a read set of at most 64 words
+-- the flags of a read set of at most 64 words
 pub take-replicate : (n m : ℕ) (b : Bool) → n ≤ m → take n (replicate m b) ≡ replicate n b
 take-replicate zero m b h = refl
 take-replicate (suc n) zero b h = absurd (omega arith)

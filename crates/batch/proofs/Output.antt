@@ -1,4 +1,4 @@
--- What the run of orders comes to, however an order sees its offer: changes with a word for each offer named, and no other.
+-- What the execution of orders comes to, however an order sees its offer: changes with a word for each offer named, and no other.
 -- Assumes nothing.
 use mathlib.Core.Path.{_≡_, refl, sym, _∙_, ap}
 use mathlib.Core.Bool.{Bool, false, _||_, or-true, or-false, or-assoc}
@@ -19,13 +19,13 @@ use Rattle.changes.proofs.Single.{from-one}
 use Rattle.orders.specs.declared.effects.Effect.{Effect}
 use Rattle.orders.specs.declared.effects.Effect.the-variants.{Change, Fails}
 use Rattle.orders.specs.Orders.{orderOffer}
-use Rattle.order_runs.specs.Tests.{foundB}
+use Rattle.execution.specs.Tests.{foundB}
 use Rattle.orders.specs.Effects.{effect}
-use Rattle.order_runs.specs.Running.{done, next, run}
+use Rattle.execution.specs.Executing.{done, next, execute}
 use Rattle.batch.specs.OnMaps.{namedB}
 use Rattle.orders.proofs.OneOrder.{effect-names}
 use Rattle.batch.proofs.OnMaps.{joined}
-use Rattle.order_runs.proofs.Turns.{run-none, run-order}
+use Rattle.execution.proofs.Iterations.{execute-none, execute-order}
 
 -- orders that bring the changes from d to e
 pub record Brings (d os e : List ℕ) : Type 0 where
@@ -53,15 +53,20 @@ adds k w d = ap foundB (later-wins k d (w ∷ []) (from-one w)) ∙ go (ℕ-disc
         ap (λ (f : Found). foundB (orElse f (find k d))) (find-past k w [] n ∙ find-empty k)
         ∙ sym (ap (_||_ (foundB (find k d))) (ne-eqb (offerOf w) k n) ∙ or-false (foundB (find k d)))
 
-pub brings : (see : List ℕ → ℕ → Found) (d os e : List ℕ) → Changes d → run see d os ≡ done e → Brings d os e
+pub brings : (see : List ℕ → ℕ → Found) (d os e : List ℕ) → Changes d → execute see d os ≡ done e → Brings d os e
 brings see d [] e h r =
-    let same : d ≡ e = cc (run-none see d) in
-    rw (← same) (record { changes = h; few = omega arith; named = λ k. sym (ap (_||_ (foundB (find k d))) (named-none k) ∙ or-false (foundB (find k d))) })
+    let same : d ≡ e = cc (execute-none see d) in
+    rw (← same) (record {
+      changes = h;
+      few = omega arith;
+      named = λ k. sym (ap (_||_ (foundB (find k d))) (named-none k) ∙ or-false (foundB (find k d)));
+    })
 brings see d (o ∷ os) e h r =
-    go (effect o (see d (orderOffer o))) refl (sym (run-order see d o os (see d (orderOffer o)) refl) ∙ r) (λ w. brings see (compose d (w ∷ [])) os e)
+    go (effect o (see d (orderOffer o))) refl (sym (execute-order see d o os (see d (orderOffer o)) refl) ∙ r)
+    (λ w. brings see (compose d (w ∷ [])) os e)
   where
-    go : (f : Effect) → effect o (see d (orderOffer o)) ≡ f → next f (λ w. run see (compose d (w ∷ [])) os) ≡ done e
-        → ((w : ℕ) → Changes (compose d (w ∷ [])) → run see (compose d (w ∷ [])) os ≡ done e → Brings (compose d (w ∷ [])) os e)
+    go : (f : Effect) → effect o (see d (orderOffer o)) ≡ f → next f (λ w. execute see (compose d (w ∷ [])) os) ≡ done e
+        → ((w : ℕ) → Changes (compose d (w ∷ [])) → execute see (compose d (w ∷ [])) os ≡ done e → Brings (compose d (w ∷ [])) os e)
         → Brings d (o ∷ os) e
     go (Change w) i r′ rest =
         let b = rest w (joined o (see d (orderOffer o)) d w h i) r′ in

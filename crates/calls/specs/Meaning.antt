@@ -2,7 +2,7 @@
 -- Assumes nothing.
 use mathlib.Core.List.{_++_}
 use Prim.Native.Nat.{_+_, _*_}
-use lib.ListN.{length, take, drop, getD, replicate}
+use lib.ListN.{length, take, drop, replicate}
 use Rattle.changes.specs.Calculus.{find, composeAll}
 use Rattle.changes.specs.ReadSets.{readOf, over}
 use Rattle.changes.specs.Runs.{startOf}
@@ -21,8 +21,8 @@ use Rattle.image.specs.Image.{countIn, numberIn, wordsIn}
 use Rattle.layout.specs.States.{heldOf, mapHere}
 use Rattle.views.specs.Laid.{padded}
 use Rattle.views.specs.Trim.{trimmedHead, trimmedJournal}
-use Rattle.slots.specs.Slots.{opened, shut}
-use Rattle.snapshot.specs.Calls.{clearCheck, loadCheck, writeCheck, imageHere}
+use Rattle.slots.specs.Slots.{opened, closedAt}
+use Rattle.snapshot.specs.Snapshots.{clearCheck, loadCheck, writeCheck, imageHere}
 use Rattle.snapshot.specs.Fresh.{freshHead}
 use Rattle.commits.specs.Commit.{commitCheck, usedOf, withList, withStep}
 use Rattle.rollbacks.specs.RollBack.{rollCheck, keptOf, cutAt, cutTo}
@@ -49,7 +49,8 @@ module _ (l : Lent) where
       let image = imageHere (l .table) (l .head) in
       means (writeCheck (l .table) (l .journal) (l .head) (length (l .bytes))) Done
       (withBytes
-      (withStore l (padded (length (l .table)) (wordsIn image)) (replicate (length (l .journal)) 0) (freshHead (countIn image) (numberIn image)))
+      (withStore l (padded (length (l .table)) (wordsIn image)) (replicate (length (l .journal)) 0)
+      (freshHead (countIn image) (numberIn image)))
       (image ++ drop (6 + 8 * l .head .used) (l .bytes)))
 
   -- the calls that add steps, take them back and flush them
@@ -76,13 +77,13 @@ module _ (l : Lent) where
       (withStore l (l .table) (l .journal) (opened (l .head) (reader .slot)))
       (readOf (take (l .head .used) (l .table)) (l .words)))
   readCallOf (Forward reader state) =
-      let head = shut (l .head) (reader .slot) in
+      let head = closedAt (l .head) (reader .slot) in
       means (forwardCheck (l .table) (l .journal) (l .head) reader state (l .words)) Done
       (withWords
       (withStore l (l .table) (trimmedJournal head (l .journal)) (trimmedHead head))
       (over (l .words) (composeAll (stepsFor (l .journal) (l .head) reader state))))
   readCallOf (Release reader) =
-      let head = shut (l .head) (reader .slot) in
+      let head = closedAt (l .head) (reader .slot) in
       means (releaseCheck (l .table) (l .journal) (l .head) reader) Done
       (withStore l (l .table) (trimmedJournal head (l .journal)) (trimmedHead head))
 
@@ -110,3 +111,16 @@ module _ (l : Lent) where
 -- what a call answers and leaves
 abbrev pub performed : Lent → Call → Left
 performed l call = settled (meaning l call) l
+
+-- and the same for a call of each group
+abbrev pub resetLeft : Lent → ResetCall → Left
+resetLeft l call = settled (resetOf l call) l
+
+abbrev pub stepLeft : Lent → StepCall → Left
+stepLeft l call = settled (stepOf l call) l
+
+abbrev pub readLeft : Lent → ReadCall → Left
+readLeft l call = settled (readCallOf l call) l
+
+abbrev pub queryLeft : Lent → Query → Left
+queryLeft l query = settled (asks l (queryOf l query)) l

@@ -4,10 +4,8 @@ use answers::call::Query;
 use layout::head::Head;
 use lookups::look_up;
 use snapshot::write::write_image;
-ghost use mathlib.Core.Path.{_≡_};
-ghost use Rattle.answers.specs.Answers.{Gives};
-ghost use Rattle.calls.specs.Lent.{lent, asks, settled, Performs};
-ghost use Rattle.calls.specs.Meaning.{queryOf};
+ghost use Rattle.calls.specs.Lent.{lent, Performs};
+ghost use Rattle.calls.specs.Meaning.{queryLeft};
 
 pub fn ask(
     table: &[u64],
@@ -17,7 +15,9 @@ pub fn ask(
     head: Head,
     query: Query,
 ) -> Answer
-    ensures { λ r. ⌜ Performs (settled (asks (lent (now (table .entry)) (now (journal .entry)) (now (words .entry)) (now (bytes .entry)) head) (queryOf (lent (now (table .entry)) (now (journal .entry)) (now (words .entry)) (now (bytes .entry)) head) query)) (lent (now (table .entry)) (now (journal .entry)) (now (words .entry)) (now (bytes .entry)) head)) r (now (table .entry)) (now (journal .entry)) (now (words .exit)) (now (bytes .exit)) head ⌝ }
+    ensures { λ r. ⌜ Performs
+        (queryLeft (lent (now (table .entry)) (now (journal .entry)) (now (words .entry)) (now (bytes .entry)) head) query)
+        r (now (table .entry)) (now (journal .entry)) (now (words .exit)) (now (bytes .exit)) head ⌝ }
 {
     match query {
         Query::LookUp(asked) => look_up(table, journal, head, asked),

@@ -18,7 +18,9 @@ pub fn perform(
     head: Head,
     call: Call,
 ) -> Reply
-    ensures { λ r. ⌜ Performs (performed (lent (now (table .entry)) (now (journal .entry)) (now (words .entry)) (now (bytes .entry)) head) call) (r .answer) (now (table .exit)) (now (journal .exit)) (now (words .exit)) (now (bytes .exit)) (r .head) ⌝ }
+    ensures { λ r. ⌜ Performs
+        (performed (lent (now (table .entry)) (now (journal .entry)) (now (words .entry)) (now (bytes .entry)) head) call)
+        (r .answer) (now (table .exit)) (now (journal .exit)) (now (words .exit)) (now (bytes .exit)) (r .head) ⌝ }
 {
     match call {
         Call::Reset(reset_call) => reset(table, journal, words, bytes, head, reset_call),

@@ -5,8 +5,8 @@ use issues::issue;
 use layout::head::Head;
 use layout::head::Reply;
 use releases::release;
-ghost use Rattle.calls.specs.Lent.{lent, settled, Performs};
-ghost use Rattle.calls.specs.Meaning.{readCallOf};
+ghost use Rattle.calls.specs.Lent.{lent, Performs};
+ghost use Rattle.calls.specs.Meaning.{readLeft};
 
 pub fn read(
     table: &mut [u64],
@@ -16,7 +16,9 @@ pub fn read(
     head: Head,
     call: Read,
 ) -> Reply
-    ensures { λ r. ⌜ Performs (settled (readCallOf (lent (now (table .entry)) (now (journal .entry)) (now (words .entry)) (now (bytes .entry)) head) call) (lent (now (table .entry)) (now (journal .entry)) (now (words .entry)) (now (bytes .entry)) head)) (r .answer) (now (table .exit)) (now (journal .exit)) (now (words .exit)) (now (bytes .exit)) (r .head) ⌝ }
+    ensures { λ r. ⌜ Performs
+        (readLeft (lent (now (table .entry)) (now (journal .entry)) (now (words .entry)) (now (bytes .entry)) head) call)
+        (r .answer) (now (table .exit)) (now (journal .exit)) (now (words .exit)) (now (bytes .exit)) (r .head) ⌝ }
 {
     match call {
         Read::Issue(reader) => issue(table, journal, head, reader, words),

@@ -5,8 +5,8 @@ use layout::head::Reply;
 use snapshot::clear::clear;
 use snapshot::load::load;
 use snapshot::restart::restart;
-ghost use Rattle.calls.specs.Lent.{lent, settled, Performs};
-ghost use Rattle.calls.specs.Meaning.{resetOf};
+ghost use Rattle.calls.specs.Lent.{lent, Performs};
+ghost use Rattle.calls.specs.Meaning.{resetLeft};
 
 pub fn reset(
     table: &mut [u64],
@@ -16,7 +16,9 @@ pub fn reset(
     head: Head,
     call: Reset,
 ) -> Reply
-    ensures { λ r. ⌜ Performs (settled (resetOf (lent (now (table .entry)) (now (journal .entry)) (now (words .entry)) (now (bytes .entry)) head) call) (lent (now (table .entry)) (now (journal .entry)) (now (words .entry)) (now (bytes .entry)) head)) (r .answer) (now (table .exit)) (now (journal .exit)) (now (words .exit)) (now (bytes .exit)) (r .head) ⌝ }
+    ensures { λ r. ⌜ Performs
+        (resetLeft (lent (now (table .entry)) (now (journal .entry)) (now (words .entry)) (now (bytes .entry)) head) call)
+        (r .answer) (now (table .exit)) (now (journal .exit)) (now (words .exit)) (now (bytes .exit)) (r .head) ⌝ }
 {
     match call {
         Reset::Clear => clear(table, journal, head),

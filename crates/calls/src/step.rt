@@ -5,8 +5,8 @@ use flushes::flush;
 use layout::head::Head;
 use layout::head::Reply;
 use rollbacks::roll_back;
-ghost use Rattle.calls.specs.Lent.{lent, settled, Performs};
-ghost use Rattle.calls.specs.Meaning.{stepOf};
+ghost use Rattle.calls.specs.Lent.{lent, Performs};
+ghost use Rattle.calls.specs.Meaning.{stepLeft};
 
 pub fn step(
     table: &mut [u64],
@@ -16,7 +16,9 @@ pub fn step(
     head: Head,
     call: Step,
 ) -> Reply
-    ensures { λ r. ⌜ Performs (settled (stepOf (lent (now (table .entry)) (now (journal .entry)) (now (words .entry)) (now (bytes .entry)) head) call) (lent (now (table .entry)) (now (journal .entry)) (now (words .entry)) (now (bytes .entry)) head)) (r .answer) (now (table .exit)) (now (journal .exit)) (now (words .exit)) (now (bytes .exit)) (r .head) ⌝ }
+    ensures { λ r. ⌜ Performs
+        (stepLeft (lent (now (table .entry)) (now (journal .entry)) (now (words .entry)) (now (bytes .entry)) head) call)
+        (r .answer) (now (table .exit)) (now (journal .exit)) (now (words .exit)) (now (bytes .exit)) (r .head) ⌝ }
 {
     match call {
         Step::Commit => commit(table, journal, head, words),

@@ -12,7 +12,7 @@ use Rattle.answers.specs.declared.answer.Answer.the-variants.{Refused}
 use Rattle.answers.specs.declared.call.Call.{Call}
 use Rattle.answers.specs.declared.call.Call.the-variants.{Ask}
 use Rattle.answers.specs.declared.call.Query.{Query}
-use Rattle.answers.specs.declared.refusal.Refusal.the-variants.{Lengths, Unsound}
+use Rattle.answers.specs.declared.ground.Ground.the-variants.{Lengths, Unsound}
 use Rattle.answers.specs.declared.tally.Tally.{Tally}
 use Rattle.answers.specs.Answers.{acceptedB, saidBy}
 use Rattle.layout.specs.declared.head.Head.{Head}
@@ -40,11 +40,21 @@ module _ (head tally : List ℕ) (call : Call) (e : lentB head tally call ≡ tr
   tally-long = eqb-true (length tally) 3 (all-first (eqb (length tally) 3) _ (all-rest (eqb (length head) 84) _ e))
 
 module _ (table journal words bytes head tally : List ℕ) (call : Call) where
-  pub not-served : {r : Answer} → lentB head tally call ≡ false → r ≡ unfit (length table) (length journal) → Leaves table journal words bytes head tally call r table journal words bytes head tally
+  pub not-served : {r : Answer} → lentB head tally call ≡ false → r ≡ unfit (length table) (length journal)
+      → Leaves table journal words bytes head tally call r table journal words bytes head tally
   not-served {r} unfits e =
       let answered : r ≡ answerTo table journal words bytes head tally call = e ∙ sym (passed unfits _ _) in
-      let away : acceptedB (answerTo table journal words bytes head tally call) ≡ false = ap acceptedB (sym answered ∙ e) ∙ refused-by (lengthsB (length table) (length journal)) in
-      (answered, sym (passed unfits _ _), sym (passed unfits _ _), sym (passed unfits _ _), sym (passed unfits _ _), sym (passed away _ _), sym (passed unfits _ _))
+      let away : acceptedB (answerTo table journal words bytes head tally call)
+      ≡ false = ap acceptedB (sym answered ∙ e) ∙ refused-by (lengthsB (length table) (length journal)) in (
+        answered,
+        sym (passed unfits _ _),
+        sym (passed unfits _ _),
+        sym (passed unfits _ _),
+        sym (passed unfits _ _),
+        sym
+            (passed away _ _),
+        sym (passed unfits _ _),
+      )
 
   pub was-served : {r : Answer} {s : Served} {u : Head} {y : Tally} {t j w b h a : List ℕ}
       → lentB head tally call ≡ true
@@ -57,8 +67,10 @@ module _ (table journal words bytes head tally : List ℕ) (call : Call) where
       → Leaves table journal words bytes head tally call r t j w b h a
   was-served {r} {s} {u} {y} fits eu ey es er eh ea =
       let l : Head → Lent = λ x. lent table journal words bytes x in
-      let whole : s ≡ served (tallyOf tally) (l (headOf head)) call = es .0 .0 ∙ ap₂ (λ (x : Tally) (z : Head). served x (l z) call) ey eu in
-      let answered : s .reply .answer ≡ answerTo table journal words bytes head tally call = ap (λ (x : Served). x .reply .answer) whole ∙ sym (chosen fits _ _) in (
+      let whole : s ≡ served (tallyOf tally) (l (headOf head)) call = es .0 .0
+      ∙ ap₂ (λ (x : Tally) (z : Head). served x (l z) call) ey eu in
+      let answered : s .reply .answer
+      ≡ answerTo table journal words bytes head tally call = ap (λ (x : Served). x .reply .answer) whole ∙ sym (chosen fits _ _) in (
         er ∙ answered,
         es .1 ∙ ap (λ (x : Head). performed (l x) call .lent .table) eu ∙ sym (chosen fits _ _),
         es .2 ∙ ap (λ (x : Head). performed (l x) call .lent .journal) eu ∙ sym (chosen fits _ _),
@@ -69,7 +81,8 @@ module _ (table journal words bytes head tally : List ℕ) (call : Call) where
       )
 
   -- the code in place of the answer, and the store alone
-  pub serves : {r : Answer} {code : ℕ} {t j w b h a : List ℕ} → code ≡ codeOf (saidBy r) → Leaves table journal words bytes head tally call r t j w b h a → Serves table journal words bytes head tally call code t j h a
+  pub serves : {r : Answer} {code : ℕ} {t j w b h a : List ℕ} → code ≡ codeOf (saidBy r)
+      → Leaves table journal words bytes head tally call r t j w b h a → Serves table journal words bytes head tally call code t j h a
   serves coded left = (coded ∙ ap (λ (a : Answer). codeOf (saidBy a)) (left .0), left .1, left .2, left .5, left .6)
 
 -- a query: where the head is not fit, and where it is
@@ -77,7 +90,8 @@ pub head-fits : (head : List ℕ) → headB head ≡ true → length head ≡ 84
 head-fits head e = eqb-true (length head) 84 (all-first (eqb (length head) 84) _ e)
 
 module _ (table journal words bytes head : List ℕ) (query : Query) where
-  pub not-asked : {r : Answer} → headB head ≡ false → r ≡ unfit (length table) (length journal) → Asks table journal words bytes head query r words bytes
+  pub not-asked : {r : Answer} → headB head ≡ false → r ≡ unfit (length table) (length journal)
+      → Asks table journal words bytes head query r words bytes
   not-asked unfits e = (e ∙ sym (passed unfits _ _), sym (passed unfits _ _), sym (passed unfits _ _))
 
   pub was-asked : {r : Answer} {u : Head} {w b : List ℕ}

@@ -26,7 +26,9 @@ pub(crate) fn call_on(
     tally: &mut [u64],
     call: Call,
 ) -> Answer
-    ensures { λ r. ⌜ Leaves (now (table .entry)) (now (journal .entry)) (now (words .entry)) (now (bytes .entry)) (now (head .entry)) (now (tally .entry)) call r (now (table .exit)) (now (journal .exit)) (now (words .exit)) (now (bytes .exit)) (now (head .exit)) (now (tally .exit)) ⌝ }
+    ensures { λ r. ⌜ Leaves (now (table .entry)) (now (journal .entry)) (now (words .entry)) (now (bytes .entry))
+        (now (head .entry)) (now (tally .entry)) call r (now (table .exit)) (now (journal .exit)) (now (words .exit))
+        (now (bytes .exit)) (now (head .exit)) (now (tally .exit)) ⌝ }
 {
     if !is_lent(head, tally, call) {
         return unfit_answer(table.len(), journal.len());
@@ -52,7 +54,11 @@ pub(crate) fn serve_words(
     words: &mut [u64],
     call: Call,
 ) -> u64
-    ensures { λ r. ⌜ Serves (now (table .entry)) (now (journal .entry)) (now (words .entry)) [] (now (head .entry)) (now (tally .entry)) call r (now (table .exit)) (now (journal .exit)) (now (head .exit)) (now (tally .exit)) × (now (words .exit) ≡ wordsAfter (now (table .entry)) (now (journal .entry)) (now (words .entry)) [] (now (head .entry)) (now (tally .entry)) call) ⌝ }
+    ensures { λ r. ⌜ Serves (now (table .entry)) (now (journal .entry)) (now (words .entry)) [] (now (head .entry))
+        (now (tally .entry)) call r (now (table .exit)) (now (journal .exit)) (now (head .exit)) (now (tally .exit))
+        × (now (words .exit)
+        ≡ wordsAfter (now (table .entry)) (now (journal .entry)) (now (words .entry)) [] (now (head .entry))
+        (now (tally .entry)) call) ⌝ }
 {
     let mut bytes = [0u8; 0];
     let answer = call_on(table, journal, words, &mut bytes, head, tally, call);
@@ -67,7 +73,8 @@ pub(crate) fn serve_store(
     tally: &mut [u64],
     call: Call,
 ) -> u64
-    ensures { λ r. ⌜ Serves (now (table .entry)) (now (journal .entry)) [] [] (now (head .entry)) (now (tally .entry)) call r (now (table .exit)) (now (journal .exit)) (now (head .exit)) (now (tally .exit)) ⌝ }
+    ensures { λ r. ⌜ Serves (now (table .entry)) (now (journal .entry)) [] [] (now (head .entry)) (now (tally .entry))
+        call r (now (table .exit)) (now (journal .exit)) (now (head .exit)) (now (tally .exit)) ⌝ }
 {
     let mut words = [0u64; 0];
     serve_words(table, journal, head, tally, &mut words, call)
@@ -82,7 +89,8 @@ pub(crate) fn ask_on(
     head: &[u64],
     query: Query,
 ) -> Answer
-    ensures { λ r. ⌜ Asks (now (table .entry)) (now (journal .entry)) (now (words .entry)) (now (bytes .entry)) (now (head .entry)) query r (now (words .exit)) (now (bytes .exit)) ⌝ }
+    ensures { λ r. ⌜ Asks (now (table .entry)) (now (journal .entry)) (now (words .entry)) (now (bytes .entry))
+        (now (head .entry)) query r (now (words .exit)) (now (bytes .exit)) ⌝ }
 {
     if !is_head(head) {
         return unfit_answer(table.len(), journal.len());

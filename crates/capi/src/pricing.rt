@@ -15,7 +15,10 @@ pub extern "C" fn cechnuol_price_batch(
     out: &mut [u64],
     count: &mut u64,
 ) -> u64
-    ensures { λ r. ⌜ (r ≡ codeOf (answer (batch (now (reads .entry)) (now (orders .entry)) (length (now (out .entry)))))) × (now (out .exit) ≡ output (batch (now (reads .entry)) (now (orders .entry)) (length (now (out .entry)))) (now (out .entry))) × (now (count .exit) ≡ valueOf (answer (batch (now (reads .entry)) (now (orders .entry)) (length (now (out .entry))))) (now (count .entry))) ⌝ }
+    ensures { λ r. ⌜ (r ≡ codeOf (answer (batch (now (reads .entry)) (now (orders .entry)) (length (now (out .entry))))))
+        × (now (out .exit) ≡ output (batch (now (reads .entry)) (now (orders .entry)) (length (now (out .entry)))) (now (out .entry)))
+        × (now (count .exit)
+        ≡ valueOf (answer (batch (now (reads .entry)) (now (orders .entry)) (length (now (out .entry))))) (now (count .entry))) ⌝ }
 {
     let written = price_batch(reads, orders, out);
     *count = value_of(written, *count);

@@ -25,7 +25,8 @@ pub extern "C" fn cechnuol_clear(
     head: &mut [u64],
     tally: &mut [u64],
 ) -> u64
-    ensures { λ r. ⌜ Serves (now (table .entry)) (now (journal .entry)) [] [] (now (head .entry)) (now (tally .entry)) clear r (now (table .exit)) (now (journal .exit)) (now (head .exit)) (now (tally .exit)) ⌝ }
+    ensures { λ r. ⌜ Serves (now (table .entry)) (now (journal .entry)) [] [] (now (head .entry)) (now (tally .entry))
+        clear r (now (table .exit)) (now (journal .exit)) (now (head .exit)) (now (tally .exit)) ⌝ }
 {
     serve_store(table, journal, head, tally, Call::Reset(Reset::Clear))
 }
@@ -39,7 +40,11 @@ pub extern "C" fn cechnuol_load(
     tally: &mut [u64],
     bytes: &mut [u8],
 ) -> u64
-    ensures { λ r. ⌜ Serves (now (table .entry)) (now (journal .entry)) [] (now (bytes .entry)) (now (head .entry)) (now (tally .entry)) load r (now (table .exit)) (now (journal .exit)) (now (head .exit)) (now (tally .exit)) × (now (bytes .exit) ≡ bytesAfter (now (table .entry)) (now (journal .entry)) [] (now (bytes .entry)) (now (head .entry)) (now (tally .entry)) load) ⌝ }
+    ensures { λ r. ⌜ Serves (now (table .entry)) (now (journal .entry)) [] (now (bytes .entry)) (now (head .entry))
+        (now (tally .entry)) load r (now (table .exit)) (now (journal .exit)) (now (head .exit)) (now (tally .exit))
+        × (now (bytes .exit)
+        ≡ bytesAfter (now (table .entry)) (now (journal .entry)) [] (now (bytes .entry)) (now (head .entry))
+        (now (tally .entry)) load) ⌝ }
 {
     let mut words = [0u64; 0];
     let answer = call_on(
@@ -63,7 +68,10 @@ pub extern "C" fn cechnuol_write_image(
     bytes: &mut [u8],
     count: &mut u64,
 ) -> u64
-    ensures { λ r. ⌜ Tells (now (table .entry)) (now (journal .entry)) [] (now (bytes .entry)) (now (head .entry)) writeImage r (now (count .exit)) (now (count .entry)) × (now (bytes .exit) ≡ bytesWritten (now (table .entry)) (now (journal .entry)) [] (now (bytes .entry)) (now (head .entry)) writeImage) ⌝ }
+    ensures { λ r. ⌜ Tells (now (table .entry)) (now (journal .entry)) [] (now (bytes .entry)) (now (head .entry))
+        writeImage r (now (count .exit)) (now (count .entry))
+        × (now (bytes .exit)
+        ≡ bytesWritten (now (table .entry)) (now (journal .entry)) [] (now (bytes .entry)) (now (head .entry)) writeImage) ⌝ }
 {
     let mut words = [0u64; 0];
     let answer = ask_on(table, journal, &mut words, bytes, head, Query::WriteImage);
@@ -80,7 +88,11 @@ pub extern "C" fn cechnuol_restart(
     tally: &mut [u64],
     bytes: &mut [u8],
 ) -> u64
-    ensures { λ r. ⌜ Serves (now (table .entry)) (now (journal .entry)) [] (now (bytes .entry)) (now (head .entry)) (now (tally .entry)) restart r (now (table .exit)) (now (journal .exit)) (now (head .exit)) (now (tally .exit)) × (now (bytes .exit) ≡ bytesAfter (now (table .entry)) (now (journal .entry)) [] (now (bytes .entry)) (now (head .entry)) (now (tally .entry)) restart) ⌝ }
+    ensures { λ r. ⌜ Serves (now (table .entry)) (now (journal .entry)) [] (now (bytes .entry)) (now (head .entry))
+        (now (tally .entry)) restart r (now (table .exit)) (now (journal .exit)) (now (head .exit)) (now (tally .exit))
+        × (now (bytes .exit)
+        ≡ bytesAfter (now (table .entry)) (now (journal .entry)) [] (now (bytes .entry)) (now (head .entry))
+        (now (tally .entry)) restart) ⌝ }
 {
     let mut words = [0u64; 0];
     let answer = call_on(
@@ -104,7 +116,11 @@ pub extern "C" fn cechnuol_commit(
     tally: &mut [u64],
     words: &mut [u64],
 ) -> u64
-    ensures { λ r. ⌜ Serves (now (table .entry)) (now (journal .entry)) (now (words .entry)) [] (now (head .entry)) (now (tally .entry)) commit r (now (table .exit)) (now (journal .exit)) (now (head .exit)) (now (tally .exit)) × (now (words .exit) ≡ wordsAfter (now (table .entry)) (now (journal .entry)) (now (words .entry)) [] (now (head .entry)) (now (tally .entry)) commit) ⌝ }
+    ensures { λ r. ⌜ Serves (now (table .entry)) (now (journal .entry)) (now (words .entry)) [] (now (head .entry))
+        (now (tally .entry)) commit r (now (table .exit)) (now (journal .exit)) (now (head .exit)) (now (tally .exit))
+        × (now (words .exit)
+        ≡ wordsAfter (now (table .entry)) (now (journal .entry)) (now (words .entry)) [] (now (head .entry))
+        (now (tally .entry)) commit) ⌝ }
 {
     serve_words(table, journal, head, tally, words, Call::Step(Step::Commit))
 }
@@ -118,7 +134,8 @@ pub extern "C" fn cechnuol_roll_back(
     tally: &mut [u64],
     state: u32,
 ) -> u64
-    ensures { λ r. ⌜ Serves (now (table .entry)) (now (journal .entry)) [] [] (now (head .entry)) (now (tally .entry)) (rollBack state) r (now (table .exit)) (now (journal .exit)) (now (head .exit)) (now (tally .exit)) ⌝ }
+    ensures { λ r. ⌜ Serves (now (table .entry)) (now (journal .entry)) [] [] (now (head .entry)) (now (tally .entry))
+        (rollBack state) r (now (table .exit)) (now (journal .exit)) (now (head .exit)) (now (tally .exit)) ⌝ }
 {
     serve_store(
         table,
@@ -138,7 +155,8 @@ pub extern "C" fn cechnuol_flush(
     tally: &mut [u64],
     state: u32,
 ) -> u64
-    ensures { λ r. ⌜ Serves (now (table .entry)) (now (journal .entry)) [] [] (now (head .entry)) (now (tally .entry)) (flush state) r (now (table .exit)) (now (journal .exit)) (now (head .exit)) (now (tally .exit)) ⌝ }
+    ensures { λ r. ⌜ Serves (now (table .entry)) (now (journal .entry)) [] [] (now (head .entry)) (now (tally .entry))
+        (flush state) r (now (table .exit)) (now (journal .exit)) (now (head .exit)) (now (tally .exit)) ⌝ }
 {
     serve_store(table, journal, head, tally, Call::Step(Step::Flush(state)))
 }
@@ -153,7 +171,8 @@ pub extern "C" fn cechnuol_look_up(
     state: u32,
     price: &mut u64,
 ) -> u64
-    ensures { λ r. ⌜ Tells (now (table .entry)) (now (journal .entry)) [] [] (now (head .entry)) (lookUp offer state) r (now (price .exit)) (now (price .entry)) ⌝ }
+    ensures { λ r. ⌜ Tells (now (table .entry)) (now (journal .entry)) [] [] (now (head .entry)) (lookUp offer state) r
+        (now (price .exit)) (now (price .entry)) ⌝ }
 {
     let mut words = [0u64; 0];
     let mut bytes = [0u8; 0];
@@ -180,7 +199,11 @@ pub extern "C" fn cechnuol_issue(
     slot: usize,
     words: &mut [u64],
 ) -> u64
-    ensures { λ r. ⌜ Serves (now (table .entry)) (now (journal .entry)) (now (words .entry)) [] (now (head .entry)) (now (tally .entry)) (issue slot) r (now (table .exit)) (now (journal .exit)) (now (head .exit)) (now (tally .exit)) × (now (words .exit) ≡ wordsAfter (now (table .entry)) (now (journal .entry)) (now (words .entry)) [] (now (head .entry)) (now (tally .entry)) (issue slot)) ⌝ }
+    ensures { λ r. ⌜ Serves (now (table .entry)) (now (journal .entry)) (now (words .entry)) [] (now (head .entry))
+        (now (tally .entry)) (issue slot) r (now (table .exit)) (now (journal .exit)) (now (head .exit)) (now (tally .exit))
+        × (now (words .exit)
+        ≡ wordsAfter (now (table .entry)) (now (journal .entry)) (now (words .entry)) [] (now (head .entry))
+        (now (tally .entry)) (issue slot)) ⌝ }
 {
     serve_words(
         table,
@@ -203,7 +226,11 @@ pub extern "C" fn cechnuol_forward(
     state: u32,
     words: &mut [u64],
 ) -> u64
-    ensures { λ r. ⌜ Serves (now (table .entry)) (now (journal .entry)) (now (words .entry)) [] (now (head .entry)) (now (tally .entry)) (forward slot state) r (now (table .exit)) (now (journal .exit)) (now (head .exit)) (now (tally .exit)) × (now (words .exit) ≡ wordsAfter (now (table .entry)) (now (journal .entry)) (now (words .entry)) [] (now (head .entry)) (now (tally .entry)) (forward slot state)) ⌝ }
+    ensures { λ r. ⌜ Serves (now (table .entry)) (now (journal .entry)) (now (words .entry)) [] (now (head .entry))
+        (now (tally .entry)) (forward slot state) r (now (table .exit)) (now (journal .exit)) (now (head .exit)) (now (tally .exit))
+        × (now (words .exit)
+        ≡ wordsAfter (now (table .entry)) (now (journal .entry)) (now (words .entry)) [] (now (head .entry))
+        (now (tally .entry)) (forward slot state)) ⌝ }
 {
     serve_words(
         table,
@@ -224,7 +251,8 @@ pub extern "C" fn cechnuol_release(
     tally: &mut [u64],
     slot: usize,
 ) -> u64
-    ensures { λ r. ⌜ Serves (now (table .entry)) (now (journal .entry)) [] [] (now (head .entry)) (now (tally .entry)) (release slot) r (now (table .exit)) (now (journal .exit)) (now (head .exit)) (now (tally .exit)) ⌝ }
+    ensures { λ r. ⌜ Serves (now (table .entry)) (now (journal .entry)) [] [] (now (head .entry)) (now (tally .entry))
+        (release slot) r (now (table .exit)) (now (journal .exit)) (now (head .exit)) (now (tally .exit)) ⌝ }
 {
     serve_store(
         table,

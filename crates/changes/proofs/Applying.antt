@@ -14,8 +14,10 @@ use Rattle.changes.specs.Calculus.{find, orElse, ifPut, compose, puts, a
 use Rattle.changes.specs.Lists.{From, All, Changes, Map}
 use Rattle.changes.proofs.Compose.{compose-assoc}
 use Rattle.changes.proofs.Find.{find-empty, find-head, find-past, find-none, found-all}
-use Rattle.changes.proofs.Merging.{merge-ind, compose-nil, nil-compose, compose-below, compose-same, compose-above, puts-nil, puts-put, puts-other}
-use Rattle.changes.proofs.Rising.{from-cons, from-tail, from-nil, compose-rises, compose-all, puts-rises, puts-all, puts-of-puts, puts-length, compose-length, rising-ext}
+use Rattle.changes.proofs.Merging.{merge-ind, compose-nil, nil-compose, compose-below, compose-same, compose-above}
+use Rattle.changes.proofs.Merging.{puts-nil, puts-put, puts-other}
+use Rattle.changes.proofs.Rising.{from-cons, from-tail, from-nil, compose-rises, compose-all, puts-rises, puts-all}
+use Rattle.changes.proofs.Rising.{puts-of-puts, puts-length, compose-length, rising-ext}
 
 or-nothing : (f : Found) → orElse f Nothing ≡ f
 or-nothing (Word w) = refl
@@ -34,7 +36,12 @@ find-compose k =
     first : (v w : ℕ) (a b : List ℕ) → offerOf v < offerOf w → find k (compose a (w ∷ b)) ≡ orElse (find k (w ∷ b)) (find k a)
         → (n : ℕ) → From n (w ∷ b) → Dec (offerOf v ≡ k) → find k (v ∷ compose a (w ∷ b)) ≡ orElse (find k (w ∷ b)) (find k (v ∷ a))
     first v w a b h i n g (yes e) =
-        rw (find-head k v (compose a (w ∷ b)) e, find-head k v a e, find-none k (offerOf w) (w ∷ b) (from-cons _ w b (omega arith) (from-tail n w b g)) (omega arith))
+        rw (
+          find-head k v (compose a (w ∷ b)) e,
+          find-head k v a e,
+          find-none k (offerOf w) (w ∷ b)
+              (from-cons _ w b (omega arith) (from-tail n w b g)) (omega arith),
+        )
     first v w a b h i n g (no e) = rw (find-past k v (compose a (w ∷ b)) e, find-past k v a e) i
 
     both : (v w : ℕ) (a b : List ℕ) → offerOf v ≡ offerOf w → find k (compose a b) ≡ orElse (find k b) (find k a)

@@ -1,4 +1,4 @@
--- The search for an offer: an equation for each clause, and what it gives by places in words whose offers rise.
+-- The search for an offer: an equation for each clause, and what it gives by positions in words whose offers rise.
 -- Assumes nothing.
 use mathlib.Core.Path.{_≡_, refl, sym, _∙_, ap}
 use mathlib.Core.List.{List, [], _∷_}
@@ -70,7 +70,7 @@ least-at n (w ∷ l) f (suc i) b =
     let there : offerOf w + 1 ≤ offerOf (getD l i 0) = least-at (offerOf w + 1) l (f .1) i (omega arith) in
     omega arith
 
--- offers rise with the places
+-- offers rise with the positions
 pub rises-at : (n : ℕ) (l : List ℕ) → From n l → (i j : ℕ) → i < j → j < length l → offerOf (getD l i 0) < offerOf (getD l j 0)
 unfolding From
 rises-at n [] f i j h b = absurd (omega arith)
@@ -88,7 +88,7 @@ not-below-at n l f i j h b = go (ℕ-discrete i j)
     go (yes e) = rw e (omega arith)
     go (no ne) = omega (arith, rises-at n l f i j (omega arith) b)
 
--- the word at a place is what is found at its offer
+-- the word at a position is what is found at its offer
 pub find-at : (n : ℕ) (l : List ℕ) → From n l → (i : ℕ) → i < length l → find (offerOf (getD l i 0)) l ≡ Word (getD l i 0)
 unfolding From
 find-at n [] f i b = absurd (omega arith)

@@ -2,11 +2,11 @@
 -- Assumes nothing.
 use mathlib.Core.Path.{_≡_, refl}
 use mathlib.Core.List.{List, [], _∷_}
-use Prim.Native.Nat.{ℕ, _≤_, _<_}
+use Prim.Native.Nat.{ℕ, _<_}
 use native.Mathlib.Decide.{decLt}
 use native.Mathlib.Omega.{arith}
 use borrow.Author.Tests.{lt-ltb, le-ltb, eq-eqb, ne-eqb}
-use Rattle.entry.specs.Word.{kindOf, offerOf, Put}
+use Rattle.entry.specs.Word.{kindOf, offerOf}
 use Rattle.changes.specs.declared.merge.Side.the-variants.{Below, Same, Above}
 use Rattle.changes.specs.Calculus.{side, compose, puts}
 
@@ -43,7 +43,8 @@ pub merge-ind : (P : List ℕ → List ℕ → Type 0)
     → (a b : List ℕ) → P a b
 merge-ind P p q x y z [] b = p b
 merge-ind P p q x y z (v ∷ a) [] = q v a
-merge-ind P p q x y z (v ∷ a) (w ∷ b) = go (merge-ind P p q x y z a (w ∷ b)) (merge-ind P p q x y z a b) (merge-ind P p q x y z (v ∷ a) b) (lies (offerOf v) (offerOf w))
+merge-ind P p q x y z (v ∷ a) (w ∷ b) =
+    go (merge-ind P p q x y z a (w ∷ b)) (merge-ind P p q x y z a b) (merge-ind P p q x y z (v ∷ a) b) (lies (offerOf v) (offerOf w))
   where
     go : P a (w ∷ b) → P a b → P (v ∷ a) b → Lies (offerOf v) (offerOf w) → P (v ∷ a) (w ∷ b)
     go s t u (lower h) = x v w a b h s

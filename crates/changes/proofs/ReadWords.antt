@@ -44,8 +44,9 @@ over-below n (v ∷ rs) f w h =
     let least : n ≤ offerOf v = f .0 in
     over-cons v rs (w ∷ []) ∙ ap₂ _∷_ (miss v w (λ e. omega arith)) (over-below (offerOf v + 1) rs (f .1) w (omega arith))
 
--- a change at the offer of a place
-pub over-at : (n : ℕ) (rs : List ℕ) → From n rs → (i : ℕ) → i < length rs → (w : ℕ) → offerOf w ≡ offerOf (getD rs i 0) → over rs (w ∷ []) ≡ set rs i w
+-- a change at the offer of a position
+pub over-at : (n : ℕ) (rs : List ℕ) → From n rs → (i : ℕ) → i < length rs → (w : ℕ) → offerOf w ≡ offerOf (getD rs i 0)
+    → over rs (w ∷ []) ≡ set rs i w
 over-at n [] f i b w e = absurd (omega arith)
 over-at n (v ∷ rs) f zero b w e =
     over-cons v rs (w ∷ []) ∙ ap₂ _∷_ (hit v w (cc)) (over-below (offerOf v + 1) rs (from-tail n v rs f) w (omega arith))
@@ -64,7 +65,8 @@ unfolding readOf
 find-read k m [] v e = absurd (let z : _≡_ {A = ℕ} 0 1 = cc (find-empty k) in omega arith)
 find-read k m (w ∷ ws) v e = go (find-read k m ws v) (ℕ-discrete (offerOf w) k)
   where
-    go : (find k ws ≡ Word v → find k (readOf m ws) ≡ Word (foundOr (find k m) (noneOf k))) → Dec (offerOf w ≡ k) → find k (readOf m (w ∷ ws)) ≡ Word (foundOr (find k m) (noneOf k))
+    go : (find k ws ≡ Word v → find k (readOf m ws) ≡ Word (foundOr (find k m) (noneOf k))) → Dec (offerOf w ≡ k)
+        → find k (readOf m (w ∷ ws)) ≡ Word (foundOr (find k m) (noneOf k))
     go i (yes o) =
         find-head k _ (readOf m ws) (shown-offer m w ∙ o) ∙ ap (λ (n : ℕ). Word (foundOr (find n m) (noneOf n))) o
     go i (no o) =
@@ -74,7 +76,8 @@ find-read k m (w ∷ ws) v e = go (find-read k m ws v) (ℕ-discrete (offerOf w)
 pub prices-map : (l : List ℕ) → From 0 l → Map (puts l)
 prices-map l f = record { rises = puts-rises l 0 f; puts = puts-all l }
 
-read-at : (m ws : List ℕ) (i : ℕ) → i < length ws → getD (readOf m ws) i 0 ≡ foundOr (find (offerOf (getD ws i 0)) m) (noneOf (offerOf (getD ws i 0)))
+read-at : (m ws : List ℕ) (i : ℕ) → i < length ws → getD (readOf m ws) i 0
+    ≡ foundOr (find (offerOf (getD ws i 0)) m) (noneOf (offerOf (getD ws i 0)))
 unfolding readOf
 read-at m [] i b = absurd (omega arith)
 read-at m (w ∷ ws) zero b = refl
@@ -102,5 +105,6 @@ prices-shown ws h = ext-getD 0 (readOf (puts ws) ws) ws (read-length (puts ws) w
     one i b =
         let inside : i < length ws = omega (arith, read-length (puts ws) ws) in
         read-at (puts ws) ws i inside
-        ∙ ap (λ (f : Found). foundOr f (noneOf (offerOf (getD ws i 0)))) (find-puts (offerOf (getD ws i 0)) 0 ws (h .rises) ∙ ap ifPut (find-at 0 ws (h .rises) i inside))
+        ∙ ap (λ (f : Found). foundOr f (noneOf (offerOf (getD ws i 0))))
+        (find-puts (offerOf (getD ws i 0)) 0 ws (h .rises) ∙ ap ifPut (find-at 0 ws (h .rises) i inside))
         ∙ or-none (getD ws i 0) (valid-at ws (h .valid) i inside)

@@ -44,8 +44,9 @@ shown-offer m w = or-offer (offerOf w) m (noneOf (offerOf w)) (none-offer w)
 changed-offer : (d : List ℕ) (w : ℕ) → offerOf (changed d w) ≡ offerOf w
 changed-offer d w = or-offer (offerOf w) d w refl
 
--- as a loop meets it: the words from a place on, changed
-pub over-at : (rs d : List ℕ) (i : ℕ) → i < length rs → over (drop i rs) d ≡ foundOr (find (offerOf (getD rs i 0)) d) (getD rs i 0) ∷ over (drop (i + 1) rs) d
+-- as a loop meets it: the words from a position on, changed
+pub over-at : (rs d : List ℕ) (i : ℕ) → i < length rs → over (drop i rs) d
+    ≡ foundOr (find (offerOf (getD rs i 0)) d) (getD rs i 0) ∷ over (drop (i + 1) rs) d
 unfolding over
 over-at rs d i h = rw (next rs i h)
 

@@ -10,7 +10,8 @@ use Rattle.entry.specs.Word.{kindOf, offerOf, Put}
 use Rattle.changes.specs.Calculus.{find, compose, puts}
 use Rattle.changes.specs.Lists.{From, All}
 use Rattle.changes.proofs.Find.{find-empty, find-head, find-past, find-none}
-use Rattle.changes.proofs.Merging.{Lies, lower, equal, higher, lies, merge-ind, compose-nil, nil-compose, compose-below, compose-same, compose-above, puts-nil, puts-put, puts-other}
+use Rattle.changes.proofs.Merging.{Lies, lower, equal, higher, lies, merge-ind, compose-nil, nil-compose, compose-below}
+use Rattle.changes.proofs.Merging.{compose-same, compose-above, puts-nil, puts-put, puts-other}
 
 pub from-lower : {m n : ℕ} (l : List ℕ) → m ≤ n → From n l → From m l
 unfolding From
@@ -39,9 +40,12 @@ compose-rises =
     merge-ind (λ a b. (n : ℕ) → From n a → From n b → From n (compose a b))
     (λ b n f g. rw nil-compose g)
     (λ v a n f g. rw compose-nil f)
-    (λ v w a b h i n f g. rw (compose-below v w a b h) (from-cons n v _ (from-head n v a f) (i (offerOf v + 1) (from-tail n v a f) (from-cons _ w b (omega arith) (from-tail n w b g)))))
-    (λ v w a b e i n f g. rw (compose-same v w a b e) (from-cons n w _ (from-head n w b g) (i (offerOf w + 1) (rw e at (from-tail n v a f)) (from-tail n w b g))))
-    (λ v w a b h i n f g. rw (compose-above v w a b h) (from-cons n w _ (from-head n w b g) (i (offerOf w + 1) (from-cons _ v a (omega arith) (from-tail n v a f)) (from-tail n w b g))))
+    (λ v w a b h i n f g. rw (compose-below v w a b h)
+    (from-cons n v _ (from-head n v a f) (i (offerOf v + 1) (from-tail n v a f) (from-cons _ w b (omega arith) (from-tail n w b g)))))
+    (λ v w a b e i n f g. rw (compose-same v w a b e)
+    (from-cons n w _ (from-head n w b g) (i (offerOf w + 1) (rw e at (from-tail n v a f)) (from-tail n w b g))))
+    (λ v w a b h i n f g. rw (compose-above v w a b h)
+    (from-cons n w _ (from-head n w b g) (i (offerOf w + 1) (from-cons _ v a (omega arith) (from-tail n v a f)) (from-tail n w b g))))
 
 pub puts-rises : (l : List ℕ) (n : ℕ) → From n l → From n (puts l)
 puts-rises [] n f = rw puts-nil f
@@ -110,21 +114,37 @@ puts-length (w ∷ l) = go (ℕ-discrete (kindOf w) 1) (puts-length l)
 -- two rising lists in which the same is found at every offer are one list
 pub rising-ext : (n : ℕ) (a b : List ℕ) → From n a → From n b → ((k : ℕ) → find k a ≡ find k b) → a ≡ b
 rising-ext n [] [] f g h = refl
-rising-ext n [] (w ∷ b) f g h = absurd (let z : _≡_ {A = ℕ} 0 1 = cc (h (offerOf w), find-empty (offerOf w), find-head (offerOf w) w b refl) in omega arith)
-rising-ext n (v ∷ a) [] f g h = absurd (let z : _≡_ {A = ℕ} 0 1 = cc (h (offerOf v), find-empty (offerOf v), find-head (offerOf v) v a refl) in omega arith)
+rising-ext n [] (w ∷ b) f g h =
+    absurd (let z : _≡_ {A = ℕ} 0 1 = cc (h (offerOf w), find-empty (offerOf w), find-head (offerOf w) w b refl) in omega arith)
+rising-ext n (v ∷ a) [] f g h =
+    absurd (let z : _≡_ {A = ℕ} 0 1 = cc (h (offerOf v), find-empty (offerOf v), find-head (offerOf v) v a refl) in omega arith)
 rising-ext n (v ∷ a) (w ∷ b) f g h = go (λ m f g h. rising-ext m a b f g h) (lies (offerOf v) (offerOf w))
   where
     tails : (k : ℕ) → offerOf v ≡ offerOf w → find k a ≡ find k b
     tails k e = at (ℕ-discrete (offerOf v) k)
       where
         at : Dec (offerOf v ≡ k) → find k a ≡ find k b
-        at (yes i) = find-none k (offerOf v + 1) a (from-tail n v a f) (omega arith) ∙ sym (find-none k (offerOf w + 1) b (from-tail n w b g) (omega arith))
+        at (yes i) =
+            find-none k (offerOf v + 1) a (from-tail n v a f) (omega arith)
+            ∙ sym (find-none k (offerOf w + 1) b (from-tail n w b g) (omega arith))
         at (no i) = sym (find-past k v a i) ∙ h k ∙ find-past k w b (λ j. i (omega arith))
 
     go : ((m : ℕ) → From m a → From m b → ((k : ℕ) → find k a ≡ find k b) → a ≡ b) → Lies (offerOf v) (offerOf w) → v ∷ a ≡ w ∷ b
-    go i (lower l) = absurd (let z : _≡_ {A = ℕ} 0 1 = cc (h (offerOf v), find-head (offerOf v) v a refl, find-none (offerOf v) (offerOf w) (w ∷ b) (from-cons _ w b (omega arith) (from-tail n w b g)) l) in omega arith)
+    go i (lower l) =
+        absurd (let z : _≡_ {A = ℕ} 0 1 = cc (
+          h (offerOf v),
+          find-head (offerOf v) v a refl,
+          find-none (offerOf v) (offerOf w) (w ∷ b)
+              (from-cons _ w b (omega arith) (from-tail n w b g)) l,
+        ) in omega arith)
     go i (equal e) =
         let first : v ≡ w = cc (h (offerOf v), find-head (offerOf v) v a refl, find-head (offerOf v) w b (omega arith)) in
         let rest : a ≡ b = i (offerOf v + 1) (from-tail n v a f) (rw (← e) at (from-tail n w b g)) (λ k. tails k e) in
         cc
-    go i (higher l) = absurd (let z : _≡_ {A = ℕ} 0 1 = cc (h (offerOf w), find-head (offerOf w) w b refl, find-none (offerOf w) (offerOf v) (v ∷ a) (from-cons _ v a (omega arith) (from-tail n v a f)) l) in omega arith)
+    go i (higher l) =
+        absurd (let z : _≡_ {A = ℕ} 0 1 = cc (
+          h (offerOf w),
+          find-head (offerOf w) w b refl,
+          find-none (offerOf w) (offerOf v) (v ∷ a)
+              (from-cons _ v a (omega arith) (from-tail n v a f)) l,
+        ) in omega arith)

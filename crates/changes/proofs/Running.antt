@@ -45,7 +45,8 @@ module _ (words ends : List ℕ) where
       let e : suc n + m ≡ suc (n + m) = omega arith in
       let f : i + 1 + n ≡ i + suc n = omega arith in
       ap (runOf words ends i) e
-      ∙ ap (λ (l : List (List ℕ)). stepOf words ends i ∷ l) (run-split n m (i + 1) ∙ ap (λ (k : ℕ). runOf words ends (i + 1) n ++ runOf words ends k m) f)
+      ∙ ap (λ (l : List (List ℕ)). stepOf words ends i ∷ l)
+      (run-split n m (i + 1) ∙ ap (λ (k : ℕ). runOf words ends (i + 1) n ++ runOf words ends k m) f)
 
   module _ (n : ℕ) (m : Marked words ends n) where
     pub step-length : (i : ℕ) → i < n → length (stepOf words ends i) ≡ runWords ends i (i + 1)

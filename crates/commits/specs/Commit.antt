@@ -9,7 +9,7 @@ use lib.ListN.{length, take, drop, set}
 use Rattle.changes.specs.Lists.{listB}
 use Rattle.changes.specs.Runs.{startOf}
 use Rattle.answers.specs.declared.answer.Check.{Check}
-use Rattle.answers.specs.declared.refusal.Refusal.the-variants.{BadList, LastState, StepsFull, JournalFull}
+use Rattle.answers.specs.declared.ground.Ground.the-variants.{BadList, LastState, StepsFull, JournalFull}
 use Rattle.answers.specs.First.{met, first, ifPassed}
 use Rattle.layout.specs.declared.head.Head.{Head}
 use Rattle.layout.specs.Heads.{withSteps}
@@ -47,4 +47,5 @@ abbrev pub commitJournal : List ℕ → List ℕ → Head → List ℕ → List 
 commitJournal table journal head list = ifPassed (commitCheck table journal head list) (withList journal (usedOf head) list) journal
 
 abbrev pub commitHead : List ℕ → List ℕ → Head → List ℕ → Head
-commitHead table journal head list = ifPassed (commitCheck table journal head list) (withStep head (heldOf head) (usedOf head + length list)) head
+commitHead table journal head list =
+    ifPassed (commitCheck table journal head list) (withStep head (heldOf head) (usedOf head + length list)) head

@@ -1,7 +1,7 @@
 // Commit: a list is appended as the state after the tip.
 use answers::answer::Answer;
 use answers::answer::Check;
-use answers::refusal::Refusal;
+use answers::ground::Ground;
 use layout::head::Head;
 use layout::head::Reply;
 use layout::head::STEPS;
@@ -28,18 +28,18 @@ fn commit_check(table: &[u64], journal: &[u64], head: Head, list: &[u64]) -> Che
         return store;
     };
     if !is_list(list) {
-        return Check::Refused(Refusal::BadList);
+        return Check::Refused(Ground::BadList);
     }
     if head.tip == LAST_STATE {
-        return Check::Refused(Refusal::LastState);
+        return Check::Refused(Ground::LastState);
     }
     let held = held_count(head);
     if held == STEPS {
-        return Check::Refused(Refusal::StepsFull);
+        return Check::Refused(Ground::StepsFull);
     }
     let used = end_of(&head.ends, held);
     if journal.len() - used < list.len() {
-        return Check::Refused(Refusal::JournalFull);
+        return Check::Refused(Ground::JournalFull);
     }
     Check::Passed
 }
@@ -56,7 +56,9 @@ fn with_step(head: Head, held: usize, end: usize) -> Head
 }
 
 pub fn commit(table: &[u64], journal: &mut [u64], head: Head, list: &[u64]) -> Reply
-    ensures { λ r. ⌜ Gives (r .answer) (answered (commitCheck (now (table .entry)) (now (journal .entry)) head (now (list .entry))) Done) × (r .head ≡ commitHead (now (table .entry)) (now (journal .entry)) head (now (list .entry))) × (now (journal .exit) ≡ commitJournal (now (table .entry)) (now (journal .entry)) head (now (list .entry))) ⌝ }
+    ensures { λ r. ⌜ Gives (r .answer) (answered (commitCheck (now (table .entry)) (now (journal .entry)) head (now (list .entry))) Done)
+        × (r .head ≡ commitHead (now (table .entry)) (now (journal .entry)) head (now (list .entry)))
+        × (now (journal .exit) ≡ commitJournal (now (table .entry)) (now (journal .entry)) head (now (list .entry))) ⌝ }
 {
     let check = commit_check(table, journal, head, list);
     if let Check::Refused(ground) = check {

@@ -11,7 +11,7 @@ use lib.ListN.{length, drop, getD, set, length-set, drop-of-length-le}
 use Rattle.entry.specs.Word.{offerOf}
 use Rattle.changes.specs.Calculus.{compose}
 use Rattle.changes.proofs.Merging.{Lies, lower, equal, higher, lies, compose-nil, nil-compose}
-use Rattle.composing.proofs.Places.{compose-at-below, compose-at-same, compose-at-above}
+use Rattle.composing.proofs.Positions.{compose-at-below, compose-at-same, compose-at-above}
 use Rattle.words.proofs.Writing.{Writing, start, stored}
 
 -- i words of the earlier and j of the later list are passed, and k words are written
@@ -26,7 +26,7 @@ pub composing : (a b out : List ℕ) → length a + length b ≤ length out → 
 composing a b out h = record { i-in = omega arith; j-in = omega arith; few = omega arith; room = h; writing = start out (compose a b) }
 
 module _ {a b out out₀ : List ℕ} {i j k : ℕ} (c : Composing a b out out₀ i j k) where
-  -- a word is stored that comes first in what is left, and the places go on
+  -- a word is stored that comes first in what is left, and the positions go on
   taken : (x p q : ℕ) → p ≤ length a → q ≤ length b → i + j < p + q → compose (drop i a) (drop j b) ≡ x ∷ compose (drop p a) (drop q b)
       → Composing a b (set out k x) out₀ p q (k + 1)
   taken x p q hp hq more e =
@@ -38,7 +38,7 @@ module _ {a b out out₀ : List ℕ} {i j k : ℕ} (c : Composing a b out out₀
         writing = stored (c .writing) e (omega (arith, c .room, c .few));
       }
 
-  -- a turn: the word at the lower offer is stored, the later one where they are equal, and either list goes past its word unless
+  -- an iteration: the word at the lower offer is stored, the later one where they are equal, and either list goes past its word unless
   -- the other's is lower
   module _ (g : i < length a) (h : j < length b) where
     abbrev v : ℕ
@@ -47,14 +47,15 @@ module _ {a b out out₀ : List ℕ} {i j k : ℕ} (c : Composing a b out out₀
     abbrev w : ℕ
     w = getD b j 0
 
-    module _ (x p q : ℕ) (ex : x ≡ cond (ltb (offerOf v) (offerOf w)) v w) (ep : p ≡ cond (ltb (offerOf w) (offerOf v)) i (i + 1)) (eq : q ≡ cond (ltb (offerOf v) (offerOf w)) j (j + 1)) where
-      abbrev Turn : Type 0
-      Turn = Composing a b (set out k x) out₀ p q (k + 1) × ((length a - p) + (length b - q) < (length a - i) + (length b - j))
+    module _ (x p q : ℕ) (ex : x ≡ cond (ltb (offerOf v) (offerOf w)) v w)
+        (ep : p ≡ cond (ltb (offerOf w) (offerOf v)) i (i + 1)) (eq : q ≡ cond (ltb (offerOf v) (offerOf w)) j (j + 1)) where
+      abbrev Iteration : Type 0
+      Iteration = Composing a b (set out k x) out₀ p q (k + 1) × ((length a - p) + (length b - q) < (length a - i) + (length b - j))
 
-      pub turn : Turn
-      turn = go (lies (offerOf v) (offerOf w))
+      pub iteration : Iteration
+      iteration = go (lies (offerOf v) (offerOf w))
         where
-          go : Lies (offerOf v) (offerOf w) → Turn
+          go : Lies (offerOf v) (offerOf w) → Iteration
           go (lower e) =
               rw (ex, ep, eq, lt-ltb (offerOf v) (offerOf w) e, le-ltb (offerOf w) (offerOf v) (omega arith))
               (taken v (i + 1) j (omega arith) (c .j-in) (omega arith) (compose-at-below a b i j g h e), omega arith)

@@ -1,2 +1,2 @@
 pub mod Composing
-pub mod Places
+pub mod Positions

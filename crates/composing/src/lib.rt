@@ -21,7 +21,7 @@ fn next_word(earlier: u64, later: u64) -> u64
     later
 }
 
-// The place of a word after a merge has taken the next word: past it, unless the other's offer is lower.
+// The position of a word after a merge has taken the next word: past it, unless the other's offer is lower.
 fn past(at: usize, word: u64, other: u64) -> usize
     requires { ⌜ at + 1 < 2 ^ 64 ⌝ }
     ensures { λ r. ⌜ r ≡ cond (ltb (offerOf other) (offerOf word)) at (at + 1) ⌝ }
@@ -33,10 +33,11 @@ fn past(at: usize, word: u64, other: u64) -> usize
 }
 
 // Writes the composition of an earlier and a later list to the start of `out`, and gives its length; the
-// words behind it stay. A turn has no branch on the offers, whose order cannot be foretold.
+// words behind it stay. An iteration has no branch on the offers, whose order cannot be foretold.
 pub fn compose(earlier: &[u64], later: &[u64], out: &mut [u64]) -> usize
     requires { ⌜ length (now earlier) + length (now later) ≤ length (now out) ⌝ }
-    ensures { λ r. ⌜ (r ≡ length (composed (now (earlier .entry)) (now (later .entry)))) × (now (out .exit) ≡ composed (now (earlier .entry)) (now (later .entry)) ++ drop r (now (out .entry))) ⌝ }
+    ensures { λ r. ⌜ (r ≡ length (composed (now (earlier .entry)) (now (later .entry))))
+        × (now (out .exit) ≡ composed (now (earlier .entry)) (now (later .entry)) ++ drop r (now (out .entry))) ⌝ }
 {
     let mut i = 0;
     let mut j = 0;

@@ -11,7 +11,7 @@ none-joined o = omega (arith, and-mask o 31)
 
 pub put-joined : (n o p : ℕ) → n ≡ noneOf o → o < 2 ^ 31 → p < 2 ^ 32 → bitOr (bitOr n p) (2 ^ 63) ≡ putOf o p
 put-joined n o p e ho hp =
-    let place : n ≡ o * 2 ^ 32 = omega arith in
-    ap (λ (x : ℕ). bitOr x (2 ^ 63)) (ap (λ (x : ℕ). bitOr x p) place ∙ or-shifted o 32 p hp)
+    let position : n ≡ o * 2 ^ 32 = omega arith in
+    ap (λ (x : ℕ). bitOr x (2 ^ 63)) (ap (λ (x : ℕ). bitOr x p) position ∙ or-shifted o 32 p hp)
     ∙ or-shifted-r 1 63 (o * 2 ^ 32 + p) (omega arith)
     ∙ omega arith

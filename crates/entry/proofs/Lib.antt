@@ -1,3 +1,3 @@
 pub mod Laws
 mod Joined
-pub mod Marks
+pub mod Flags

@@ -46,8 +46,8 @@ abbrev pub Valid : ℕ → Type 0
 Valid w = (kindOf w ≤ 1) × (kindOf w ≡ 0 → priceOf w ≡ 0)
 
 -- 1 where a test passes, else 0
-abbrev pub markOf : Bool → ℕ
-markOf b = cond b 1 0
+abbrev pub bitOf : Bool → ℕ
+bitOf b = cond b 1 0
 
 -- the top bit of a number of 32 bits
 abbrev pub topOf : ℕ → ℕ

@@ -6,7 +6,7 @@ ghost use mathlib.Core.Path.{_≡_};
 ghost use Prim.Native.Nat.{_*_, _%_, _^_, _<_};
 ghost use mathlib.Core.Bool.{_&&_};
 ghost use lib.Dec.{eqb, ltb};
-ghost use Rattle.entry.specs.Word.{kindOf, offerOf, priceOf, keyOf, putOf, noneOf, isPut, Put, validB, markOf, topOf};
+ghost use Rattle.entry.specs.Word.{kindOf, offerOf, priceOf, keyOf, putOf, noneOf, isPut, Put, validB, bitOf, topOf};
 
 pub struct Entry;
 
@@ -29,8 +29,8 @@ impl Entry {
 
     const PRICE_MASK: u64 = (1 << Entry::PRICE_BITS) - 1;
 
-    // The mark of a test that passes: the top bit alone of a number of 32 bits.
-    pub const MARK: u32 = 1 << Entry::OFFER_BITS;
+    // The flag of a test that passes: the top bit alone of a number of 32 bits.
+    pub const FLAG: u32 = 1 << Entry::OFFER_BITS;
 
     // The largest key of a word of kind 0.
     pub const LAST_REMOVAL: u64 = Entry::OFFER_MASK;
@@ -92,42 +92,42 @@ impl Entry {
         (word >> Entry::OFFER_AT) as u32
     }
 
-    // The bit of a mark. A mark is a number of 32 bits whose top bit says whether a test passes: a scan joins marks by `&` and looks at
+    // The bit of a flag. A flag is a number of 32 bits whose top bit says whether a test passes: a scan joins flags by `&` and looks at
     // the bit of many at once, so that no word of it branches, and the compiler takes four of such numbers at a time.
-    pub fn mark_bit(mark: u32) -> u32
-        ensures { λ r. ⌜ r ≡ topOf mark ⌝ }
+    pub fn flag_bit(flag: u32) -> u32
+        ensures { λ r. ⌜ r ≡ topOf flag ⌝ }
     {
-        mark >> Entry::OFFER_BITS
+        flag >> Entry::OFFER_BITS
     }
 
-    // The mark of a word whose price field is 0: a choice between two numbers, which the compiler makes for several words at a time.
-    fn no_price_mark(word: u64) -> u32
-        ensures { λ r. ⌜ topOf r ≡ markOf (eqb (priceOf word) 0) ⌝ }
+    // The flag of a word whose price field is 0: a choice between two numbers, which the compiler makes for several words at a time.
+    fn no_price_flag(word: u64) -> u32
+        ensures { λ r. ⌜ topOf r ≡ bitOf (eqb (priceOf word) 0) ⌝ }
     {
         if Entry::price_of(word) == 0 {
-            return Entry::MARK;
+            return Entry::FLAG;
         }
         0
     }
 
-    // The mark of a valid word: of kind 1, or with a price field of 0.
-    pub fn valid_mark(word: u64) -> u32
-        ensures { λ r. ⌜ topOf r ≡ markOf (validB word) ⌝ }
+    // The flag of a valid word: of kind 1, or with a price field of 0.
+    pub fn valid_flag(word: u64) -> u32
+        ensures { λ r. ⌜ topOf r ≡ bitOf (validB word) ⌝ }
     {
-        Entry::upper_of(word) | Entry::no_price_mark(word)
+        Entry::upper_of(word) | Entry::no_price_flag(word)
     }
 
-    // The mark of a valid word whose offer lies above that of the word before it: then the difference of the offers wraps.
+    // The flag of a valid word whose offer lies above that of the word before it: then the difference of the offers wraps.
     pub fn follows(before: u64, word: u64) -> u32
-        ensures { λ r. ⌜ topOf r ≡ markOf (validB word && ltb (offerOf before) (offerOf word)) ⌝ }
+        ensures { λ r. ⌜ topOf r ≡ bitOf (validB word && ltb (offerOf before) (offerOf word)) ⌝ }
     {
-        Entry::valid_mark(word) & wrapping_sub_u32(Entry::offer_of(before), Entry::offer_of(word))
+        Entry::valid_flag(word) & wrapping_sub_u32(Entry::offer_of(before), Entry::offer_of(word))
     }
 
-    // The mark of a word of kind 1 whose offer lies above that of the word before it. Where the word before is of kind 0, it says
+    // The flag of a word of kind 1 whose offer lies above that of the word before it. Where the word before is of kind 0, it says
     // nothing.
     pub fn climbs(before: u64, word: u64) -> u32
-        ensures { λ r. ⌜ (Put before → topOf r ≡ markOf (isPut word && ltb (offerOf before) (offerOf word))) ⌝ }
+        ensures { λ r. ⌜ (Put before → topOf r ≡ bitOf (isPut word && ltb (offerOf before) (offerOf word))) ⌝ }
     {
         Entry::upper_of(word) & wrapping_sub_u32(Entry::upper_of(before), Entry::upper_of(word))
     }

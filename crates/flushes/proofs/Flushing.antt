@@ -22,8 +22,8 @@ use Rattle.answers.specs.declared.answer.Check.{Check}
 use Rattle.answers.specs.declared.answer.Check.the-variants.{Passed, Refused}
 use Rattle.answers.specs.declared.answer.Answer.{Answer}
 use Rattle.answers.specs.declared.answer.Answer.the-variants.{Done, Count, Refused as Away}
-use Rattle.answers.specs.declared.refusal.Refusal.{Refusal}
-use Rattle.answers.specs.declared.refusal.Refusal.the-variants.{TableFull}
+use Rattle.answers.specs.declared.ground.Ground.{Ground}
+use Rattle.answers.specs.declared.ground.Ground.the-variants.{TableFull}
 use Rattle.answers.specs.First.{met, first}
 use Rattle.answers.specs.Answers.{Gives, answered}
 use Rattle.answers.proofs.answer.Answer.{the-type}
@@ -57,7 +57,7 @@ counted-not n (inr (inr (inr e))) = omega arith
 
 -- a check that found a ground, and the answer that names it
 pub record TurnedAway (check : Check) (answer : Answer) : Type 0 where
-  pub ground : Refusal
+  pub ground : Ground
   pub found : check ≡ Refused ground
   pub told : answer ≡ Away ground
 
@@ -84,12 +84,12 @@ module _ (table journal : List ℕ) (head : Head) (state : ℕ) where
   Moves answer left = (answer ≡ flushSize table journal head state) × (left ≡ flushTable table journal head state)
 
   -- what is done with the table where a ground is met
-  turned-away : {g : Refusal} → flushCheck table journal head state ≡ Refused g → Moves (Away g) table
+  turned-away : {g : Ground} → flushCheck table journal head state ≡ Refused g → Moves (Away g) table
   turned-away e = (sym (ap (λ (o : Check). answered o (Count (length (mapHere table journal head state)))) e), if-refused e _ _)
 
   -- the check of the store and the state: what is done where it finds a ground, and what is known where it finds none
   module _ {check : Check} (e : check ≡ first (storeGrounds table journal head ++ stateGrounds head state)) where
-    pub held-not : {g : Refusal} → check ≡ Refused g → Moves (Away g) table
+    pub held-not : {g : Ground} → check ≡ Refused g → Moves (Away g) table
     held-not d = turned-away (first-stops (storeGrounds table journal head ++ stateGrounds head state) _ (sym e ∙ d))
 
     pub held-known : check ≡ Passed → HeldState table journal head state
@@ -176,7 +176,7 @@ flush-ok table journal head state e =
       fits = ltb-false (length table) (length (mapHere table journal head state)) (c .0);
     }
 
--- words with zeros behind: from a place on there are zeros only, and a map written to their start, with zeros up to the used words, is
+-- words with zeros behind: from a position on there are zeros only, and a map written to their start, with zeros up to the used words, is
 -- the map padded
 zeros-on : (l : List ℕ) (used n : ℕ) → used ≤ n → zerosB (drop used l) ≡ true → drop n l ≡ replicate (length l - n) 0
 zeros-on l used n h z =
@@ -264,8 +264,8 @@ module _ {table journal : List ℕ} {head : Head} {state : ℕ} (p : Shaped head
   unfolding flushedHead
   flushed-trimmable used =
       record {
-        low = omega (arith, ok .sound .oldest, least-later (head .checkpoint) state (head .held) (head .issued) (ok .low));
-        high = omega (arith, least-up-to state (head .held) (head .issued), ok .high);
+        low = omega (arith, ok .sound .oldest, least-later (head .checkpoint) state (head .taken) (head .issued) (ok .low));
+        high = omega (arith, least-up-to state (head .taken) (head .issued), ok .high);
         few = ok .sound .few;
         marked = sound-marked table journal head p (ok .sound);
       }

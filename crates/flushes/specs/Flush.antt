@@ -9,7 +9,7 @@ use lib.ListN.{length}
 use Rattle.answers.specs.declared.answer.Answer.{Answer}
 use Rattle.answers.specs.declared.answer.Answer.the-variants.{Count}
 use Rattle.answers.specs.declared.answer.Check.{Check}
-use Rattle.answers.specs.declared.refusal.Refusal.the-variants.{TableFull}
+use Rattle.answers.specs.declared.ground.Ground.the-variants.{TableFull}
 use Rattle.answers.specs.Answers.{answered}
 use Rattle.answers.specs.First.{met, first, ifPassed}
 use Rattle.layout.specs.declared.head.Head.{Head}

@@ -2,7 +2,7 @@
 // go.
 use answers::answer::Answer;
 use answers::answer::Check;
-use answers::refusal::Refusal;
+use answers::ground::Ground;
 use layout::head::Head;
 use layout::head::JOURNAL_WORDS;
 use layout::head::MAP_WORDS;
@@ -15,18 +15,15 @@ use state_maps::map_at;
 use table::replace;
 use views::trim::trim;
 ghost use mathlib.Core.Bool.{cond, _&&_};
-ghost use mathlib.Core.List.{_++_};
 ghost use mathlib.Core.Path.{_≡_};
 ghost use Prim.Native.Nat.{_+_, _≤_};
 ghost use lib.Dec.{leb, ltb};
 ghost use lib.ListN.{length};
 ghost use Rattle.changes.specs.Runs.{startOf};
-ghost use Rattle.answers.specs.declared.refusal.Refusal.the-variants.{TableFull};
+ghost use Rattle.answers.specs.declared.ground.Ground.the-variants.{TableFull};
 ghost use Rattle.answers.specs.declared.answer.Answer.the-variants.{Done, Count, Refused};
 ghost use Rattle.answers.specs.Answers.{Gives, answered};
-ghost use Rattle.answers.specs.First.{first};
 ghost use Rattle.layout.specs.States.{stepIndex, mapHere};
-ghost use Rattle.soundness.specs.Checks.{storeGrounds, stateGrounds};
 ghost use Rattle.state_maps.specs.Held.{HeldState, MapRoom, wordsTo};
 ghost use Rattle.flushes.specs.Flush.{flushCheck, flushSize, flushedHead, tableAt, flushTable, flushHead, flushJournal};
 
@@ -37,7 +34,10 @@ const FEW_WORDS: usize = 512;
 
 // How many words the steps from the checkpoint to a state have.
 fn words_to(head: Head, state: u32) -> usize
-    requires { ⌜ (head .oldest ≤ head .checkpoint) × (head .checkpoint ≤ state) × (state ≤ head .oldest + 64) × (startOf (head .ends) (stepIndex head (head .checkpoint)) ≤ startOf (head .ends) (stepIndex head state)) ⌝ }
+    requires { ⌜ (head .oldest ≤ head .checkpoint)
+        × (head .checkpoint ≤ state)
+        × (state ≤ head .oldest + 64)
+        × (startOf (head .ends) (stepIndex head (head .checkpoint)) ≤ startOf (head .ends) (stepIndex head state)) ⌝ }
     ensures { λ r. ⌜ r ≡ wordsTo head state ⌝ }
 {
     let from = step_index(head, head.checkpoint);
@@ -56,7 +56,8 @@ fn move_table(
     map: &mut [u64],
 ) -> usize
     requires { ⌜ HeldState (now table) (now journal) head state × MapRoom head state (length (now changes)) (length (now map)) ⌝ }
-    ensures { λ r. ⌜ (r ≡ length (mapHere (now (table .entry)) (now (journal .entry)) head state)) × (now (table .exit) ≡ tableAt (now (table .entry)) (now (journal .entry)) head state) ⌝ }
+    ensures { λ r. ⌜ (r ≡ length (mapHere (now (table .entry)) (now (journal .entry)) head state))
+        × (now (table .exit) ≡ tableAt (now (table .entry)) (now (journal .entry)) head state) ⌝ }
 {
     let size = map_at(table, journal, head, state, changes, map);
     if size > table.len() {
@@ -69,7 +70,8 @@ fn move_table(
 // The same with buffers of its own, for few words.
 fn move_few(table: &mut [u64], journal: &[u64], head: Head, state: u32) -> usize
     requires { ⌜ HeldState (now table) (now journal) head state × (head .used ≤ 512) × (wordsTo head state ≤ 512) ⌝ }
-    ensures { λ r. ⌜ (r ≡ length (mapHere (now (table .entry)) (now (journal .entry)) head state)) × (now (table .exit) ≡ tableAt (now (table .entry)) (now (journal .entry)) head state) ⌝ }
+    ensures { λ r. ⌜ (r ≡ length (mapHere (now (table .entry)) (now (journal .entry)) head state))
+        × (now (table .exit) ≡ tableAt (now (table .entry)) (now (journal .entry)) head state) ⌝ }
 {
     let mut changes = [0u64; FEW_WORDS];
     let mut map = [0u64; FEW_USED + FEW_WORDS];
@@ -79,7 +81,8 @@ fn move_few(table: &mut [u64], journal: &[u64], head: Head, state: u32) -> usize
 // The same for all that a store can hold.
 fn move_many(table: &mut [u64], journal: &[u64], head: Head, state: u32) -> usize
     requires { ⌜ HeldState (now table) (now journal) head state ⌝ }
-    ensures { λ r. ⌜ (r ≡ length (mapHere (now (table .entry)) (now (journal .entry)) head state)) × (now (table .exit) ≡ tableAt (now (table .entry)) (now (journal .entry)) head state) ⌝ }
+    ensures { λ r. ⌜ (r ≡ length (mapHere (now (table .entry)) (now (journal .entry)) head state))
+        × (now (table .exit) ≡ tableAt (now (table .entry)) (now (journal .entry)) head state) ⌝ }
 {
     let mut changes = [0u64; JOURNAL_WORDS];
     let mut map = [0u64; MAP_WORDS];
@@ -101,7 +104,7 @@ fn size_if_room(room: usize, size: usize) -> Answer
     ensures { λ r. ⌜ r ≡ cond (ltb room size) (Refused TableFull) (Count size) ⌝ }
 {
     if room < size {
-        return Answer::Refused(Refusal::TableFull);
+        return Answer::Refused(Ground::TableFull);
     }
     Answer::Count(size)
 }
@@ -109,7 +112,8 @@ fn size_if_room(room: usize, size: usize) -> Answer
 // What a flush does with the table: the words that it uses then, or the ground that turns the flush away. Where no step lies above the
 // checkpoint, where the state is the checkpoint and where no step has a word, the table is the map at the state already.
 fn flush_table(table: &mut [u64], journal: &[u64], head: Head, state: u32) -> Answer
-    ensures { λ r. ⌜ (r ≡ flushSize (now (table .entry)) (now (journal .entry)) head state) × (now (table .exit) ≡ flushTable (now (table .entry)) (now (journal .entry)) head state) ⌝ }
+    ensures { λ r. ⌜ (r ≡ flushSize (now (table .entry)) (now (journal .entry)) head state)
+        × (now (table .exit) ≡ flushTable (now (table .entry)) (now (journal .entry)) head state) ⌝ }
 {
     let store = store_check(table, journal, head);
     if let Check::Refused(ground) = store {
@@ -148,7 +152,10 @@ fn flushed_head(head: Head, used: usize, state: u32) -> Head
 }
 
 pub fn flush(table: &mut [u64], journal: &mut [u64], head: Head, state: u32) -> Reply
-    ensures { λ r. ⌜ Gives (r .answer) (answered (flushCheck (now (table .entry)) (now (journal .entry)) head state) Done) × (r .head ≡ flushHead (now (table .entry)) (now (journal .entry)) head state) × (now (table .exit) ≡ flushTable (now (table .entry)) (now (journal .entry)) head state) × (now (journal .exit) ≡ flushJournal (now (table .entry)) (now (journal .entry)) head state) ⌝ }
+    ensures { λ r. ⌜ Gives (r .answer) (answered (flushCheck (now (table .entry)) (now (journal .entry)) head state) Done)
+        × (r .head ≡ flushHead (now (table .entry)) (now (journal .entry)) head state)
+        × (now (table .exit) ≡ flushTable (now (table .entry)) (now (journal .entry)) head state)
+        × (now (journal .exit) ≡ flushJournal (now (table .entry)) (now (journal .entry)) head state) ⌝ }
 {
     let made = flush_table(table, journal, head, state);
     let Answer::Count(size) = made else {

@@ -10,13 +10,13 @@ use Rattle.changes.specs.Lists.{listB}
 use Rattle.changes.specs.ReadSets.{over}
 use Rattle.answers.specs.declared.answer.Check.{Check}
 use Rattle.answers.specs.declared.call.Reader.{Reader}
-use Rattle.answers.specs.declared.refusal.Refusal.the-variants.{SlotClosed, BadList}
+use Rattle.answers.specs.declared.ground.Ground.the-variants.{SlotClosed, BadList}
 use Rattle.answers.specs.First.{met, first, ifPassed}
 use Rattle.layout.specs.declared.head.Head.{Head}
 use Rattle.soundness.specs.Checks.{storeGrounds, stateGrounds}
 use Rattle.layout.specs.States.{stepsBetween}
 use Rattle.views.specs.Trim.{trimmedHead, trimmedJournal}
-use Rattle.slots.specs.Slots.{slotGrounds, shut}
+use Rattle.slots.specs.Slots.{slotGrounds, closedAt}
 
 -- grounds 1, 2, 3, 5, 6 ("A list breaks its rules"), 11 ("below the anchor or above the tip")
 abbrev pub forwardCheck : List ℕ → List ℕ → Head → Reader → ℕ → List ℕ → Check
@@ -24,17 +24,20 @@ forwardCheck table journal head reader state words =
     first
     (storeGrounds table journal head
     ++ slotGrounds reader
-    ++ (met (not (getD (head .held) (reader .slot) false)) SlotClosed ∷ met (not (listB words)) BadList ∷ stateGrounds head state))
+    ++ (met (not (getD (head .taken) (reader .slot) false)) SlotClosed ∷ met (not (listB words)) BadList ∷ stateGrounds head state))
 
 -- the steps from the slot's number, which may lie below the checkpoint, to the state
 abbrev pub stepsFor : List ℕ → Head → Reader → ℕ → List (List ℕ)
 stepsFor journal head reader state = stepsBetween journal head (getD (head .issued) (reader .slot) 0) state
 
 abbrev pub forwardReads : List ℕ → List ℕ → Head → Reader → ℕ → List ℕ → List ℕ
-forwardReads table journal head reader state words = ifPassed (forwardCheck table journal head reader state words) (over words (composeAll (stepsFor journal head reader state))) words
+forwardReads table journal head reader state words =
+    ifPassed (forwardCheck table journal head reader state words) (over words (composeAll (stepsFor journal head reader state))) words
 
 abbrev pub forwardHead : List ℕ → List ℕ → Head → Reader → ℕ → List ℕ → Head
-forwardHead table journal head reader state words = ifPassed (forwardCheck table journal head reader state words) (trimmedHead (shut head (reader .slot))) head
+forwardHead table journal head reader state words =
+    ifPassed (forwardCheck table journal head reader state words) (trimmedHead (closedAt head (reader .slot))) head
 
 abbrev pub forwardJournal : List ℕ → List ℕ → Head → Reader → ℕ → List ℕ → List ℕ
-forwardJournal table journal head reader state words = ifPassed (forwardCheck table journal head reader state words) (trimmedJournal (shut head (reader .slot)) journal) journal
+forwardJournal table journal head reader state words =
+    ifPassed (forwardCheck table journal head reader state words) (trimmedJournal (closedAt head (reader .slot)) journal) journal

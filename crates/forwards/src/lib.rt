@@ -2,7 +2,7 @@
 use answers::answer::Answer;
 use answers::answer::Check;
 use answers::call::Reader;
-use answers::refusal::Refusal;
+use answers::ground::Ground;
 use last_changes::bring_forward;
 use layout::head::Head;
 use layout::head::Reply;
@@ -29,7 +29,7 @@ fn forward_check(
 ) -> Check
     ensures { λ r. ⌜ r ≡ forwardCheck (now (table .entry)) (now (journal .entry)) head reader state (now (words .entry)) ⌝ }
 {
-    let held = head.held;
+    let taken = head.taken;
     let slot = reader.slot;
     let store = store_check(table, journal, head);
     let Check::Passed = store else {
@@ -39,11 +39,11 @@ fn forward_check(
     let Check::Passed = range else {
         return range;
     };
-    if !held[slot] {
-        return Check::Refused(Refusal::SlotClosed);
+    if !taken[slot] {
+        return Check::Refused(Ground::SlotClosed);
     }
     if !is_list(words) {
-        return Check::Refused(Refusal::BadList);
+        return Check::Refused(Ground::BadList);
     }
     state_check(head, state)
 }
@@ -56,7 +56,11 @@ pub fn forward(
     state: u32,
     reads: &mut [u64],
 ) -> Reply
-    ensures { λ r. ⌜ Gives (r .answer) (answered (forwardCheck (now (table .entry)) (now (journal .entry)) head reader state (now (reads .entry))) Done) × (r .head ≡ forwardHead (now (table .entry)) (now (journal .entry)) head reader state (now (reads .entry))) × (now (journal .exit) ≡ forwardJournal (now (table .entry)) (now (journal .entry)) head reader state (now (reads .entry))) × (now (reads .exit) ≡ forwardReads (now (table .entry)) (now (journal .entry)) head reader state (now (reads .entry))) ⌝ }
+    ensures { λ r. ⌜ Gives (r .answer)
+        (answered (forwardCheck (now (table .entry)) (now (journal .entry)) head reader state (now (reads .entry))) Done)
+        × (r .head ≡ forwardHead (now (table .entry)) (now (journal .entry)) head reader state (now (reads .entry)))
+        × (now (journal .exit) ≡ forwardJournal (now (table .entry)) (now (journal .entry)) head reader state (now (reads .entry)))
+        × (now (reads .exit) ≡ forwardReads (now (table .entry)) (now (journal .entry)) head reader state (now (reads .entry))) ⌝ }
 {
     let check = forward_check(table, journal, head, reader, state, reads);
     if let Check::Refused(ground) = check {

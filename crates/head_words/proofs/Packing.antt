@@ -1,11 +1,10 @@
 -- A head that is put into its words.
 -- Assumes nothing.
 use mathlib.Core.Path.{_≡_, refl, sym, subst, _∙_}
-use mathlib.Core.Bool.{Bool}
-use mathlib.Core.List.{List, [], _∷_, _++_, map, append-assoc, append-nil}
+use mathlib.Core.List.{List, [], _++_, map, append-assoc, append-nil}
 use Prim.Native.Nat.{ℕ, _+_, _≤_}
 use native.Mathlib.Omega.{arith}
-use lib.ListN.{length, length-map, take, drop, set, length-set, length-append}
+use lib.ListN.{length, length-map, take, drop, set, length-append}
 use Rattle.layout.specs.declared.head.Head.{Head}
 use Rattle.words.proofs.Writing.{Writing, start, wrote, filled}
 use Rattle.words.proofs.Pieces.{wrote-piece}
@@ -20,38 +19,40 @@ module _
     (l : List ℕ)
     (head : Head)
     (e : length l ≡ 84)
-    (eh : length (head .held) ≡ 8)
+    (eh : length (head .taken) ≡ 8)
     (ei : length (head .issued) ≡ 8)
     (ee : length (head .ends) ≡ 64)
     {first flags numbers ends : List ℕ}
     (p : first ≡ set (set (set (set l 0 (head .used)) 1 (head .oldest)) 2 (head .checkpoint)) 3 (head .tip))
-    (pf : flags ≡ take 4 first ++ map wordOf (head .held) ++ drop 12 first)
+    (pf : flags ≡ take 4 first ++ map wordOf (head .taken) ++ drop 12 first)
     (pn : numbers ≡ take 12 flags ++ head .issued ++ drop 20 flags)
     (pe : ends ≡ take 20 numbers ++ head .ends ++ drop 84 numbers) where
-  marks : length (map wordOf (head .held)) ≡ 8
-  marks = length-map (head .held) wordOf ∙ eh
+  flags-long : length (map wordOf (head .taken)) ≡ 8
+  flags-long = length-map (head .taken) wordOf ∙ eh
 
-  first-put : Writing first l 4 (map wordOf (head .held) ++ head .issued ++ head .ends) (wordsOf head)
+  first-put : Writing first l 4 (map wordOf (head .taken) ++ head .issued ++ head .ends) (wordsOf head)
   first-put =
       let one = wrote (start l (wordsOf head)) (omega (arith, e)) in
       let two = wrote one (omega (arith, e, one .same)) in
       let three = wrote two (omega (arith, e, two .same)) in
-      subst (λ (w : List ℕ). Writing w l 4 (map wordOf (head .held) ++ head .issued ++ head .ends) (wordsOf head)) (sym p) (wrote three (omega (arith, e, three .same)))
+      subst (λ (w : List ℕ). Writing w l 4 (map wordOf (head .taken) ++ head .issued ++ head .ends) (wordsOf head))
+      (sym p) (wrote three (omega (arith, e, three .same)))
 
   flags-put : Writing flags l 12 (head .issued ++ head .ends) (wordsOf head)
   flags-put =
-      wrote-piece first-put (map wordOf (head .held)) (head .issued ++ head .ends)
-      (append-assoc (map wordOf (head .held)) (head .issued) (head .ends))
-      12 (omega (arith, marks)) (omega (arith, e, first-put .same)) pf
+      wrote-piece first-put (map wordOf (head .taken)) (head .issued ++ head .ends)
+      (append-assoc (map wordOf (head .taken)) (head .issued) (head .ends))
+      12 (omega (arith, flags-long)) (omega (arith, e, first-put .same)) pf
 
   issued-put : Writing numbers l 20 (head .ends) (wordsOf head)
   issued-put = wrote-piece flags-put (head .issued) (head .ends) refl 20 (omega (arith, ei)) (omega (arith, e, flags-put .same)) pn
 
   ends-put : Writing ends l 84 [] (wordsOf head)
-  ends-put = wrote-piece issued-put (head .ends) [] (sym (append-nil (head .ends))) 84 (omega (arith, ee)) (omega (arith, e, issued-put .same)) pe
+  ends-put =
+      wrote-piece issued-put (head .ends) [] (sym (append-nil (head .ends))) 84 (omega (arith, ee)) (omega (arith, e, issued-put .same)) pe
 
   words-length : length (wordsOf head) ≡ 84
-  words-length = simp length-append (omega (arith, marks, ei, ee))
+  words-length = simp length-append (omega (arith, flags-long, ei, ee))
 
   pub packed : ends ≡ wordsOf head
   packed = filled ends-put refl (words-length ∙ sym e)

@@ -3,10 +3,10 @@
 use mathlib.Core.Path.{_≡_, refl, sym, ap, ap₂, _∙_}
 use mathlib.Core.Bool.{Bool, true, false}
 use mathlib.Core.List.{List, [], _∷_, _++_, map, append-assoc}
-use Prim.Native.Nat.{ℕ, zero, suc, _+_, _≤_, _<_, _%_}
+use Prim.Native.Nat.{ℕ, zero, suc, _+_, _<_}
 use native.Mathlib.Omega.{arith}
 use native.Mathlib.Nat.{mod-eq-of-lt}
-use borrow.Author.Tests.{eqb-true, ltb-true, lt-ltb}
+use borrow.Author.Tests.{eqb-true, ltb-true}
 use lib.Dec.{eqb, ltb}
 use lib.ListN.{length, length-map, getD, take, drop, length-drop, take-append-drop}
 use lib.Seq.{take-at, drop-at, take-all, drop-drop}
@@ -30,7 +30,8 @@ number-back w h = mod-eq-of-lt h
 
 numbers-back : (l : List ℕ) → belowB limit l ≡ true → map numberIn l ≡ l
 numbers-back [] e = refl
-numbers-back (w ∷ l) e = ap₂ (λ (n : ℕ) (r : List ℕ). n ∷ r) (number-back w (below-first limit w l e)) (numbers-back l (below-rest limit w l e))
+numbers-back (w ∷ l) e =
+    ap₂ (λ (n : ℕ) (r : List ℕ). n ∷ r) (number-back w (below-first limit w l e)) (numbers-back l (below-rest limit w l e))
 
 flag-word : (w : ℕ) → w < 2 → wordOf (flagOf w) ≡ w
 flag-word zero h = refl
@@ -61,12 +62,15 @@ module _ (w : List ℕ) (e : headB w ≡ true) where
   flags-fit = all-first (belowB 2 (from 4 8 w)) _ (all-rest (belowB limit (from 1 3 w)) _ (all-rest (eqb (length w) 84) _ e))
 
   issued-fit : belowB limit (from 12 8 w) ≡ true
-  issued-fit = all-first (belowB limit (from 12 8 w)) _ (all-rest (belowB 2 (from 4 8 w)) _ (all-rest (belowB limit (from 1 3 w)) _ (all-rest (eqb (length w) 84) _ e)))
+  issued-fit =
+      all-first (belowB limit (from 12 8 w)) _
+      (all-rest (belowB 2 (from 4 8 w)) _ (all-rest (belowB limit (from 1 3 w)) _ (all-rest (eqb (length w) 84) _ e)))
 
   three : drop 1 w ≡ getD w 1 0 ∷ getD w 2 0 ∷ getD w 3 0 ∷ drop 4 w
   three =
       next w 1 (omega (arith, long))
-      ∙ ap (λ (r : List ℕ). getD w 1 0 ∷ r) (next w 2 (omega (arith, long)) ∙ ap (λ (r : List ℕ). getD w 2 0 ∷ r) (next w 3 (omega (arith, long))))
+      ∙ ap (λ (r : List ℕ). getD w 1 0 ∷ r)
+      (next w 2 (omega (arith, long)) ∙ ap (λ (r : List ℕ). getD w 2 0 ∷ r) (next w 3 (omega (arith, long))))
 
   states : belowB limit (getD w 1 0 ∷ getD w 2 0 ∷ getD w 3 0 ∷ []) ≡ true
   states = ap (λ (r : List ℕ). belowB limit (take 3 r)) (sym three) ∙ states-fit
@@ -78,7 +82,8 @@ module _ (w : List ℕ) (e : headB w ≡ true) where
   checkpoint-back = number-back (getD w 2 0) (below-first limit (getD w 2 0) _ (below-rest limit (getD w 1 0) _ states))
 
   tip-back : numberIn (getD w 3 0) ≡ getD w 3 0
-  tip-back = number-back (getD w 3 0) (below-first limit (getD w 3 0) _ (below-rest limit (getD w 2 0) _ (below-rest limit (getD w 1 0) _ states)))
+  tip-back =
+      number-back (getD w 3 0) (below-first limit (getD w 3 0) _ (below-rest limit (getD w 2 0) _ (below-rest limit (getD w 1 0) _ states)))
 
   numbers : (getD w 0 0 ∷ numberIn (getD w 1 0) ∷ numberIn (getD w 2 0) ∷ numberIn (getD w 3 0) ∷ []) ++ drop 4 w ≡ w
   numbers =
@@ -89,15 +94,18 @@ module _ (w : List ℕ) (e : headB w ≡ true) where
   arrays : map wordOf (map flagOf (from 4 8 w)) ++ (map numberIn (from 12 8 w) ++ from 20 64 w) ≡ drop 4 w
   arrays =
       ap₂ _++_ (flag-words (from 4 8 w) flags-fit)
-      (ap₂ _++_ (numbers-back (from 12 8 w) issued-fit) (take-all 64 (drop 20 w) (omega (arith, length-drop 20 w, long)) ∙ sym (drop-drop 8 12 w))
+      (ap₂ _++_ (numbers-back (from 12 8 w) issued-fit)
+      (take-all 64 (drop 20 w) (omega (arith, length-drop 20 w, long)) ∙ sym (drop-drop 8 12 w))
       ∙ take-append-drop 8 (drop 12 w)
       ∙ sym (drop-drop 8 4 w))
       ∙ take-append-drop 8 (drop 4 w)
 
   pub words-back : wordsOf (headOf w) ≡ w
   words-back =
-      append-assoc ((getD w 0 0 ∷ numberIn (getD w 1 0) ∷ numberIn (getD w 2 0) ∷ numberIn (getD w 3 0) ∷ []) ++ map wordOf (map flagOf (from 4 8 w))) (map numberIn (from 12 8 w)) (from 20 64 w)
-      ∙ append-assoc (getD w 0 0 ∷ numberIn (getD w 1 0) ∷ numberIn (getD w 2 0) ∷ numberIn (getD w 3 0) ∷ []) (map wordOf (map flagOf (from 4 8 w))) (map numberIn (from 12 8 w) ++ from 20 64 w)
+      append-assoc ((getD w 0 0 ∷ numberIn (getD w 1 0) ∷ numberIn (getD w 2 0) ∷ numberIn (getD w 3 0) ∷ [])
+      ++ map wordOf (map flagOf (from 4 8 w))) (map numberIn (from 12 8 w)) (from 20 64 w)
+      ∙ append-assoc (getD w 0 0 ∷ numberIn (getD w 1 0) ∷ numberIn (getD w 2 0) ∷ numberIn (getD w 3 0) ∷ [])
+      (map wordOf (map flagOf (from 4 8 w))) (map numberIn (from 12 8 w) ++ from 20 64 w)
       ∙ ap (λ (r : List ℕ). (getD w 0 0 ∷ numberIn (getD w 1 0) ∷ numberIn (getD w 2 0) ∷ numberIn (getD w 3 0) ∷ []) ++ r) arrays
       ∙ numbers
 
@@ -106,31 +114,33 @@ pub record Fits (head : Head) : Type 0 where
   pub oldest-low : head .oldest < limit
   pub checkpoint-low : head .checkpoint < limit
   pub tip-low : head .tip < limit
-  pub eight-held : length (head .held) ≡ 8
+  pub eight-taken : length (head .taken) ≡ 8
   pub eight-issued : length (head .issued) ≡ 8
   pub issued-low : belowB limit (head .issued) ≡ true
   pub all-ends : length (head .ends) ≡ 64
 
 module _ (head : Head) (f : Fits head) where
-  flags-long : length (map wordOf (head .held)) ≡ 8
-  flags-long = length-map (head .held) wordOf ∙ f .eight-held
+  flags-long : length (map wordOf (head .taken)) ≡ 8
+  flags-long = length-map (head .taken) wordOf ∙ f .eight-taken
 
-  behind-four : drop 4 (wordsOf head) ≡ map wordOf (head .held) ++ (head .issued ++ head .ends)
-  behind-four = append-assoc (map wordOf (head .held)) (head .issued) (head .ends)
+  behind-four : drop 4 (wordsOf head) ≡ map wordOf (head .taken) ++ (head .issued ++ head .ends)
+  behind-four = append-assoc (map wordOf (head .taken)) (head .issued) (head .ends)
 
-  held-part : from 4 8 (wordsOf head) ≡ map wordOf (head .held)
-  held-part = ap (take 8) behind-four ∙ take-at (map wordOf (head .held)) (head .issued ++ head .ends) 8 flags-long
+  taken-part : from 4 8 (wordsOf head) ≡ map wordOf (head .taken)
+  taken-part = ap (take 8) behind-four ∙ take-at (map wordOf (head .taken)) (head .issued ++ head .ends) 8 flags-long
 
   behind-twelve : drop 12 (wordsOf head) ≡ head .issued ++ head .ends
   behind-twelve =
-      sym (drop-drop 8 4 (wordsOf head)) ∙ ap (drop 8) behind-four ∙ drop-at (map wordOf (head .held)) (head .issued ++ head .ends) 8 flags-long
+      sym (drop-drop 8 4 (wordsOf head)) ∙ ap (drop 8) behind-four
+      ∙ drop-at (map wordOf (head .taken)) (head .issued ++ head .ends) 8 flags-long
 
   issued-part : from 12 8 (wordsOf head) ≡ head .issued
   issued-part = ap (take 8) behind-twelve ∙ take-at (head .issued) (head .ends) 8 (f .eight-issued)
 
   ends-part : from 20 64 (wordsOf head) ≡ head .ends
   ends-part =
-      ap (take 64) (sym (drop-drop 8 12 (wordsOf head)) ∙ ap (drop 8) behind-twelve ∙ drop-at (head .issued) (head .ends) 8 (f .eight-issued))
+      ap (take 64) (sym (drop-drop 8 12 (wordsOf head)) ∙ ap (drop 8) behind-twelve
+      ∙ drop-at (head .issued) (head .ends) 8 (f .eight-issued))
       ∙ take-all 64 (head .ends) (omega (arith, f .all-ends))
 
   pub head-back : headOf (wordsOf head) ≡ head
@@ -141,7 +151,7 @@ module _ (head : Head) (f : Fits head) where
         oldest = number-back (head .oldest) (f .oldest-low) i;
         checkpoint = number-back (head .checkpoint) (f .checkpoint-low) i;
         tip = number-back (head .tip) (f .tip-low) i;
-        held = (ap (map flagOf) held-part ∙ word-flags (head .held)) i;
+        taken = (ap (map flagOf) taken-part ∙ word-flags (head .taken)) i;
         issued = (ap (map numberIn) issued-part ∙ numbers-back (head .issued) (f .issued-low)) i;
         ends = ends-part i;
       }

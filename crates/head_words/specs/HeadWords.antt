@@ -1,4 +1,4 @@
--- The head as a C program lends it: 84 words, which are used, oldest, checkpoint, tip, held (8), issued (8) and ends (64).
+-- The head as a C program lends it: 84 words, which are used, oldest, checkpoint, tip, taken (8), issued (8) and ends (64).
 -- Assumes nothing.
 use mathlib.Core.Bool.{Bool, true, cond, _&&_}
 use mathlib.Core.List.{List, [], _∷_, _++_, map}
@@ -23,7 +23,7 @@ wordOf flag = cond flag 1 0
 abbrev pub numberIn : ℕ → ℕ
 numberIn w = w % limit
 
--- so many words from a place on
+-- so many words from a position on
 abbrev pub from : ℕ → ℕ → List ℕ → List ℕ
 from i n words = take n (drop i words)
 
@@ -35,7 +35,7 @@ headOf words =
       oldest = numberIn (getD words 1 0);
       checkpoint = numberIn (getD words 2 0);
       tip = numberIn (getD words 3 0);
-      held = map flagOf (from 4 8 words);
+      taken = map flagOf (from 4 8 words);
       issued = map numberIn (from 12 8 words);
       ends = from 20 64 words;
     }
@@ -44,7 +44,7 @@ headOf words =
 abbrev pub wordsOf : Head → List ℕ
 wordsOf head =
     (head .used ∷ head .oldest ∷ head .checkpoint ∷ head .tip ∷ [])
-    ++ map wordOf (head .held)
+    ++ map wordOf (head .taken)
     ++ head .issued
     ++ head .ends
 

@@ -91,7 +91,7 @@ pub fn unpack(words: &[u64]) -> Head
         oldest: (words[1] % LIMIT) as u32,
         checkpoint: (words[2] % LIMIT) as u32,
         tip: (words[3] % LIMIT) as u32,
-        held: flags_of(&words[4..12]),
+        taken: flags_of(&words[4..12]),
         issued: numbers_of(&words[12..20]),
         ends: ends_of(&words[20..84]),
     }
@@ -99,7 +99,8 @@ pub fn unpack(words: &[u64]) -> Head
 
 fn put_flags(flags: &[bool], words: &mut [u64], at: usize)
     requires { ⌜ (length (now flags) ≡ 8) × (at + 8 ≤ length (now words)) ⌝ }
-    ensures { λ r. ⌜ now (words .exit) ≡ take at (now (words .entry)) ++ map wordOf (now (flags .entry)) ++ drop (at + 8) (now (words .entry)) ⌝ }
+    ensures { λ r. ⌜ now (words .exit) ≡ take at (now (words .entry)) ++ map wordOf (now (flags .entry))
+        ++ drop (at + 8) (now (words .entry)) ⌝ }
 {
     let mut k: usize = 0;
     while k < 8 {
@@ -154,7 +155,7 @@ pub fn pack(head: Head, words: &mut [u64])
     ensures { λ r. ⌜ now (words .exit) ≡ wordsOf head ⌝ }
 {
     put_first(head.used, head.oldest, head.checkpoint, head.tip, words);
-    put_flags(&head.held, words, 4);
+    put_flags(&head.taken, words, 4);
     put_numbers(&head.issued, words, 12);
     put_ends(&head.ends, words, 20);
 }

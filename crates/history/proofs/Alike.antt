@@ -1,4 +1,4 @@
--- Two runs of the plain list whose accepted calls agree, flushes apart, quote alike: what a run quotes is told by the names of its
+-- Two traces of the plain list whose accepted calls agree, flushes apart, quote alike: what a trace quotes is told by the names of its
 -- accepted calls. They are replayed on a sketch, which has neither checkpoint nor slots' numbers nor lengths.
 -- Assumes nothing.
 use mathlib.Core.Path.{_≡_, refl, sym, ap, ap₂, _∙_}
@@ -15,8 +15,10 @@ use Rattle.answers.specs.declared.call.Query.the-variants.{LookUp, WriteImage}
 use Rattle.answers.specs.declared.call.Read.the-variants.{Issue, Forward, Release}
 use Rattle.answers.specs.declared.call.Step.the-variants.{Commit, RollBack, Flush}
 use Rattle.history.specs.Named.{Named, step, read, ask, Call, calling, Response, done, forwarded, acceptedCalls, quotes}
-use Rattle.history.specs.Plain.{Verdict, accept, refuse, responseBy, leftBy, Line, Place, closed, reading, Plain, mapAt, shown, quoted, offersIn, grown, cutAbove, withPlace, checked, stepped, givenBy, given, changedBy, changed, loadedPlain}
-use Rattle.history.specs.Runs.{plainResponses}
+use Rattle.history.specs.Plain.{Verdict, accept, refuse, responseBy, leftBy, Line, Place, closed, reading, Plain, mapAt}
+use Rattle.history.specs.Plain.{shown, quoted, offersIn, grown, cutAbove, withPlace, checked, stepped, givenBy, given}
+use Rattle.history.specs.Plain.{changedBy, changed, loadedPlain}
+use Rattle.history.specs.Traces.{plainResponses}
 
 -- what quotes are read from: the whole maps, and the offers of each place (none at a closed one)
 record Sketch : Type 0 where
@@ -95,27 +97,30 @@ module _ (calls : List Call) (rest : (q : Plain) → Told q calls (plainResponse
   accepted p (read (Issue reader)) list bytes = after-set p (reader .slot) (reading (p .checkpoint) (map offerOf list))
   accepted p (read (Forward reader state)) list bytes =
       ap₂ _∷_
-      (ap (λ (offers : List ℕ). forwarded (shown (mapAt (p .line) state) offers)) (sym (List·getD-map offersIn (p .places) (reader .slot) closed)))
+      (ap (λ (offers : List ℕ). forwarded (shown (mapAt (p .line) state) offers))
+      (sym (List·getD-map offersIn (p .places) (reader .slot) closed)))
       (after-set p (reader .slot) closed)
   accepted p (read (Release reader)) list bytes = after-set p (reader .slot) closed
   accepted p (ask (LookUp asked)) list bytes = looked p asked list bytes (find (asked .offer) (mapAt (p .line) (asked .state))) refl
   accepted p (ask WriteImage) list bytes = rest p
 
   -- a call by its verdict: a refused one changes nothing and has no name
-  turn : (p : Plain) (c : Call) (v : Verdict) → Told p (c ∷ calls) (responseBy v (given p c) ∷ plainResponses (leftBy v (changed p c) p) calls)
+  transition : (p : Plain) (c : Call) (v : Verdict)
+      → Told p (c ∷ calls) (responseBy v (given p c) ∷ plainResponses (leftBy v (changed p c) p) calls)
   unfolding quotes acceptedCalls
-  turn p c accept = accepted p (c .named) (c .list) (c .bytes)
-  turn p c (refuse n) = rest p
+  transition p c accept = accepted p (c .named) (c .list) (c .bytes)
+  transition p c (refuse n) = rest p
 
--- what a run quotes is told by its sketch and the names of its accepted calls, flushes apart
+-- what a trace quotes is told by its sketch and the names of its accepted calls, flushes apart
 told-by-names : (p : Plain) (calls : List Call) → Told p calls (plainResponses p calls)
 unfolding plainResponses quotes acceptedCalls again
 told-by-names p [] = refl
-told-by-names p (c ∷ calls) = turn calls (λ q. told-by-names q calls) p c (checked p c)
+told-by-names p (c ∷ calls) = transition calls (λ q. told-by-names q calls) p c (checked p c)
 
--- The runs start from the same sketch, whatever the lengths, so they quote the same where the names are.
+-- The traces start from the same sketch, whatever the lengths, so they quote the same where the names are.
 pub plain-alike : (limits₁ limits₂ : Limits) (image : List ℕ) (calls₁ calls₂ : List Call)
-    → acceptedCalls calls₁ (plainResponses (loadedPlain limits₁ image) calls₁) ≡ acceptedCalls calls₂ (plainResponses (loadedPlain limits₂ image) calls₂)
+    → acceptedCalls calls₁ (plainResponses (loadedPlain limits₁ image) calls₁)
+    ≡ acceptedCalls calls₂ (plainResponses (loadedPlain limits₂ image) calls₂)
     → quotes (plainResponses (loadedPlain limits₁ image) calls₁) ≡ quotes (plainResponses (loadedPlain limits₂ image) calls₂)
 plain-alike limits₁ limits₂ image calls₁ calls₂ same =
     told-by-names (loadedPlain limits₁ image) calls₁

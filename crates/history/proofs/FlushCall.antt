@@ -1,4 +1,4 @@
--- Flush: the unit's turn is the plain list's, and a store can follow the plain list that it leaves.
+-- Flush: the unit's transition is the plain list's, and a store can follow the plain list that it leaves.
 -- Assumes nothing.
 use mathlib.Core.Path.{_≡_, refl, ap, ap₂, subst, _∙_}
 use mathlib.Core.Bool.{Bool, true, false}
@@ -16,18 +16,18 @@ use Rattle.views.specs.View.{Store, View, encode, decode, Good, mapAt as viewMa
 use Rattle.views.proofs.States.{map-is}
 use Rattle.views.proofs.Views.{encoded-sound}
 use Rattle.flushes.specs.Flush.{flushCheck}
-use Rattle.steps.specs.StepViews.{flushedView}
+use Rattle.step_views.specs.StepViews.{flushedView}
 use Rattle.flushes.proofs.Flushing.{FlushOk, flush-ok}
-use Rattle.steps.proofs.OnViews.{flush-leaves}
+use Rattle.step_views.proofs.OnViews.{flush-leaves}
 use Rattle.history.specs.Named.{step, calling, done}
-use Rattle.history.specs.Plain.{Ground, met, accept, firstOf, Plain, tipOf, mapAt, checked, withCheckpoint, stateTests, stepTests}
-use Rattle.history.specs.Runs.{storeTurn}
-use Rattle.history.proofs.Stored.{storeOf, verdictOf, verdict-of, accepted-not, accepted-done, turnBy, settle, view-back}
+use Rattle.history.specs.Plain.{Test, met, accept, firstOf, Plain, tipOf, mapAt, checked, withCheckpoint, stateTests, stepTests}
+use Rattle.history.specs.Traces.{storeTransition}
+use Rattle.history.proofs.Stored.{storeOf, verdictOf, verdict-of, accepted-not, accepted-done, transitionBy, settle, view-back}
 use Rattle.history.proofs.Stored.{store-shaped, table-long, past-two, checkpoint-is, tip-is, state-same}
 use Rattle.history.proofs.Views.{viewOf, Fit, view-map, flush-view, floor-later}
 
 -- the last test counts only where those before it are not met
-only-last : (before : List Ground) (c d : Bool) (n : ℕ) → (firstOf before ≡ accept → c ≡ d)
+only-last : (before : List Test) (c d : Bool) (n : ℕ) → (firstOf before ≡ accept → c ≡ d)
     → firstOf (before ++ (met c n ∷ [])) ≡ firstOf (before ++ (met d n ∷ []))
 unfolding firstOf
 only-last [] c d n h = ap (λ (t : Bool). firstOf (met t n ∷ [])) (h refl)
@@ -62,7 +62,7 @@ module _ (p : Plain) (f : Fit p) (state : ℕ) where
   flush-checks =
       ap verdictOf (past-two p f _)
       ∙ verdict-of _
-      ∙ ap (λ (gs : List Ground). firstOf (gs ++ (met (ltb (length T) (length (mapHere T J (s .head) state))) 16 ∷ [])))
+      ∙ ap (λ (gs : List Test). firstOf (gs ++ (met (ltb (length T) (length (mapHere T J (s .head) state))) 16 ∷ [])))
       (state-same p f state)
       ∙ only-last (stateTests p state) _ _ 16
       (λ a. let w = within p state a in ap₂ (λ (n : ℕ) (m : List ℕ). ltb n (length m)) (table-long p f) (map-same (w .0) (w .1)))
@@ -94,7 +94,7 @@ module _ (p : Plain) (f : Fit p) (state : ℕ) where
         }
 
   pub flush-agrees : (list bytes : List ℕ)
-      → let call = calling (step (Flush state)) list bytes in storeTurn s call list ≡ turnBy p call (checked p call)
+      → let call = calling (step (Flush state)) list bytes in storeTransition s call list ≡ transitionBy p call (checked p call)
   flush-agrees list bytes =
       settle p (calling (step (Flush state)) list bytes) list flush-checks
       (λ e i. record { response = done; next = (flush-leaves T J (s .head) (store-shaped p f) state e .is ∙ ap encode (view-flushed e)) i })

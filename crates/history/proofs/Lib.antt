@@ -6,5 +6,5 @@ pub mod StepCalls
 pub mod ReadCalls
 pub mod Stored
 pub mod Theorem
-pub mod Tickets
+pub mod Outstanding
 pub mod Views

@@ -6,7 +6,8 @@ use Prim.Native.Nat.{ℕ, zero, suc, _+_, _-_, _≤_, _<_}
 use native.Mathlib.Decide.{ℕ-discrete}
 use native.Mathlib.Omega.{arith}
 use lib.ListN.{length, getD, take, drop, length-append, length-drop, take-append-drop, List·getD-append}
-use lib.Seq.{take-all, take-suc, take-add, take-take, take-append-le, drop-append-le, drop-drop, drop-at, getD-at, getD-take, getD-drop, length-take-le}
+use lib.Seq.{take-all, take-suc, take-add, take-take, take-append-le, drop-append-le, drop-drop, drop-at, getD-at, getD-take}
+use lib.Seq.{getD-drop, length-take-le}
 use Rattle.changes.specs.Calculus.{apply, compose, composeAll}
 use Rattle.changes.specs.Lists.{All, Changes, Map}
 use Rattle.changes.proofs.Applying.{compose-all-nil, compose-all-one}
@@ -33,10 +34,12 @@ module _ {l : Line} (w : Whole l) where
   map-here zero h = w .first
   map-here (suc k) h =
       subst Map (sym (w .next k (omega arith)))
-      (apply-map (getD (l .maps) k []) (getD (l .lists) k []) (map-here k (omega arith) .rises) (list-changes _ (all-at IsList (l .lists) [] k (w .lists) (omega arith)) .rises))
+      (apply-map (getD (l .maps) k []) (getD (l .lists) k []) (map-here k (omega arith) .rises)
+      (list-changes _ (all-at IsList (l .lists) [] k (w .lists) (omega arith)) .rises))
 
   -- applying the lists from one map on gives the later map
-  carried-on : (k n : ℕ) → k + n ≤ length (l .lists) → apply (getD (l .maps) k []) (composeAll (take n (drop k (l .lists)))) ≡ getD (l .maps) (k + n) []
+  carried-on : (k n : ℕ) → k + n ≤ length (l .lists)
+      → apply (getD (l .maps) k []) (composeAll (take n (drop k (l .lists)))) ≡ getD (l .maps) (k + n) []
   carried-on k zero h =
       let same : k ≡ k + 0 = omega arith in
       ap (apply (getD (l .maps) k [])) compose-all-nil
@@ -51,7 +54,10 @@ module _ {l : Line} (w : Whole l) where
       ap (λ (ds : List (List ℕ)). apply m (composeAll ds)) (take-suc (drop k (l .lists)) n [] inside)
       ∙ ap (λ (d : List ℕ). apply m (composeAll (before ++ (d ∷ [])))) (getD-drop k (l .lists) n [])
       ∙ ap (apply m) (run-split before (step ∷ []) ∙ ap (compose (composeAll before)) (compose-all-one step))
-      ∙ sym (apply-twice m (composeAll before) step (map-here k (omega arith) .rises) (run-changes before (all-changes before (all-take IsList n (drop k (l .lists)) (all-drop IsList k (l .lists) (w .lists)))) .rises) (list-changes step (all-at IsList (l .lists) [] (k + n) (w .lists) (omega arith)) .rises))
+      ∙ sym (apply-twice m (composeAll before) step (map-here k (omega arith) .rises)
+      (run-changes before (all-changes before
+      (all-take IsList n (drop k (l .lists)) (all-drop IsList k (l .lists) (w .lists)))) .rises)
+      (list-changes step (all-at IsList (l .lists) [] (k + n) (w .lists) (omega arith)) .rises))
       ∙ ap (λ (x : List ℕ). apply x step) (carried-on k n (omega arith))
       ∙ sym (w .next (k + n) (omega arith))
       ∙ ap (λ (i : ℕ). getD (l .maps) i []) same
@@ -128,7 +134,8 @@ module _ (l : Line) (w : Whole l) (list : List ℕ) where
   last-map : getD (grown l list .maps) (suc (length (l .lists))) [] ≡ apply (mapAt l (tipOf l)) list
   last-map = getD-at (l .maps) (apply (mapAt l (tipOf l)) list) [] [] (suc (length (l .lists))) (w .count)
 
-  next-last : getD (grown l list .maps) (suc (length (l .lists))) [] ≡ apply (getD (grown l list .maps) (length (l .lists)) []) (getD (grown l list .lists) (length (l .lists)) [])
+  next-last : getD (grown l list .maps) (suc (length (l .lists))) []
+      ≡ apply (getD (grown l list .maps) (length (l .lists)) []) (getD (grown l list .lists) (length (l .lists)) [])
   next-last =
       let at-tip : tipOf l - l .start ≡ length (l .lists) = omega arith in
       last-map
@@ -136,7 +143,8 @@ module _ (l : Line) (w : Whole l) (list : List ℕ) where
       (ap (λ (i : ℕ). getD (l .maps) i []) at-tip ∙ sym (List·getD-append (l .maps) _ [] (length (l .lists)) (omega (arith, w .count))))
       (sym (getD-at (l .lists) list [] [] (length (l .lists)) refl))
 
-  next-before : (k : ℕ) → k < length (l .lists) → getD (grown l list .maps) (suc k) [] ≡ apply (getD (grown l list .maps) k []) (getD (grown l list .lists) k [])
+  next-before : (k : ℕ) → k < length (l .lists) → getD (grown l list .maps) (suc k) []
+      ≡ apply (getD (grown l list .maps) k []) (getD (grown l list .lists) k [])
   next-before k h =
       List·getD-append (l .maps) _ [] (suc k) (omega (arith, w .count))
       ∙ w .next k h
@@ -144,11 +152,15 @@ module _ (l : Line) (w : Whole l) (list : List ℕ) where
       (sym (List·getD-append (l .maps) _ [] k (omega (arith, w .count))))
       (sym (List·getD-append (l .lists) _ [] k h))
 
-  next-grown : (k : ℕ) → k < length (grown l list .lists) → getD (grown l list .maps) (suc k) [] ≡ apply (getD (grown l list .maps) k []) (getD (grown l list .lists) k [])
+  next-grown : (k : ℕ) → k < length (grown l list .lists) → getD (grown l list .maps) (suc k) []
+      ≡ apply (getD (grown l list .maps) k []) (getD (grown l list .lists) k [])
   next-grown k h = go (ℕ-discrete k (length (l .lists)))
     where
-      go : Dec (k ≡ length (l .lists)) → getD (grown l list .maps) (suc k) [] ≡ apply (getD (grown l list .maps) k []) (getD (grown l list .lists) k [])
-      go (yes e) = subst (λ (i : ℕ). getD (grown l list .maps) (suc i) [] ≡ apply (getD (grown l list .maps) i []) (getD (grown l list .lists) i [])) (sym e) next-last
+      go : Dec (k ≡ length (l .lists)) → getD (grown l list .maps) (suc k) []
+          ≡ apply (getD (grown l list .maps) k []) (getD (grown l list .lists) k [])
+      go (yes e) =
+          subst (λ (i : ℕ). getD (grown l list .maps) (suc i) []
+          ≡ apply (getD (grown l list .maps) i []) (getD (grown l list .lists) i [])) (sym e) next-last
       go (no n) = next-before k (omega (arith, n, h, length-append (l .lists) (list ∷ [])))
 
   pub grown-whole : IsList list → Whole (grown l list)

@@ -21,17 +21,17 @@ use Rattle.image.proofs.Words.{words-in-length}
 use Rattle.layout.specs.Clauses.{lengthsB}
 use Rattle.views.specs.View.{Store, viewTable, encode, Good}
 use Rattle.layout.proofs.Holds.{first-holds, all-none}
-use Rattle.snapshot.specs.Calls.{loadCheck}
+use Rattle.snapshot.specs.Snapshots.{loadCheck}
 use Rattle.snapshot.specs.FreshView.{freshView}
-use Rattle.snapshot.proofs.Accepted.{load-ok}
+use Rattle.snapshot.proofs.ImagesAccepted.{load-ok}
 use Rattle.snapshot.proofs.OnViews.{load-leaves}
 use Rattle.history.specs.Condition3.{InRange}
 use Rattle.history.specs.Plain.{met, closed, firstOf, leastOf, Line, listsBetween, loadChecked, loadedPlain}
-use Rattle.history.specs.Runs.{nothing, lentWith, storeIn, lengthsOf}
+use Rattle.history.specs.Traces.{nothing, lentWith, storeIn, lengthsOf}
 use Rattle.calls.specs.Lent.{Left}
 use Rattle.calls.specs.Meaning.{resetOf}
 use Rattle.history.proofs.Stored.{storeOf, verdictOf, verdict-of}
-use Rattle.history.proofs.Tickets.{Ticketed, Tickets, of-closed}
+use Rattle.history.proofs.Outstanding.{Kept, Outstanding, of-closed}
 use Rattle.history.proofs.Views.{viewOf, Fit}
 
 between-none : (l : Line) (a b : ℕ) → l .lists ≡ [] → listsBetween l a b ≡ []
@@ -106,13 +106,13 @@ closed-at zero slot = refl
 closed-at (suc n) zero = refl
 closed-at (suc n) (suc slot) = closed-at n slot
 
-pub no-tickets : (lent : Store) (image : List ℕ) → Tickets (loadedPlain (lengthsOf lent) image) (replicate 8 nothing)
-no-tickets lent image =
+pub no-sets : (lent : Store) (image : List ℕ) → Outstanding (loadedPlain (lengthsOf lent) image) (replicate 8 nothing)
+no-sets lent image =
     let l = loadedPlain (lengthsOf lent) image .line in
     let c = numberIn image in
     record {
       eight = refl;
       each = λ slot.
           let x = getD (replicate 8 nothing) slot nothing in
-          subst (Ticketed l c x) (sym (closed-at 8 slot)) (of-closed l c x);
+          subst (Kept l c x) (sym (closed-at 8 slot)) (of-closed l c x);
     }

@@ -1,4 +1,4 @@
--- Lookup, issue, forward, release and the writing of an image: the unit's turn is the plain list's, and a store can follow the plain
+-- Lookup, issue, forward, release and the writing of an image: the unit's transition is the plain list's, and a store can follow the plain
 -- list that it leaves.
 -- Assumes nothing.
 use mathlib.Core.Path.{_≡_, refl, sym, ap, ap₂, subst, _∙_}
@@ -28,26 +28,27 @@ use Rattle.image.specs.Image.{imageOf}
 use Rattle.image.proofs.RoundTrip.{image-length}
 use Rattle.layout.specs.States.{mapHere}
 use Rattle.views.specs.Trim.{trimmed}
-use Rattle.views.specs.View.{Store, View, closed as shutSlot, holding, issuedOf, encode, decode, Good, mapAt as viewMapAt}
+use Rattle.views.specs.View.{Store, View, closed as closedSlot, holding, issuedOf, encode, decode, Good, mapAt as viewMapAt}
 use Rattle.forwards.specs.Forward.{forwardCheck, stepsFor}
 use Rattle.issues.specs.Issue.{issueCheck}
 use Rattle.lookups.specs.LookUp.{lookUpCheck, quoteOf}
-use Rattle.reads.specs.OnView.{withSlot, between}
+use Rattle.read_views.specs.OnView.{withSlot, between}
 use Rattle.releases.specs.Release.{releaseCheck}
-use Rattle.lookups.proofs.Accepted.{look-up-ok}
-use Rattle.issues.proofs.Accepted.{issue-ok}
-use Rattle.forwards.proofs.Accepted.{ForwardOk, forward-ok}
-use Rattle.reads.proofs.ClosingViews.{release-leaves, forward-leaves, forward-shows}
-use Rattle.reads.proofs.OnViews.{look-up-shows, issue-leaves, issue-shows}
-use Rattle.snapshot.specs.Calls.{writeCheck, imageHere}
-use Rattle.history.specs.Named.{read, ask, calling, Response, responseTo, Turn, done, filled, forwarded, written}
-use Rattle.history.specs.Runs.{storeTurn}
-use Rattle.history.specs.Plain.{Ground, met, accept, firstOf, Line, Place, closed, reading, Plain, tipOf}
+use Rattle.lookups.proofs.LookUpAccepted.{look-up-ok}
+use Rattle.issues.proofs.IssueAccepted.{issue-ok}
+use Rattle.forwards.proofs.ForwardAccepted.{ForwardOk, forward-ok}
+use Rattle.read_views.proofs.ClosingViews.{release-leaves, forward-leaves, forward-shows}
+use Rattle.read_views.proofs.OnViews.{look-up-shows, issue-leaves, issue-shows}
+use Rattle.snapshot.specs.Snapshots.{writeCheck, imageHere}
+use Rattle.history.specs.Named.{read, ask, calling, Response, responseTo, Transition, done, filled, forwarded, written}
+use Rattle.history.specs.Traces.{storeTransition}
+use Rattle.history.specs.Plain.{Test, met, accept, firstOf, Line, Place, closed, reading, Plain, tipOf}
 use Rattle.history.specs.Plain.{mapAt, floorOf, listsBetween, shown, quoted, openB, openAt, offersIn}
 use Rattle.history.specs.Plain.{offersAt, imageAt, slotTests, stateTests, readTests, queryTests, checked, withPlace}
 use Rattle.history.proofs.Lines.{Whole, map-at, carried, between-changes, between-same, between-join}
-use Rattle.history.proofs.Views.{viewOf, Fit, slotOf, place-range, view-map, view-between, issue-view, close-view, floor-same, floor-up}
-use Rattle.history.proofs.Stored.{storeOf, verdictOf, verdict-of, accepted-done, turnBy, settle, view-back}
+use Rattle.history.proofs.Views.{viewOf, Fit, slotOf, place-range, view-map, view-between, issue-view, close-view}
+use Rattle.history.proofs.Views.{floor-same, floor-up}
+use Rattle.history.proofs.Stored.{storeOf, verdictOf, verdict-of, accepted-done, transitionBy, settle, view-back}
 use Rattle.history.proofs.Stored.{store-shaped, past-two, checkpoint-is, tip-is, state-same, open-same}
 
 -- a read set shows the offers of a list's words
@@ -112,11 +113,13 @@ module _ {l : Line} {c n : ℕ} {offers words : List ℕ} (t : Shows l c n offer
 read-list : (m list : List ℕ) → Map m → listB list ≡ true → listB (readOf m list) ≡ true
 read-list m list h e =
     let fact = list-facts list e in
-    let long : length (readOf m list) ≡ length list = ap length (read-shown m list) ∙ length-map (map offerOf list) _ ∙ length-map list offerOf in
-    ap₂ _&&_ (le-leb (length (readOf m list)) 64 (omega (arith, long, fact .0))) (changes-test (readOf m list) (read-changes m list h (fact .1)))
+    let long : length (readOf m list) ≡ length list = ap length (read-shown m list) ∙ length-map (map offerOf list) _
+    ∙ length-map list offerOf in
+    ap₂ _&&_ (le-leb (length (readOf m list)) 64 (omega (arith, long, fact .0)))
+    (changes-test (readOf m list) (read-changes m list h (fact .1)))
 
 -- "nor 6 at a forward": a test that is not met where the one before it is not, among others
-no-six : (before : List Ground) (b c : Bool) (gs : List Ground) → (b ≡ true → c ≡ true)
+no-six : (before : List Test) (b c : Bool) (gs : List Test) → (b ≡ true → c ≡ true)
     → firstOf (before ++ (met (not b) 5 ∷ met (not c) 6 ∷ gs)) ≡ firstOf (before ++ (met (not b) 5 ∷ gs))
 unfolding firstOf
 no-six [] false c gs h = refl
@@ -124,7 +127,8 @@ no-six [] true c gs h = rw (h refl)
 no-six (met true n ∷ before) b c gs h = refl
 no-six (met false n ∷ before) b c gs h = no-six before b c gs h
 
-quote-same : (asked : Asked) (found : Found) (words bytes : List ℕ) → responseTo (ask (LookUp asked)) (saidBy (quoteOf found)) words bytes ≡ quoted found
+quote-same : (asked : Asked) (found : Found) (words bytes : List ℕ)
+    → responseTo (ask (LookUp asked)) (saidBy (quoteOf found)) words bytes ≡ quoted found
 quote-same asked (Word w) words bytes = refl
 quote-same asked Nothing words bytes = refl
 
@@ -144,7 +148,7 @@ module _ (p : Plain) (f : Fit p) where
     look-up-checks =
         ap verdictOf (past-two p f _)
         ∙ verdict-of _
-        ∙ ap (λ (gs : List Ground). firstOf (met (leb (2 ^ 31) (asked .offer)) 6 ∷ gs)) (state-same p f (asked .state))
+        ∙ ap (λ (gs : List Test). firstOf (met (leb (2 ^ 31) (asked .offer)) 6 ∷ gs)) (state-same p f (asked .state))
 
     map-there : lookUpCheck T J (s .head) asked ≡ Passed → mapHere T J (s .head) (asked .state) ≡ mapAt (p .line) (asked .state)
     map-there e =
@@ -154,11 +158,11 @@ module _ (p : Plain) (f : Fit p) where
         ∙ view-map p f (asked .state) (omega (arith, checkpoint-is p f, ok .low)) (omega (arith, tip-is p f, ok .high))
 
     pub look-up-agrees : (list bytes : List ℕ)
-        → let call = calling (ask (LookUp asked)) list bytes in storeTurn s call list ≡ turnBy p call (checked p call)
+        → let call = calling (ask (LookUp asked)) list bytes in storeTransition s call list ≡ transitionBy p call (checked p call)
     look-up-agrees list bytes =
         settle p (calling (ask (LookUp asked)) list bytes) list look-up-checks
         (λ e.
-        let respond : Response → Turn Store = λ r. record { response = r; next = s } in
+        let respond : Response → Transition Store = λ r. record { response = r; next = s } in
         let named = ask (LookUp asked) in
         ap (λ (m : List ℕ). respond (responseTo named (saidBy (quoteOf (find (asked .offer) m))) list bytes)) (map-there e)
         ∙ ap respond (quote-same asked (find (asked .offer) (mapAt (p .line) (asked .state))) list bytes))
@@ -179,7 +183,8 @@ module _ (p : Plain) (f : Fit p) where
       free : openAt p slot ≡ false
       free = sym (open-same p f slot) ∙ issue-ok T J (s .head) reader list e .free
 
-      view-opened : withSlot (decode s) slot (holding (s .head .checkpoint)) ≡ viewOf (withPlace p slot (reading (p .checkpoint) (map offerOf list)))
+      view-opened : withSlot (decode s) slot (holding (s .head .checkpoint))
+          ≡ viewOf (withPlace p slot (reading (p .checkpoint) (map offerOf list)))
       view-opened =
           ap₂ (λ (v : View) (n : ℕ). withSlot v slot (holding n)) (view-back p f) (checkpoint-is p f)
           ∙ issue-view p f slot (map offerOf list) free
@@ -203,7 +208,7 @@ module _ (p : Plain) (f : Fit p) where
           }
 
     pub issue-agrees : (bytes : List ℕ)
-        → let call = calling (read (Issue reader)) list bytes in storeTurn s call list ≡ turnBy p call (checked p call)
+        → let call = calling (read (Issue reader)) list bytes in storeTransition s call list ≡ transitionBy p call (checked p call)
     issue-agrees bytes =
         settle p (calling (read (Issue reader)) list bytes) list issue-checks
         (λ e i. record {
@@ -215,9 +220,9 @@ module _ (p : Plain) (f : Fit p) where
     issue-fit e = issue-fits (accepted-done _ (issue-checks ∙ e))
 
     -- what the issue filled shows the map at the checkpoint, with no list to bring it there
-    pub issue-ticket : firstOf (readTests p (Issue reader) list) ≡ accept
+    pub issue-set : firstOf (readTests p (Issue reader) list) ≡ accept
         → Shows (p .line) (p .checkpoint) (p .checkpoint) (map offerOf list) (shown (mapAt (p .line) (p .checkpoint)) (map offerOf list))
-    issue-ticket e =
+    issue-set e =
         let l = p .line in
         let c = p .checkpoint in
         let words = shown (mapAt l c) (map offerOf list) in
@@ -239,10 +244,10 @@ module _ (p : Plain) (f : Fit p) where
 
   -- a slot that closes
   module _ (slot : ℕ) where
-    view-closed : trimmed (withSlot (decode s) slot shutSlot) ≡ viewOf (withPlace p slot closed)
-    view-closed = ap (λ (v : View). trimmed (withSlot v slot shutSlot)) (view-back p f) ∙ close-view p f slot
+    view-closed : trimmed (withSlot (decode s) slot closedSlot) ≡ viewOf (withPlace p slot closed)
+    view-closed = ap (λ (v : View). trimmed (withSlot v slot closedSlot)) (view-back p f) ∙ close-view p f slot
 
-    closed-fits : Good (trimmed (withSlot (decode s) slot shutSlot)) → Fit (withPlace p slot closed)
+    closed-fits : Good (trimmed (withSlot (decode s) slot closedSlot)) → Fit (withPlace p slot closed)
     closed-fits g =
         record {
           range = f .range;
@@ -261,7 +266,7 @@ module _ (p : Plain) (f : Fit p) where
         ∙ ap (λ (b : Bool). firstOf (slotTests reader ++ (met (not b) 5 ∷ []))) (open-same p f (reader .slot))
 
     pub release-agrees : (list bytes : List ℕ)
-        → let call = calling (read (Release reader)) list bytes in storeTurn s call list ≡ turnBy p call (checked p call)
+        → let call = calling (read (Release reader)) list bytes in storeTransition s call list ≡ transitionBy p call (checked p call)
     release-agrees list bytes =
         settle p (calling (read (Release reader)) list bytes) list release-checks
         (λ e i. record {
@@ -270,7 +275,8 @@ module _ (p : Plain) (f : Fit p) where
         })
 
     pub release-fit : firstOf (readTests p (Release reader) []) ≡ accept → Fit (withPlace p (reader .slot) closed)
-    release-fit e = closed-fits (reader .slot) (release-leaves T J (s .head) (store-shaped p f) reader (accepted-done _ (release-checks ∙ e)) .good)
+    release-fit e =
+        closed-fits (reader .slot) (release-leaves T J (s .head) (store-shaped p f) reader (accepted-done _ (release-checks ∙ e)) .good)
 
   -- the number of an open slot, in the plain list and in the head
   module _ (slot n : ℕ) (offers : List ℕ) (e : getD (p .places) slot closed ≡ reading n offers) where
@@ -281,7 +287,7 @@ module _ (p : Plain) (f : Fit p) where
     number-is : getD (s .head .issued) slot 0 ≡ n
     unfolding encode viewOf
     number-is =
-        List·getD-map issuedOf (map slotOf (p .places)) slot shutSlot
+        List·getD-map issuedOf (map slotOf (p .places)) slot closedSlot
         ∙ ap issuedOf (List·getD-map slotOf (p .places) slot closed)
         ∙ ap (λ (x : Place). issuedOf (slotOf x)) e
 
@@ -299,16 +305,16 @@ module _ (p : Plain) (f : Fit p) where
         ∙ ap (shown (mapAt l state)) (sym (t .offers-are))
 
   -- forward, of what the slot's issue filled
-  module _ (reader : Reader) (state : ℕ) (words : List ℕ) (ticket : ShowsAt p (reader .slot) words) where
+  module _ (reader : Reader) (state : ℕ) (words : List ℕ) (shows : ShowsAt p (reader .slot) words) where
     ready : (x : Place) → getD (p .places) (reader .slot) closed ≡ x → openB x ≡ true → listB words ≡ true
     ready closed e o = absurd (let z : _≡_ {A = ℕ} 0 1 = cc in omega arith)
-    ready (reading n offers) e o = ticket n offers e .words-list
+    ready (reading n offers) e o = shows n offers e .words-list
 
     forward-checks : verdictOf (forwardCheck T J (s .head) reader state words) ≡ firstOf (readTests p (Forward reader state) [])
     forward-checks =
         ap verdictOf (past-two p f _)
         ∙ verdict-of _
-        ∙ ap₂ (λ (b : Bool) (gs : List Ground). firstOf (slotTests reader ++ (met (not b) 5 ∷ met (not (listB words)) 6 ∷ gs)))
+        ∙ ap₂ (λ (b : Bool) (gs : List Test). firstOf (slotTests reader ++ (met (not b) 5 ∷ met (not (listB words)) 6 ∷ gs)))
         (open-same p f (reader .slot)) (state-same p f state)
         ∙ no-six (slotTests reader) (openAt p (reader .slot)) (listB words) (stateTests p state)
         (ready (getD (p .places) (reader .slot) closed) refl)
@@ -324,7 +330,7 @@ module _ (p : Plain) (f : Fit p) where
       reads-by (reading n offers) h o =
           forward-shows T J (s .head) (store-shaped p f) reader state words e
           ∙ ap₂ (λ (v : View) (k : ℕ). over words (composeAll (between v k state))) (view-back p f) (number-is (reader .slot) n offers h)
-          ∙ brought (reader .slot) n offers h words (ticket n offers h) state
+          ∙ brought (reader .slot) n offers h words (shows n offers h) state
           (omega (arith, checkpoint-is p f, forward-met .low)) (omega (arith, tip-is p f, forward-met .high))
 
       reads-are : over words (composeAll (stepsFor J (s .head) reader state)) ≡ shown (mapAt (p .line) state) (offersAt p (reader .slot))
@@ -332,7 +338,7 @@ module _ (p : Plain) (f : Fit p) where
           reads-by (getD (p .places) (reader .slot) closed) refl (sym (open-same p f (reader .slot)) ∙ forward-met .taken)
 
     pub forward-agrees : (list bytes : List ℕ)
-        → let call = calling (read (Forward reader state)) list bytes in storeTurn s call words ≡ turnBy p call (checked p call)
+        → let call = calling (read (Forward reader state)) list bytes in storeTransition s call words ≡ transitionBy p call (checked p call)
     forward-agrees list bytes =
         settle p (calling (read (Forward reader state)) list bytes) words forward-checks
         (λ e i. record {
@@ -358,7 +364,8 @@ module _ (p : Plain) (f : Fit p) where
     write-checks : verdictOf (writeCheck T J (s .head) (length out)) ≡ firstOf (queryTests p WriteImage out)
     write-checks = ap verdictOf (past-two p f _) ∙ verdict-of _ ∙ ap (λ (n : ℕ). firstOf (met (ltb (length out) n) 17 ∷ [])) size-is
 
-    pub write-agrees : (list : List ℕ) → let call = calling (ask WriteImage) list out in storeTurn s call list ≡ turnBy p call (checked p call)
+    pub write-agrees : (list : List ℕ) → let call = calling (ask WriteImage) list out in storeTransition s call list
+        ≡ transitionBy p call (checked p call)
     write-agrees list =
         settle p (calling (ask WriteImage) list out) list write-checks
         (λ e i. record { response = written (size-is i) (image-is i ++ drop (size-is i) out); next = s })

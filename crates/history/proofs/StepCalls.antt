@@ -1,4 +1,4 @@
--- Commit and rollback: the unit's turn is the plain list's, and a store can follow the plain list that it leaves.
+-- Commit and rollback: the unit's transition is the plain list's, and a store can follow the plain list that it leaves.
 -- Assumes nothing.
 use mathlib.Core.Path.{_≡_, ap, subst, _∙_}
 use mathlib.Core.Bool.{not}
@@ -13,16 +13,16 @@ use Rattle.answers.specs.declared.call.Step.the-variants.{Commit, RollBack}
 use Rattle.views.specs.View.{Store, View, encode, decode, Good}
 use Rattle.commits.specs.Commit.{commitCheck}
 use Rattle.rollbacks.specs.RollBack.{rollCheck}
-use Rattle.steps.specs.StepViews.{commitView, rollView}
-use Rattle.commits.proofs.Accepted.{commit-ok}
-use Rattle.rollbacks.proofs.Accepted.{RollOk, roll-ok}
-use Rattle.steps.proofs.OnViews.{commit-leaves, roll-leaves}
+use Rattle.step_views.specs.StepViews.{commitView, rollView}
+use Rattle.commits.proofs.CommitAccepted.{commit-ok}
+use Rattle.rollbacks.proofs.RollBackAccepted.{RollOk, roll-ok}
+use Rattle.step_views.proofs.OnViews.{commit-leaves, roll-leaves}
 use Rattle.history.specs.Named.{step, calling, done}
 use Rattle.history.specs.Plain.{met, accept, firstOf, Plain, tipOf, stateTests, stepTests, checked, withLine, grown, cutAbove}
-use Rattle.history.specs.Runs.{storeTurn}
+use Rattle.history.specs.Traces.{storeTransition}
 use Rattle.history.proofs.Lines.{grown-tip, grown-whole, cut-tip, cut-whole}
 use Rattle.history.proofs.Views.{viewOf, Fit, floor-most, commit-view, roll-view}
-use Rattle.history.proofs.Stored.{storeOf, verdictOf, verdict-of, accepted-done, turnBy, settle, view-back, store-shaped}
+use Rattle.history.proofs.Stored.{storeOf, verdictOf, verdict-of, accepted-done, transitionBy, settle, view-back, store-shaped}
 use Rattle.history.proofs.Stored.{journal-long, past-two, checkpoint-is, tip-is, state-same, held-same, used-same}
 
 module _ (p : Plain) (f : Fit p) where
@@ -52,7 +52,8 @@ module _ (p : Plain) (f : Fit p) where
     view-committed : commitView (decode s) list ≡ viewOf (withLine p (grown (p .line) list))
     view-committed = ap (λ (v : View). commitView v list) (view-back p f) ∙ commit-view p f list
 
-    pub commit-agrees : (bytes : List ℕ) → let call = calling (step Commit) list bytes in storeTurn s call list ≡ turnBy p call (checked p call)
+    pub commit-agrees : (bytes : List ℕ) → let call = calling (step Commit) list bytes in storeTransition s call list
+        ≡ transitionBy p call (checked p call)
     commit-agrees bytes =
         settle p (calling (step Commit) list bytes) list commit-checks
         (λ e i. record { response = done; next = (commit-leaves T J (s .head) (store-shaped p f) list e .is ∙ ap encode view-committed) i })
@@ -100,7 +101,7 @@ module _ (p : Plain) (f : Fit p) where
           }
 
     pub roll-agrees : (list bytes : List ℕ)
-        → let call = calling (step (RollBack state)) list bytes in storeTurn s call list ≡ turnBy p call (checked p call)
+        → let call = calling (step (RollBack state)) list bytes in storeTransition s call list ≡ transitionBy p call (checked p call)
     roll-agrees list bytes =
         settle p (calling (step (RollBack state)) list bytes) list roll-checks
         (λ e i. record { response = done; next = (roll-leaves T J (s .head) (store-shaped p f) state e .is ∙ ap encode (view-rolled e)) i })

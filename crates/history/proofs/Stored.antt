@@ -9,9 +9,9 @@ use lib.Dec.{ltb}
 use lib.ListN.{length, getD}
 use Rattle.answers.specs.declared.answer.Check.{Check}
 use Rattle.answers.specs.declared.answer.Check.the-variants.{Passed, Refused}
-use Rattle.answers.specs.declared.refusal.Refusal.the-variants.{Lengths, Unsound}
+use Rattle.answers.specs.declared.ground.Ground.the-variants.{Lengths, Unsound}
 use Rattle.answers.specs.Answers.{answered}
-use Rattle.answers.specs.First.{Ground, met, first, ifPassed}
+use Rattle.answers.specs.First.{Test, met, first, ifPassed}
 use Rattle.answers.specs.Numbers.{numberOf}
 use Rattle.answers.proofs.Firsts.{first-not}
 use Rattle.layout.specs.Clauses.{lengthsB}
@@ -21,13 +21,13 @@ use Rattle.views.specs.View.{Store, View, flat, encode, decode, Shaped}
 use Rattle.soundness.proofs.Sounds.{facts-sound}
 use Rattle.views.proofs.Views.{encoded-shaped, encoded-sound, decoded}
 use Rattle.commits.specs.Commit.{usedOf}
-use Rattle.steps.proofs.CommitViews.{held-is, used-is}
+use Rattle.step_views.proofs.CommitViews.{held-is, used-is}
 use Rattle.calls.specs.Lent.{Left, Meaning}
 use Rattle.calls.specs.Meaning.{meaning}
-use Rattle.history.specs.Named.{unitCall, Call, Turn}
-use Rattle.history.specs.Plain.{Ground as Test, met as asked, Verdict, accept, refuse, firstOf, responseBy, leftBy}
+use Rattle.history.specs.Named.{unitCall, Call, Transition}
+use Rattle.history.specs.Plain.{Test as PlainTest, met as asked, Verdict, accept, refuse, firstOf, responseBy, leftBy}
 use Rattle.history.specs.Plain.{Plain, tipOf, heldLists, openAt, stateTests, checked, given, changed}
-use Rattle.history.specs.Runs.{lentWith, turnOf, storeTurn}
+use Rattle.history.specs.Traces.{lentWith, transitionOf, storeTransition}
 use Rattle.history.proofs.Lines.{between-length}
 use Rattle.history.proofs.Views.{viewOf, Fit, floor-most, open-at, held-lists}
 
@@ -57,8 +57,9 @@ module _ (p : Plain) (f : Fit p) where
   sound = facts-sound (storeOf p .table) (storeOf p .journal) (storeOf p .head) (encoded-sound (viewOf p) (f .good))
 
   -- "In the named calls 1 and 2 don't arise"
-  pub past-two : (gs : List Ground)
-      → first (met (not (lengthsB (length (storeOf p .table)) (length (storeOf p .journal)))) Lengths ∷ met (not (soundB (storeOf p .table) (storeOf p .journal) (storeOf p .head))) Unsound ∷ gs) ≡ first gs
+  pub past-two : (gs : List Test)
+      → first (met (not (lengthsB (length (storeOf p .table)) (length (storeOf p .journal)))) Lengths
+      ∷ met (not (soundB (storeOf p .table) (storeOf p .journal) (storeOf p .head))) Unsound ∷ gs) ≡ first gs
   past-two gs = first-not _ _ _ (ap not in-range) ∙ first-not _ _ _ (ap not sound)
 
   pub checkpoint-is : storeOf p .head .checkpoint ≡ p .checkpoint
@@ -83,7 +84,7 @@ module _ (p : Plain) (f : Fit p) where
   pub used-same : usedOf (storeOf p .head) ≡ length (flat (heldLists p))
   used-same = used-is (viewOf p) (f .good) ∙ ap (λ (ds : List (List ℕ)). length (flat ds)) (held-lists p f)
 
-  pub open-same : (slot : ℕ) → getD (storeOf p .head .held) slot false ≡ openAt p slot
+  pub open-same : (slot : ℕ) → getD (storeOf p .head .taken) slot false ≡ openAt p slot
   unfolding encode viewOf
   open-same slot = open-at p slot
 
@@ -92,17 +93,17 @@ abbrev pub verdictOf : Check → Verdict
 verdictOf Passed = accept
 verdictOf (Refused ground) = refuse (numberOf ground)
 
-abbrev numbered : Ground → Test
+abbrev numbered : Test → PlainTest
 numbered (met b r) = asked b (numberOf r)
 
-pub verdict-of : (gs : List Ground) → verdictOf (first gs) ≡ firstOf (map numbered gs)
+pub verdict-of : (gs : List Test) → verdictOf (first gs) ≡ firstOf (map numbered gs)
 unfolding first firstOf
 verdict-of [] = refl
 verdict-of (met true r ∷ gs) = refl
 verdict-of (met false r ∷ gs) = verdict-of gs
 
 -- an accepted call meets none of the plain list's tests
-pub accepted-not : (t : Bool) (n : ℕ) (gs : List Test) → firstOf (asked t n ∷ gs) ≡ accept → (t ≡ false) × (firstOf gs ≡ accept)
+pub accepted-not : (t : Bool) (n : ℕ) (gs : List PlainTest) → firstOf (asked t n ∷ gs) ≡ accept → (t ≡ false) × (firstOf gs ≡ accept)
 unfolding firstOf
 accepted-not true n gs e = absurd (let z : _≡_ {A = ℕ} 0 1 = cc in omega arith)
 accepted-not false n gs e = (refl, e)
@@ -111,27 +112,28 @@ pub accepted-done : (o : Check) → verdictOf o ≡ accept → o ≡ Passed
 accepted-done Passed e = refl
 accepted-done (Refused r) e = absurd (let z : _≡_ {A = ℕ} 0 1 = cc in omega arith)
 
--- the turn of the plain list on a call with a verdict, with what its store holds then
-abbrev pub turnBy : Plain → Call → Verdict → Turn Store
-turnBy p call v = record { response = responseBy v (given p call); next = storeOf (leftBy v (changed p call) p) }
+-- the transition of the plain list on a call with a verdict, with what its store holds then
+abbrev pub transitionBy : Plain → Call → Verdict → Transition Store
+transitionBy p call v = record { response = responseBy v (given p call); next = storeOf (leftBy v (changed p call) p) }
 
--- the unit's turn by its check
-abbrev turnSettled : Plain → Call → List ℕ → Left → Check → Turn Store
-turnSettled p call words made c =
-    turnOf (call .named) (record { answer = answered c (made .answer); lent = ifPassed c (made .lent) (lentWith (storeOf p) words (call .bytes)) })
+-- the unit's transition by its check
+abbrev transitionSettled : Plain → Call → List ℕ → Left → Check → Transition Store
+transitionSettled p call words made c =
+    transitionOf (call .named) (record
+    { answer = answered c (made .answer); lent = ifPassed c (made .lent) (lentWith (storeOf p) words (call .bytes)) })
 
--- The unit's turn is the plain list's where the grounds give the same, and an accepted call does what it does on the plain list: a
+-- The unit's transition is the plain list's where the grounds give the same, and an accepted call does what it does on the plain list: a
 -- call that is turned away leaves all as it came on both sides.
 pub settle : (p : Plain) (call : Call) (words : List ℕ)
     → let m = meaning (lentWith (storeOf p) words (call .bytes)) (unitCall (call .named)) in
     verdictOf (m .check) ≡ checked p call
-    → (m .check ≡ Passed → turnOf (call .named) (m .accepted) ≡ turnBy p call accept)
-    → storeTurn (storeOf p) call words ≡ turnBy p call (checked p call)
+    → (m .check ≡ Passed → transitionOf (call .named) (m .accepted) ≡ transitionBy p call accept)
+    → storeTransition (storeOf p) call words ≡ transitionBy p call (checked p call)
 settle p call words same done = go (m .check) refl
   where
     m : Meaning
     m = meaning (lentWith (storeOf p) words (call .bytes)) (unitCall (call .named))
 
-    go : (c : Check) → m .check ≡ c → storeTurn (storeOf p) call words ≡ turnBy p call (checked p call)
-    go Passed e = ap (turnSettled p call words (m .accepted)) e ∙ done e ∙ ap (turnBy p call) (sym (ap verdictOf e) ∙ same)
-    go (Refused r) e = ap (turnSettled p call words (m .accepted)) e ∙ ap (turnBy p call) (sym (ap verdictOf e) ∙ same)
+    go : (c : Check) → m .check ≡ c → storeTransition (storeOf p) call words ≡ transitionBy p call (checked p call)
+    go Passed e = ap (transitionSettled p call words (m .accepted)) e ∙ done e ∙ ap (transitionBy p call) (sym (ap verdictOf e) ∙ same)
+    go (Refused r) e = ap (transitionSettled p call words (m .accepted)) e ∙ ap (transitionBy p call) (sym (ap verdictOf e) ∙ same)

@@ -11,11 +11,12 @@ use Rattle.changes.specs.Calculus.{apply, composeAll}
 use Rattle.changes.specs.Lists.{All}
 use Rattle.layout.specs.Clauses.{lengthsB}
 use Rattle.views.specs.Trim.{trimmed}
-use Rattle.views.specs.View.{View, viewTable, viewOld, viewSlots, Slot, closed as shut, holding, openOf, heldSteps, leastSlot, NotAbove, Good, mapAt as viewMapAt}
+use Rattle.views.specs.View.{View, viewTable, viewOld, viewSlots, Slot, closed as closedSlot, holding, openOf, heldSteps}
+use Rattle.views.specs.View.{leastSlot, NotAbove, Good, mapAt as viewMapAt}
 use Rattle.views.proofs.SlotLists.{least-most}
-use Rattle.reads.specs.OnView.{withSlot, between}
-use Rattle.reads.proofs.SlotSets.{least-set, least-shut}
-use Rattle.steps.specs.StepViews.{commitView, rollView, flushedView}
+use Rattle.read_views.specs.OnView.{withSlot, between}
+use Rattle.read_views.proofs.SlotSets.{least-set, least-closing}
+use Rattle.step_views.specs.StepViews.{commitView, rollView, flushedView}
 use Rattle.history.specs.Plain.{Line, Place, closed, reading, Plain, tipOf, mapAt, leastOf, floorOf, heldLists, listsBetween}
 use Rattle.history.specs.Plain.{openB, openAt, grown, cutAbove, withLine, withPlace, withCheckpoint}
 use Rattle.history.proofs.Lines.{Whole, carried, between-length, between-all, between-join, between-take, between-drop}
@@ -23,7 +24,7 @@ use Rattle.history.proofs.Lines.{grown-map, grown-between, grown-last, 
 
 -- a place as a slot of the head: its number, without its offers
 abbrev pub slotOf : Place → Slot
-slotOf closed = shut
+slotOf closed = closedSlot
 slotOf (reading n offers) = holding n
 
 -- the view of the store that does what the plain list does: its held steps are the lists from the floor to the tip
@@ -72,7 +73,8 @@ same-number : (m n : ℕ) (o offers : List ℕ) → reading m o ≡ reading n of
 unfolding numberIn
 same-number m n o offers e = ap numberIn e
 
-pub place-range : (c : ℕ) (places : List Place) (slot n : ℕ) (offers : List ℕ) → All (NotAbove c) (map slotOf places) → getD places slot closed ≡ reading n offers → (leastOf c places ≤ n) × (n ≤ c)
+pub place-range : (c : ℕ) (places : List Place) (slot n : ℕ) (offers : List ℕ) → All (NotAbove c) (map slotOf places)
+    → getD places slot closed ≡ reading n offers → (leastOf c places ≤ n) × (n ≤ c)
 unfolding All leastOf
 place-range c [] slot n offers h e = absurd (let z : _≡_ {A = ℕ} 0 1 = cc in omega arith)
 place-range c (closed ∷ places) zero n offers h e = absurd (let z : _≡_ {A = ℕ} 0 1 = cc in omega arith)
@@ -95,7 +97,9 @@ open-same (reading n offers) = refl
 
 -- whether a slot is open, from the view's slots
 pub open-at : (p : Plain) (slot : ℕ) → getD (map openOf (map slotOf (p .places))) slot false ≡ openAt p slot
-open-at p slot = List·getD-map openOf (map slotOf (p .places)) slot shut ∙ ap openOf (List·getD-map slotOf (p .places) slot closed) ∙ open-same (getD (p .places) slot closed)
+open-at p slot =
+    List·getD-map openOf (map slotOf (p .places)) slot closedSlot
+    ∙ ap openOf (List·getD-map slotOf (p .places) slot closed) ∙ open-same (getD (p .places) slot closed)
 
 module _ (p : Plain) (f : Fit p) where
   abbrev l : Line
@@ -201,7 +205,8 @@ module _ (p : Plain) (f : Fit p) where
       ∙ ap (leastSlot c) (map-set (p .places) slot (reading c offers))
       ∙ least-is c (set (p .places) slot (reading c offers))
 
-  pub issue-view : (slot : ℕ) (offers : List ℕ) → openAt p slot ≡ false → withSlot (viewOf p) slot (holding c) ≡ viewOf (withPlace p slot (reading c offers))
+  pub issue-view : (slot : ℕ) (offers : List ℕ) → openAt p slot ≡ false → withSlot (viewOf p) slot (holding c)
+      ≡ viewOf (withPlace p slot (reading c offers))
   unfolding viewOf withSlot
   issue-view slot offers free i =
       viewSlots (viewOld (viewOf p) (listsBetween l (floor-same slot offers free i) c)) (map-set (p .places) slot (reading c offers) i)
@@ -209,15 +214,22 @@ module _ (p : Plain) (f : Fit p) where
   -- a slot that closes leaves it or moves it up, and so does a later checkpoint
   pub floor-up : (slot : ℕ) → floor ≤ leastOf c (set (p .places) slot closed)
   floor-up slot =
-      omega (arith, least-is c (p .places), least-shut c (map slotOf (p .places)) slot, ap (leastSlot c) (map-set (p .places) slot closed), least-is c (set (p .places) slot closed))
+      omega (
+        arith,
+        least-is c (p .places),
+        least-closing c (map slotOf (p .places)) slot,
+        ap (leastSlot c)
+            (map-set (p .places) slot closed),
+        least-is c (set (p .places) slot closed),
+      )
 
-  pub close-view : (slot : ℕ) → trimmed (withSlot (viewOf p) slot shut) ≡ viewOf (withPlace p slot closed)
+  pub close-view : (slot : ℕ) → trimmed (withSlot (viewOf p) slot closedSlot) ≡ viewOf (withPlace p slot closed)
   unfolding viewOf withSlot trimmed
   close-view slot i = viewSlots (viewOld (viewOf p) (old-moved i)) (map-set (p .places) slot closed i)
     where
       old-moved :
           let old = listsBetween l floor c in
-          drop (leastSlot c (set (map slotOf (p .places)) slot shut) - (c - length old)) old
+          drop (leastSlot c (set (map slotOf (p .places)) slot closedSlot) - (c - length old)) old
           ≡ listsBetween l (leastOf c (set (p .places) slot closed)) c
       old-moved =
           let old = listsBetween l floor c in

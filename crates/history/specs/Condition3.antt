@@ -1,7 +1,7 @@
 -- Condition 3, as the request states it: "Any list of calls on a store answers as the plain list of whole maps does, call by call,
 -- refusals and numbers included; and two stores that accept the same calls, flushes apart, quote and forward the same."
 --
--- A run (Runs.antt) loads an image into lent memory that holds anything, of two lengths in range, and then serves any list of
+-- A trace (Traces.antt) loads an image into lent memory that holds anything, of two lengths in range, and then serves any list of
 -- calls with any arguments; each forward on an open slot is given what the slot's last accepted issue filled. The store's side is
 -- what the contracts of `perform` and `serve` cite (calls/specs/Meaning.antt); the plain list (Plain.antt) is given the lengths, the
 -- image and the calls' arguments, and nothing of the unit's memory or head. Bytes, words and numbers are any natural numbers here;
@@ -13,7 +13,7 @@ use Prim.Native.Nat.{ℕ, _≤_}
 use lib.ListN.{length}
 use Rattle.views.specs.View.{Store}
 use Rattle.history.specs.Named.{done, acceptedCalls, quotes}
-use Rattle.history.specs.Runs.{Asked, storeRun, plainRun, callsOf, lengthsOf}
+use Rattle.history.specs.Traces.{Asked, storeTrace, plainTrace, callsOf, lengthsOf}
 
 -- "1 to 8,000 lent words" of table, "1 to 4,096" of journal
 pub record InRange (lent : Store) : Type 0 where
@@ -28,7 +28,7 @@ abbrev pub AnswersAsPlain : Type 0
 AnswersAsPlain =
     (lent : Store) (image : List ℕ) (asked : List Asked)
     → InRange lent
-    → storeRun lent image asked ≡ plainRun (lengthsOf lent) image (callsOf asked)
+    → storeTrace lent image asked ≡ plainTrace (lengthsOf lent) image (callsOf asked)
 
 -- Two stores, each with lengths of its own, just loaded from the same image: where both accept the same calls in the same order,
 -- flushes apart, their lookups' prices and forwarded reads are equal one by one.
@@ -37,10 +37,11 @@ QuotesAlike =
     (lent₁ lent₂ : Store) (image : List ℕ) (asked₁ asked₂ : List Asked)
     → InRange lent₁
     → InRange lent₂
-    → storeRun lent₁ image asked₁ .load ≡ done
-    → storeRun lent₂ image asked₂ .load ≡ done
-    → acceptedCalls (callsOf asked₁) (storeRun lent₁ image asked₁ .responses) ≡ acceptedCalls (callsOf asked₂) (storeRun lent₂ image asked₂ .responses)
-    → quotes (storeRun lent₁ image asked₁ .responses) ≡ quotes (storeRun lent₂ image asked₂ .responses)
+    → storeTrace lent₁ image asked₁ .load ≡ done
+    → storeTrace lent₂ image asked₂ .load ≡ done
+    → acceptedCalls (callsOf asked₁) (storeTrace lent₁ image asked₁ .responses)
+    ≡ acceptedCalls (callsOf asked₂) (storeTrace lent₂ image asked₂ .responses)
+    → quotes (storeTrace lent₁ image asked₁ .responses) ≡ quotes (storeTrace lent₂ image asked₂ .responses)
 
 pub record Condition3 : Type 0 where
   pub answers-as-plain : AnswersAsPlain

@@ -1,4 +1,4 @@
 pub mod Named
 pub mod Plain
-pub mod Runs
+pub mod Traces
 pub mod Condition3

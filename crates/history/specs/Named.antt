@@ -12,7 +12,7 @@ use Rattle.answers.specs.declared.call.Read.{Read as ReadCall}
 use Rattle.answers.specs.declared.call.Read.the-variants.{Issue, Forward, Release}
 use Rattle.answers.specs.declared.call.Step.{Step as StepCall}
 use Rattle.answers.specs.declared.call.Step.the-variants.{Commit, RollBack, Flush}
-use Rattle.answers.specs.Answers.{Said, accepted, refused as turnedAway, without}
+use Rattle.answers.specs.Answers.{Said, accepted, refused as refusedBy, without}
 
 -- the calls of condition 3 with their numbers: all but clear, load and restart
 pub data Named : Type 0 where
@@ -92,11 +92,11 @@ acceptedAs (ask WriteImage) value words bytes = written value bytes
 
 abbrev pub responseTo : Named → Said → List ℕ → List ℕ → Response
 responseTo named (accepted value) words bytes = acceptedAs named value words bytes
-responseTo named (turnedAway n) words bytes = refused n
+responseTo named (refusedBy n) words bytes = refused n
 responseTo named without words bytes = noPrice
 
 -- what a call answers and leaves
-pub record Turn (S : Type 0) : Type 0 where
+pub record Transition (S : Type 0) : Type 0 where
   pub response : Response
   pub next : S
 

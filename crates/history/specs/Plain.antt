@@ -22,11 +22,12 @@ use Rattle.answers.specs.declared.call.Read.the-variants.{Issue, Forward, Relea
 use Rattle.answers.specs.declared.call.Reader.{Reader}
 use Rattle.answers.specs.declared.call.Step.{Step as StepCall}
 use Rattle.answers.specs.declared.call.Step.the-variants.{Commit, RollBack, Flush}
-use Rattle.history.specs.Named.{Named, step, read, ask, Call, Response, done, price, noPrice, filled, forwarded, written, refused, Turn}
+use Rattle.history.specs.Named.{Named, step, read, ask, Call, Response, done, price, noPrice, filled, forwarded, written}
+use Rattle.history.specs.Named.{refused, Transition}
 
 -- a ground's test, which says whether it is met, with its number
-pub data Ground : Type 0 where
-  met : Bool → ℕ → Ground
+pub data Test : Type 0 where
+  met : Bool → ℕ → Test
 
 -- a call is accepted, or turned away by a number
 pub data Verdict : Type 0 where
@@ -34,7 +35,7 @@ pub data Verdict : Type 0 where
   refuse : ℕ → Verdict
 
 -- "Checked in this order": the first ground that is met
-unfoldable pub firstOf : List Ground → Verdict
+unfoldable pub firstOf : List Test → Verdict
 firstOf [] = accept
 firstOf (met true n ∷ grounds) = refuse n
 firstOf (met false n ∷ grounds) = firstOf grounds
@@ -121,16 +122,16 @@ abbrev pub imageAt : Plain → List ℕ
 imageAt p = imageOf (p .checkpoint) (mapAt (p .line) (p .checkpoint))
 
 -- ground 3: "The place is above 7."
-abbrev pub slotTests : Reader → List Ground
+abbrev pub slotTests : Reader → List Test
 slotTests reader = met (leb 8 (reader .slot)) 3 ∷ []
 
 -- ground 11: "The state named is below the anchor or above the tip."
-abbrev pub stateTests : Plain → ℕ → List Ground
+abbrev pub stateTests : Plain → ℕ → List Test
 stateTests p state = met (ltb state (p .checkpoint)) 11 ∷ met (ltb (tipOf (p .line)) state) 11 ∷ []
 
 -- "It tests grounds 3 to 17 .. in their order with these values." "In the named calls 1 and 2 don't arise, nor 6 at a forward."
 module _ (p : Plain) where
-  abbrev pub stepTests : StepCall → List ℕ → List Ground
+  abbrev pub stepTests : StepCall → List ℕ → List Test
   stepTests Commit list =
       met (not (listB list)) 6
       ∷ met (eqb (tipOf (p .line)) (2 ^ 32 - 1)) 12
@@ -141,7 +142,7 @@ module _ (p : Plain) where
   stepTests (RollBack state) list = stateTests p state
   stepTests (Flush state) list = stateTests p state ++ (met (ltb (p .limits .table) (length (mapAt (p .line) state))) 16 ∷ [])
 
-  abbrev pub readTests : ReadCall → List ℕ → List Ground
+  abbrev pub readTests : ReadCall → List ℕ → List Test
   readTests (Issue reader) list =
       slotTests reader
       ++ (met (openAt p (reader .slot)) 4
@@ -151,11 +152,11 @@ module _ (p : Plain) where
   readTests (Forward reader state) list = slotTests reader ++ (met (not (openAt p (reader .slot))) 5 ∷ stateTests p state)
   readTests (Release reader) list = slotTests reader ++ (met (not (openAt p (reader .slot))) 5 ∷ [])
 
-  abbrev pub queryTests : Query → List ℕ → List Ground
+  abbrev pub queryTests : Query → List ℕ → List Test
   queryTests (LookUp asked) bytes = met (leb (2 ^ 31) (asked .offer)) 6 ∷ stateTests p (asked .state)
   queryTests WriteImage bytes = met (ltb (length bytes) (length (imageAt p))) 17 ∷ []
 
-  abbrev pub tests : Named → List ℕ → List ℕ → List Ground
+  abbrev pub tests : Named → List ℕ → List ℕ → List Test
   tests (step call) list bytes = stepTests call list
   tests (read call) list bytes = readTests call list
   tests (ask query) list bytes = queryTests query bytes
@@ -235,8 +236,8 @@ abbrev pub changed : Plain → Call → Plain
 changed p call = changedBy p (call .named) (call .list)
 
 -- "A refused call changes nothing."
-abbrev pub plainTurn : Plain → Call → Turn Plain
-plainTurn p call = record { response = responseBy (checked p call) (given p call); next = leftBy (checked p call) (changed p call) p }
+abbrev pub plainTransition : Plain → Call → Transition Plain
+plainTransition p call = record { response = responseBy (checked p call) (given p call); next = leftBy (checked p call) (changed p call) p }
 
 -- The load: grounds 15 and 16. "The load gives the image's map under its number, that number as anchor, all places closed."
 abbrev pub loadChecked : Limits → List ℕ → Verdict

@@ -67,8 +67,10 @@ bytes-behind : (q : ℕ) (l : List ℕ) → All Byte l → bytesOf (length l) (q
 unfolding bytesOf valueOf All
 bytes-behind q [] h = refl
 bytes-behind q (b ∷ l) h =
-    let same : q * 256 ^ suc (length l) + (b * 256 ^ length l + valueOf l) ≡ (q * 256 + b) * 256 ^ length l + valueOf l = rw (power-more (length l)) (shift q b (256 ^ length l) (valueOf l)) in
-    let first : ((q * 256 + b) * 256 ^ length l + valueOf l) / 256 ^ length l ≡ q * 256 + b = digits-div (q * 256 + b) (value-small l (h .1)) in
+    let same : q * 256 ^ suc (length l) + (b * 256 ^ length l + valueOf l)
+    ≡ (q * 256 + b) * 256 ^ length l + valueOf l = rw (power-more (length l)) (shift q b (256 ^ length l) (valueOf l)) in
+    let first : ((q * 256 + b) * 256 ^ length l + valueOf l) / 256 ^ length l
+    ≡ q * 256 + b = digits-div (q * 256 + b) (value-small l (h .1)) in
     rw same (ap₂ _∷_ (rw first (omega (arith, h .0))) (bytes-behind (q * 256 + b) l (h .1)))
 
 pub bytes-of-value : (l : List ℕ) → All Byte l → bytesOf (length l) (valueOf l) ≡ l

@@ -72,7 +72,7 @@ module _ {b : List ℕ} {least i : ℕ} (t : Testing b least i) where
   pub tested : countIn b ≤ i → imageB b ≡ true
   tested h = sym (t .left) ∙ ap (mapB least) (words-end (countIn b) b i h) ∙ map-none least
 
-  -- the word at the place, as it was read
+  -- the word at the position, as it was read
   module _ (h : i < countIn b) (w : ℕ) (e : w ≡ valueOf (take 8 (drop (6 + 8 * i) b))) where
     here : mapB least (w ∷ wordsOf (countIn b - (i + 1)) (drop (6 + 8 * (i + 1)) b)) ≡ imageB b
     here = rw e (ap (mapB least) (sym (words-next (countIn b) b i h)) ∙ t .left)
@@ -101,7 +101,8 @@ pub record Keyed (b : List ℕ) (last i : ℕ) : Type 0 where
 pub keyed-all : (b : List ℕ) → 6 ≤ length b → length b ≡ 6 + 8 * countIn b → Keyed b (2 ^ 31 - 1) 0
 keyed-all b l e = record { least = omega arith; most = omega arith; tested = testing-all b l e }
 
-module _ {b : List ℕ} {last i : ℕ} (t : Keyed b last i) (h : i < countIn b) (w : ℕ) (small : w < 2 ^ 64) (e : w ≡ valueOf (take 8 (drop (6 + 8 * i) b))) where
+module _ {b : List ℕ} {last i : ℕ} (t : Keyed b last i) (h : i < countIn b) (w : ℕ) (small : w < 2 ^ 64)
+    (e : w ≡ valueOf (take 8 (drop (6 + 8 * i) b))) where
   pub key-falls : keyOf w ≤ last → imageB b ≡ false
   key-falls k = go (ℕ-discrete (kindOf w) 1)
     where

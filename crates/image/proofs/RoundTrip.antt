@@ -25,7 +25,8 @@ words-back (w ∷ l) h =
 
 -- bytes, to words and back
 field-back : (k : ℕ) (b : List ℕ) → k ≤ length b → All Byte b → bytesOf k (valueOf (take k b)) ≡ take k b
-field-back k b l h = ap (λ (n : ℕ). bytesOf n (valueOf (take k b))) (sym (length-take-le k b l)) ∙ bytes-of-value (take k b) (all-take Byte k b h)
+field-back k b l h =
+    ap (λ (n : ℕ). bytesOf n (valueOf (take k b))) (sym (length-take-le k b l)) ∙ bytes-of-value (take k b) (all-take Byte k b h)
 
 no-bytes : (b : List ℕ) → length b ≡ 0 → [] ≡ b
 no-bytes [] e = refl
@@ -67,7 +68,8 @@ module _ (n : ℕ) (m : List ℕ) where
   pub image-words : length m < 2 ^ 16 → All Put m → wordsIn (imageOf n m) ≡ m
   unfolding wordsIn
   image-words h p =
-      ap₂ wordsOf (image-count h) (ap (drop 6) (image-parts n m) ∙ drop-at (bytesOf 4 n ++ bytesOf 2 (length m)) (wordBytes m) 6 head-length)
+      ap₂ wordsOf (image-count h) (ap (drop 6) (image-parts n m)
+      ∙ drop-at (bytesOf 4 n ++ bytesOf 2 (length m)) (wordBytes m) 6 head-length)
       ∙ words-back m p
 
 -- the fields of an image that is read, and the image from them

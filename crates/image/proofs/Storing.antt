@@ -20,8 +20,10 @@ module _ (b : List ℕ) (at n : ℕ) (room : at + 8 ≤ length b) (mid last : Li
       → last ≡ take (at + 4) mid ++ bytesOf 4 (n % 2 ^ 32) ++ drop (at + 4 + 4) mid
       → last ≡ take at b ++ bytesOf 8 n ++ drop (at + 8) b
   eight-stored e f =
-      let first = wrote-piece (start-at b (bytesOf 8 n) at (omega arith)) (bytesOf 4 (n / 2 ^ 32)) (bytesOf 4 (n % 2 ^ 32)) (bytes-8 n) (at + 4) (omega (arith, length-bytes 4 (n / 2 ^ 32))) (omega arith) e in
-      let both = wrote-piece first (bytesOf 4 (n % 2 ^ 32)) [] (sym (append-nil (bytesOf 4 (n % 2 ^ 32)))) (at + 4 + 4) (omega (arith, length-bytes 4 (n % 2 ^ 32))) (omega (arith, first .same)) f in
+      let first = wrote-piece (start-at b (bytesOf 8 n) at (omega arith)) (bytesOf 4 (n / 2 ^ 32))
+      (bytesOf 4 (n % 2 ^ 32)) (bytes-8 n) (at + 4) (omega (arith, length-bytes 4 (n / 2 ^ 32))) (omega arith) e in
+      let both = wrote-piece first (bytesOf 4 (n % 2 ^ 32)) [] (sym (append-nil (bytesOf 4 (n % 2 ^ 32)))) (at + 4 + 4)
+      (omega (arith, length-bytes 4 (n % 2 ^ 32))) (omega (arith, first .same)) f in
       let end : at + 4 + 4 ≡ at + 8 = omega arith in
       completed both ∙ ap (λ (k : ℕ). take at b ++ bytesOf 8 n ++ drop k b) end
 
@@ -34,5 +36,7 @@ module _ (out : List ℕ) (state : ℕ) (words : List ℕ) (room : 6 ≤ length 
   header-stored e f =
       let rest = bytesOf 2 (length words) ++ wordBytes words in
       let whole = image-parts state words ∙ append-assoc (bytesOf 4 state) (bytesOf 2 (length words)) (wordBytes words) in
-      let first = wrote-piece (start out (imageOf state words)) (bytesOf 4 state) rest whole 4 (omega (arith, length-bytes 4 state)) (omega arith) e in
-      wrote-piece first (bytesOf 2 (length words)) (wordBytes words) refl 6 (omega (arith, length-bytes 2 (length words))) (omega (arith, first .same)) f
+      let first = wrote-piece (start out (imageOf state words)) (bytesOf 4 state) rest whole 4
+      (omega (arith, length-bytes 4 state)) (omega arith) e in
+      wrote-piece first (bytesOf 2 (length words)) (wordBytes words) refl 6
+      (omega (arith, length-bytes 2 (length words))) (omega (arith, first .same)) f

@@ -17,7 +17,8 @@ pub accepted-is-map : (b : List ℕ) → imageB b ≡ true → Map (wordsIn b)
 accepted-is-map b e = image-facts b e .map
 
 -- What is written is accepted, and reads back as the same number and map.
-pub written-reads-back : (n : ℕ) (m : List ℕ) → n < 2 ^ 32 → length m < 2 ^ 16 → Map m → (imageB (imageOf n m) ≡ true) × (numberIn (imageOf n m) ≡ n) × (wordsIn (imageOf n m) ≡ m)
+pub written-reads-back : (n : ℕ) (m : List ℕ) → n < 2 ^ 32 → length m < 2 ^ 16 → Map m → (imageB (imageOf n m) ≡ true)
+    × (numberIn (imageOf n m) ≡ n) × (wordsIn (imageOf n m) ≡ m)
 written-reads-back n m s l h =
     let words = image-words n m l (h .puts) in
     let facts : Image (imageOf n m) =
@@ -34,7 +35,8 @@ pub accepted-writes-back : (b : List ℕ) → All Byte b → imageB b ≡ true �
 accepted-writes-back b h e = image-back b (image-facts b e .size) h
 
 -- No two numbers or maps share an image.
-pub image-injective : (n n′ : ℕ) (m m′ : List ℕ) → n < 2 ^ 32 → n′ < 2 ^ 32 → length m < 2 ^ 16 → length m′ < 2 ^ 16 → Map m → Map m′ → imageOf n m ≡ imageOf n′ m′ → (n ≡ n′) × (m ≡ m′)
+pub image-injective : (n n′ : ℕ) (m m′ : List ℕ) → n < 2 ^ 32 → n′ < 2 ^ 32 → length m < 2 ^ 16 → length m′ < 2 ^ 16
+    → Map m → Map m′ → imageOf n m ≡ imageOf n′ m′ → (n ≡ n′) × (m ≡ m′)
 image-injective n n′ m m′ s s′ l l′ h h′ e =
     let one = written-reads-back n m s l h in
     let other = written-reads-back n′ m′ s′ l′ h′ in

@@ -51,13 +51,15 @@ words-length (suc n) b = ap suc (words-length n (drop 8 b))
 
 -- as a loop meets them: the words from the i-th on
 module _ (n : ℕ) (b : List ℕ) (i : ℕ) where
-  pub words-next : i < n → wordsOf (n - i) (drop (6 + 8 * i) b) ≡ valueOf (take 8 (drop (6 + 8 * i) b)) ∷ wordsOf (n - (i + 1)) (drop (6 + 8 * (i + 1)) b)
+  pub words-next : i < n → wordsOf (n - i) (drop (6 + 8 * i) b) ≡ valueOf (take 8 (drop (6 + 8 * i) b))
+      ∷ wordsOf (n - (i + 1)) (drop (6 + 8 * (i + 1)) b)
   words-next h =
       let more : n - i ≡ suc (n - (i + 1)) = omega arith in
       let on : 6 + 8 * i + 8 ≡ 6 + 8 * (i + 1) = omega arith in
       ap (λ (m : ℕ). wordsOf m (drop (6 + 8 * i) b)) more
       ∙ words-more (n - (i + 1)) (drop (6 + 8 * i) b)
-      ∙ ap (λ (r : List ℕ). valueOf (take 8 (drop (6 + 8 * i) b)) ∷ wordsOf (n - (i + 1)) r) (drop-drop 8 (6 + 8 * i) b ∙ ap (λ (m : ℕ). drop m b) on)
+      ∙ ap (λ (r : List ℕ). valueOf (take 8 (drop (6 + 8 * i) b)) ∷ wordsOf (n - (i + 1)) r)
+      (drop-drop 8 (6 + 8 * i) b ∙ ap (λ (m : ℕ). drop m b) on)
 
   pub words-end : n ≤ i → wordsOf (n - i) (drop (6 + 8 * i) b) ≡ []
   words-end h =

@@ -1,4 +1,4 @@
-// Numbers in bytes, most significant byte first, from a place on.
+// Numbers in bytes, most significant byte first, from a position on.
 ghost use mathlib.Core.Path.{_≡_};
 ghost use mathlib.Core.List.{_++_};
 ghost use Prim.Native.Nat.{_+_, _^_, _<_, _≤_};

@@ -14,7 +14,8 @@ ghost use Rattle.image.specs.Image.{imageOf};
 // behind it stay. The count fits its field, and `out` has room.
 pub fn write(state: u32, words: &[u64], out: &mut [u8]) -> usize
     requires { ⌜ (length (now words) < 2 ^ 16) × (6 + 8 * length (now words) ≤ length (now out)) ⌝ }
-    ensures { λ r. ⌜ (r ≡ 6 + 8 * length (now (words .entry))) × (now (out .exit) ≡ imageOf state (now (words .entry)) ++ drop r (now (out .entry))) ⌝ }
+    ensures { λ r. ⌜ (r ≡ 6 + 8 * length (now (words .entry)))
+        × (now (out .exit) ≡ imageOf state (now (words .entry)) ++ drop r (now (out .entry))) ⌝ }
 {
     put_u32(out, 0, state);
     put_u16(out, 4, words.len() as u16);

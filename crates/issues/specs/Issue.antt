@@ -9,7 +9,7 @@ use Rattle.changes.specs.Lists.{listB, noPutB}
 use Rattle.changes.specs.ReadSets.{readOf}
 use Rattle.answers.specs.declared.answer.Check.{Check}
 use Rattle.answers.specs.declared.call.Reader.{Reader}
-use Rattle.answers.specs.declared.refusal.Refusal.the-variants.{SlotTaken, BadList}
+use Rattle.answers.specs.declared.ground.Ground.the-variants.{SlotTaken, BadList}
 use Rattle.answers.specs.First.{met, first, ifPassed}
 use Rattle.layout.specs.declared.head.Head.{Head}
 use Rattle.soundness.specs.Checks.{storeGrounds}
@@ -21,7 +21,7 @@ issueCheck table journal head reader list =
     first
     (storeGrounds table journal head
     ++ slotGrounds reader
-    ++ (met (getD (head .held) (reader .slot) false) SlotTaken
+    ++ (met (getD (head .taken) (reader .slot) false) SlotTaken
     ∷ met (not (listB list)) BadList
     ∷ met (not (noPutB list)) BadList
     ∷ []))

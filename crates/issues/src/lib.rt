@@ -2,7 +2,7 @@
 use answers::answer::Answer;
 use answers::answer::Check;
 use answers::call::Reader;
-use answers::refusal::Refusal;
+use answers::ground::Ground;
 use entry::Entry;
 use layout::head::Head;
 use layout::head::Reply;
@@ -35,7 +35,7 @@ fn has_no_put(words: &[u64]) -> bool
 fn issue_check(table: &[u64], journal: &[u64], head: Head, reader: Reader, list: &[u64]) -> Check
     ensures { λ r. ⌜ r ≡ issueCheck (now (table .entry)) (now (journal .entry)) head reader (now (list .entry)) ⌝ }
 {
-    let held = head.held;
+    let taken = head.taken;
     let slot = reader.slot;
     let store = store_check(table, journal, head);
     let Check::Passed = store else {
@@ -45,20 +45,23 @@ fn issue_check(table: &[u64], journal: &[u64], head: Head, reader: Reader, list:
     let Check::Passed = range else {
         return range;
     };
-    if held[slot] {
-        return Check::Refused(Refusal::SlotTaken);
+    if taken[slot] {
+        return Check::Refused(Ground::SlotTaken);
     }
     if !is_list(list) {
-        return Check::Refused(Refusal::BadList);
+        return Check::Refused(Ground::BadList);
     }
     if !has_no_put(list) {
-        return Check::Refused(Refusal::BadList);
+        return Check::Refused(Ground::BadList);
     }
     Check::Passed
 }
 
 pub fn issue(table: &[u64], journal: &[u64], head: Head, reader: Reader, list: &mut [u64]) -> Reply
-    ensures { λ r. ⌜ Gives (r .answer) (answered (issueCheck (now (table .entry)) (now (journal .entry)) head reader (now (list .entry))) Done) × (r .head ≡ issueHead (now (table .entry)) (now (journal .entry)) head reader (now (list .entry))) × (now (list .exit) ≡ issueList (now (table .entry)) (now (journal .entry)) head reader (now (list .entry))) ⌝ }
+    ensures { λ r. ⌜ Gives (r .answer)
+        (answered (issueCheck (now (table .entry)) (now (journal .entry)) head reader (now (list .entry))) Done)
+        × (r .head ≡ issueHead (now (table .entry)) (now (journal .entry)) head reader (now (list .entry)))
+        × (now (list .exit) ≡ issueList (now (table .entry)) (now (journal .entry)) head reader (now (list .entry))) ⌝ }
 {
     let check = issue_check(table, journal, head, reader, list);
     if let Check::Refused(ground) = check {

@@ -15,7 +15,8 @@ use Rattle.layout.proofs.StepTests.{step-list}
 use Rattle.last_changes.specs.Steps.{Rising}
 
 -- the held steps from one state to a later one, up to the tip
-pub steps-rising : (table journal : List ℕ) (head : Head) → Shaped head → Sound table journal head → (from to : ℕ) → from ≤ to → to ≤ head .tip
+pub steps-rising : (table journal : List ℕ) (head : Head) → Shaped head → Sound table journal head → (from to : ℕ)
+    → from ≤ to → to ≤ head .tip
     → Rising journal (head .ends) (stepIndex head from) (stepIndex head to)
 steps-rising table journal head p s from to h k =
     let tests = journal-steps journal (head .ends) (heldOf head) (s .lists) in

@@ -5,7 +5,7 @@ use Prim.Native.Nat.{ℕ, _≤_, _<_}
 use Rattle.changes.specs.Lists.{From}
 use Rattle.changes.specs.Runs.{stepOf, Marked}
 
--- the steps from one place up to another, exclusive, lie in the journal, and the offers of each rise
+-- the steps from one position up to another, exclusive, lie in the journal, and the offers of each rise
 pub record Rising (journal ends : List ℕ) (from to : ℕ) : Type 0 where
   pub marked : Marked journal ends to
   pub order : from ≤ to

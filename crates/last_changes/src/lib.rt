@@ -2,15 +2,15 @@
 // offers.
 pub mod filter;
 
-use crate::filter::PLACES;
-use crate::filter::filter_place;
+use crate::filter::CELLS;
+use crate::filter::filter_cell;
 use crate::filter::note_offers;
 use changes::search::Found;
 use entry::Entry;
 use layout::states::end_of;
 use lists::search::find;
 ghost use mathlib.Core.Path.{_≡_};
-ghost use Prim.Native.Nat.{_+_, _-_, _≤_};
+ghost use Prim.Native.Nat.{_+_, _-_};
 ghost use Rattle.entry.specs.Word.{offerOf};
 ghost use Rattle.changes.specs.Calculus.{find as found, composeAll};
 ghost use Rattle.changes.specs.Lists.{From};
@@ -57,9 +57,10 @@ fn word_after(
     to: usize,
 ) -> u64
     requires { ⌜ Rising (now journal) (now ends) from to × Noted (now filter) (now journal) (now ends) from to ⌝ }
-    ensures { λ r. ⌜ r ≡ foundOr (found (offerOf word) (composeAll (runOf (now (journal .entry)) (now (ends .entry)) from (to - from)))) word ⌝ }
+    ensures { λ r. ⌜ r ≡ foundOr
+        (found (offerOf word) (composeAll (runOf (now (journal .entry)) (now (ends .entry)) from (to - from)))) word ⌝ }
 {
-    if !filter[filter_place(word)] {
+    if !filter[filter_cell(word)] {
         return word;
     }
     match last_change(journal, ends, from, to, Entry::offer_of(word)) {
@@ -78,7 +79,8 @@ fn words_after(
     to: usize,
 )
     requires { ⌜ Rising (now journal) (now ends) from to × Noted (now filter) (now journal) (now ends) from to ⌝ }
-    ensures { λ r. ⌜ now (words .exit) ≡ over (now (words .entry)) (composeAll (runOf (now (journal .entry)) (now (ends .entry)) from (to - from))) ⌝ }
+    ensures { λ r. ⌜ now (words .exit)
+        ≡ over (now (words .entry)) (composeAll (runOf (now (journal .entry)) (now (ends .entry)) from (to - from))) ⌝ }
 {
     let mut i = 0;
     while i < words.len() {
@@ -90,11 +92,12 @@ fn words_after(
 // Applies the steps from `from` up to `to`, exclusive, to the read set at its own offers.
 pub fn bring_forward(words: &mut [u64], journal: &[u64], ends: &[usize], from: usize, to: usize)
     requires { ⌜ Rising (now journal) (now ends) from to ⌝ }
-    ensures { λ r. ⌜ now (words .exit) ≡ over (now (words .entry)) (composeAll (runOf (now (journal .entry)) (now (ends .entry)) from (to - from))) ⌝ }
+    ensures { λ r. ⌜ now (words .exit)
+        ≡ over (now (words .entry)) (composeAll (runOf (now (journal .entry)) (now (ends .entry)) from (to - from))) ⌝ }
 {
     let start = end_of(ends, from);
     let end = end_of(ends, to);
-    let mut filter = [false; PLACES];
+    let mut filter = [false; CELLS];
     note_offers(&journal[start..end], &mut filter);
     words_after(words, &filter, journal, ends, from, to);
 }

@@ -7,13 +7,20 @@ use borrow.Author.Tests.{leb-true, le-leb}
 use Rattle.layout.specs.Clauses.{lengthsB, numbersB}
 use Rattle.layout.proofs.Holds.{all-first, all-rest, first-holds, all-none}
 
-pub numbers-facts : (oldest checkpoint tip : ℕ) → numbersB oldest checkpoint tip ≡ true → (oldest ≤ checkpoint) × (checkpoint ≤ tip) × (tip - oldest ≤ 64)
-numbers-facts oldest checkpoint tip e =
-    (leb-true _ _ (all-first _ _ e), leb-true _ _ (all-first _ _ (all-rest _ _ e)), leb-true _ _ (all-first _ _ (all-rest _ _ (all-rest _ _ e))))
+pub numbers-facts : (oldest checkpoint tip : ℕ) → numbersB oldest checkpoint tip ≡ true → (oldest ≤ checkpoint)
+    × (checkpoint ≤ tip) × (tip - oldest ≤ 64)
+numbers-facts oldest checkpoint tip e = (
+  leb-true _ _ (all-first _ _ e),
+  leb-true _ _ (all-first _ _ (all-rest _ _ e)),
+  leb-true _ _
+      (all-first _ _ (all-rest _ _ (all-rest _ _ e))),
+)
 
-pub facts-numbers : (oldest checkpoint tip : ℕ) → oldest ≤ checkpoint → checkpoint ≤ tip → tip - oldest ≤ 64 → numbersB oldest checkpoint tip ≡ true
+pub facts-numbers : (oldest checkpoint tip : ℕ) → oldest ≤ checkpoint → checkpoint ≤ tip → tip - oldest ≤ 64
+    → numbersB oldest checkpoint tip ≡ true
 facts-numbers oldest checkpoint tip a b c =
-    first-holds _ _ (le-leb oldest checkpoint a) ∙ first-holds _ _ (le-leb checkpoint tip b) ∙ first-holds _ _ (le-leb (tip - oldest) 64 c) ∙ all-none
+    first-holds _ _ (le-leb oldest checkpoint a) ∙ first-holds _ _ (le-leb checkpoint tip b)
+    ∙ first-holds _ _ (le-leb (tip - oldest) 64 c) ∙ all-none
 
 -- lengths in their ranges
 pub record InRange (table journal : ℕ) : Type 0 where

@@ -20,7 +20,8 @@ pub start-next : (ends : List ℕ) (k : ℕ) → startOf ends (k + 1) ≡ getD e
 start-next ends k = ap (λ (n : ℕ). getD (0 ∷ ends) n 0) (add-one k)
 
 pub step-test : (journal ends : List ℕ) (k s : ℕ) → s ≡ startOf ends k
-    → allOf (leb s (getD ends k 0) ∷ leb (getD ends k 0) (length journal) ∷ listB (take (getD ends k 0 - s) (drop s journal)) ∷ []) ≡ stepB journal ends k
+    → allOf (leb s (getD ends k 0) ∷ leb (getD ends k 0) (length journal)
+    ∷ listB (take (getD ends k 0 - s) (drop s journal)) ∷ []) ≡ stepB journal ends k
 step-test journal ends k s e = rw (e, start-next ends k)
 
 -- what the test of a step says
@@ -34,7 +35,7 @@ module _ (journal ends : List ℕ) (k : ℕ) (e : stepB journal ends k ≡ true)
   pub step-list : listB (stepOf journal ends k) ≡ true
   step-list = all-first _ _ (all-rest _ _ (all-rest _ _ e))
 
--- the steps before a place lie within the journal
+-- the steps before a position lie within the journal
 pub steps-inside : (journal ends : List ℕ) (n : ℕ) → allB n (stepB journal ends) ≡ true → startOf ends n ≤ length journal
 steps-inside journal ends zero e = omega arith
 steps-inside journal ends (suc n) e = rw add-one at (step-inside journal ends n (all-at (stepB journal ends) (suc n) e n (omega arith)))

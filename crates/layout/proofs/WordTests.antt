@@ -51,7 +51,7 @@ or-zero a b = go (ℕ-discrete a 0) (ℕ-discrete b 0)
     go (no p) q =
         rw (ne-eqb (bitOr a b) 0 (λ e. p (omega (arith, or-add-and a b, and-le-r a b))), ne-eqb a 0 p)
 
--- what a loop has joined, and what is left from a place on
+-- what a loop has joined, and what is left from a position on
 module _ (l : List ℕ) (seen i : ℕ) where
   pub zeros-joined : length l ≤ i → eqb seen 0 && zerosB (drop i l) ≡ eqb seen 0
   zeros-joined h = ap (λ (b : Bool). eqb seen 0 && b) (ap zerosB (drop-of-length-le l h) ∙ zeros-none) ∙ and-true (eqb seen 0)
@@ -69,9 +69,12 @@ unfolding least
 least-none c numbers = refl
 
 pub least-step : (c : ℕ) (marks : List Bool) (numbers : List ℕ) (k : ℕ) → k < length marks → k < length numbers
-    → least c (drop k marks) (drop k numbers) ≡ cond (getD marks k false) (min (getD numbers k 0) (least c (drop (suc k) marks) (drop (suc k) numbers))) (least c (drop (suc k) marks) (drop (suc k) numbers))
+    → least c (drop k marks) (drop k numbers)
+    ≡ cond (getD marks k false) (min (getD numbers k 0) (least c (drop (suc k) marks) (drop (suc k) numbers)))
+    (least c (drop (suc k) marks) (drop (suc k) numbers))
 unfolding least
 least-step c marks numbers k h l = rw (drop-cons marks k false h, drop-cons numbers k 0 l)
 
 pub least-end : (c n : ℕ) (marks : List Bool) (numbers : List ℕ) → length marks ≡ n → least c (drop n marks) (drop n numbers) ≡ c
-least-end c n marks numbers e = ap (λ (l : List Bool). least c l (drop n numbers)) (drop-of-length-le marks {i = n} (omega arith)) ∙ least-none c (drop n numbers)
+least-end c n marks numbers e =
+    ap (λ (l : List Bool). least c l (drop n numbers)) (drop-of-length-le marks {i = n} (omega arith)) ∙ least-none c (drop n numbers)

@@ -36,7 +36,7 @@ journalB words ends n = allOf (allB n (stepB words ends) ∷ zerosB (drop (start
 
 -- "An open place records the anchor at its issue; a closed one records 0", "no open place's number above the anchor"
 abbrev pub slotB : ℕ → List Bool → List ℕ → ℕ → Bool
-slotB checkpoint held issued k = cond (getD held k false) (leb (getD issued k 0) checkpoint) (eqb (getD issued k 0) 0)
+slotB checkpoint taken issued k = cond (getD taken k false) (leb (getD issued k 0) checkpoint) (eqb (getD issued k 0) 0)
 
 abbrev pub slotsB : ℕ → List Bool → List ℕ → Bool
-slotsB checkpoint held issued = allB 8 (slotB checkpoint held issued)
+slotsB checkpoint taken issued = allB 8 (slotB checkpoint taken issued)

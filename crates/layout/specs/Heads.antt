@@ -12,7 +12,7 @@ withTable head used checkpoint = record {
   oldest = head .oldest;
   checkpoint = checkpoint;
   tip = head .tip;
-  held = head .held;
+  taken = head .taken;
   issued = head .issued;
   ends = head .ends;
 }
@@ -24,19 +24,19 @@ withSteps head tip ends = record {
   oldest = head .oldest;
   checkpoint = head .checkpoint;
   tip = tip;
-  held = head .held;
+  taken = head .taken;
   issued = head .issued;
   ends = ends;
 }
 
 -- the head of a store whose slots are open where this says so, each issued at its number: issue, forward, release
 abbrev pub withSlots : Head → List Bool → List ℕ → Head
-withSlots head held issued = record {
+withSlots head taken issued = record {
   used = head .used;
   oldest = head .oldest;
   checkpoint = head .checkpoint;
   tip = head .tip;
-  held = held;
+  taken = taken;
   issued = issued;
   ends = head .ends;
 }
@@ -48,7 +48,7 @@ withFloor head oldest ends = record {
   oldest = oldest;
   checkpoint = head .checkpoint;
   tip = head .tip;
-  held = head .held;
+  taken = head .taken;
   issued = head .issued;
   ends = ends;
 }

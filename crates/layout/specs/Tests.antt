@@ -1,4 +1,4 @@
--- Tests over words and places, of which soundness is made.
+-- Tests over words and positions, of which soundness is made.
 -- Assumes nothing.
 use mathlib.Core.Bool.{Bool, true, cond, _&&_}
 use mathlib.Core.List.{List, [], _∷_}

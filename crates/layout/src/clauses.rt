@@ -32,7 +32,7 @@ pub fn lengths_fit(table: usize, journal: usize) -> bool
     journal <= JOURNAL_WORDS
 }
 
-// Whether all words are zero: joined by `|`, so that the compiler can take several words in a turn.
+// Whether all words are zero: joined by `|`, so that the compiler can take several words in an iteration.
 pub fn is_zero(words: &[u64]) -> bool
     ensures { λ r. ⌜ r ≡ zerosB (now (words .entry)) ⌝ }
 {
@@ -71,7 +71,8 @@ pub fn numbers_fit(oldest: u32, checkpoint: u32, tip: u32) -> bool
 
 // Whether a step that lies from start to end in the journal is a list.
 fn is_step(journal: &[u64], start: usize, end: usize) -> bool
-    ensures { λ r. ⌜ r ≡ allOf (leb start end ∷ leb end (length (now (journal .entry))) ∷ listB (take (end - start) (drop start (now (journal .entry)))) ∷ []) ⌝ }
+    ensures { λ r. ⌜ r ≡ allOf
+        (leb start end ∷ leb end (length (now (journal .entry))) ∷ listB (take (end - start) (drop start (now (journal .entry)))) ∷ []) ⌝ }
 {
     if end < start {
         return false;
@@ -123,12 +124,12 @@ fn slot_fits(is_open: bool, number: u32, checkpoint: u32) -> bool
     number == 0
 }
 
-pub fn slots_fit(checkpoint: u32, held: [bool; SLOTS], issued: [u32; SLOTS]) -> bool
-    ensures { λ r. ⌜ r ≡ slotsB checkpoint held issued ⌝ }
+pub fn slots_fit(checkpoint: u32, taken: [bool; SLOTS], issued: [u32; SLOTS]) -> bool
+    ensures { λ r. ⌜ r ≡ slotsB checkpoint taken issued ⌝ }
 {
     let mut k = 0;
     while k < SLOTS {
-        if !slot_fits(held[k], issued[k], checkpoint) {
+        if !slot_fits(taken[k], issued[k], checkpoint) {
             return false;
         }
         k += 1;
@@ -149,13 +150,13 @@ fn lower(least: u32, is_open: bool, number: u32) -> u32
 }
 
 // The least of the checkpoint and the numbers of the open slots.
-pub fn least_of(checkpoint: u32, held: [bool; SLOTS], issued: [u32; SLOTS]) -> u32
-    ensures { λ r. ⌜ r ≡ least checkpoint held issued ⌝ }
+pub fn least_of(checkpoint: u32, taken: [bool; SLOTS], issued: [u32; SLOTS]) -> u32
+    ensures { λ r. ⌜ r ≡ least checkpoint taken issued ⌝ }
 {
     let mut found = checkpoint;
     let mut k = SLOTS;
     while 0 < k {
-        found = lower(found, held[k - 1], issued[k - 1]);
+        found = lower(found, taken[k - 1], issued[k - 1]);
         k -= 1;
     }
     found

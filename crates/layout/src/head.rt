@@ -27,7 +27,7 @@ pub struct Head {
     // The number of the newest state.
     pub tip: u32,
     // Which slots are open (reading places), and the checkpoint at the issue of each; a closed one has 0.
-    pub held: [bool; SLOTS],
+    pub taken: [bool; SLOTS],
     pub issued: [u32; SLOTS],
     // Where each held step ends in the journal (marks); marks not in use are 0.
     pub ends: [usize; MARKS],

@@ -13,7 +13,7 @@ use Rattle.answers.specs.declared.call.Call.the-variants.{Reset, Step, Read, As
 use Rattle.answers.specs.declared.call.Query.{Query}
 use Rattle.answers.specs.declared.call.Reset.{Reset as ResetCall}
 use Rattle.answers.specs.declared.call.Reset.the-variants.{Clear, Load, Restart}
-use Rattle.answers.specs.declared.refusal.Refusal.the-variants.{Lengths, Unsound}
+use Rattle.answers.specs.declared.ground.Ground.the-variants.{Lengths, Unsound}
 use Rattle.answers.specs.declared.tally.Tally.{Tally}
 use Rattle.answers.specs.Answers.{acceptedB, saidBy}
 use Rattle.answers.specs.Counts.{counts}

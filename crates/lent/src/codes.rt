@@ -1,7 +1,7 @@
 // What a C program reads of an answer.
 use answers::answer::Answer;
-use answers::refusal::Refusal;
-use answers::refusal::number;
+use answers::ground::Ground;
+use answers::ground::number;
 ghost use mathlib.Core.Path.{_≡_};
 ghost use Rattle.answers.specs.Answers.{saidBy};
 ghost use Rattle.answers.specs.Numbers.{numberOf};
@@ -11,7 +11,7 @@ ghost use Rattle.lent.specs.Codes.{codeOf, valueOf};
 pub const NO_PRICE: u64 = 100;
 
 // The code of a ground.
-fn ground_code(ground: Refusal) -> u64
+fn ground_code(ground: Ground) -> u64
     ensures { λ r. ⌜ r ≡ numberOf ground ⌝ }
 {
     number(ground) as u64

@@ -2,7 +2,7 @@
 use answers::answer::Answer;
 use answers::call::Call;
 use answers::call::Reset;
-use answers::refusal::Refusal;
+use answers::ground::Ground;
 use head_words::HEAD_WORDS;
 use head_words::is_head;
 use layout::clauses::lengths_fit;
@@ -56,7 +56,7 @@ pub fn unfit_answer(table: usize, journal: usize) -> Answer
     ensures { λ r. ⌜ r ≡ unfit table journal ⌝ }
 {
     if lengths_fit(table, journal) {
-        return Answer::Refused(Refusal::Unsound);
+        return Answer::Refused(Ground::Unsound);
     }
-    Answer::Refused(Refusal::Lengths)
+    Answer::Refused(Ground::Lengths)
 }

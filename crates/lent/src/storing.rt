@@ -37,7 +37,8 @@ fn put_tally(words: &mut [u64], tally: Tally)
 // Puts the head of a reply into its words, where the call was accepted, and gives the answer.
 fn put_reply(words: &mut [u64], reply: Reply) -> Answer
     requires { ⌜ length (now words) ≡ 84 ⌝ }
-    ensures { λ r. ⌜ (r ≡ reply .answer) × (now (words .exit) ≡ cond (acceptedB (reply .answer)) (wordsOf (reply .head)) (now (words .entry))) ⌝ }
+    ensures { λ r. ⌜ (r ≡ reply .answer)
+        × (now (words .exit) ≡ cond (acceptedB (reply .answer)) (wordsOf (reply .head)) (now (words .entry))) ⌝ }
 {
     let answer = reply.answer;
     if !is_accepted(answer) {
@@ -50,7 +51,9 @@ fn put_reply(words: &mut [u64], reply: Reply) -> Answer
 // Puts head and tally as a call left them into their words, and gives the answer.
 pub fn put_served(head: &mut [u64], tally: &mut [u64], served: Served) -> Answer
     requires { ⌜ (length (now head) ≡ 84) × (length (now tally) ≡ 3) ⌝ }
-    ensures { λ r. ⌜ (r ≡ served .reply .answer) × (now (head .exit) ≡ cond (acceptedB (served .reply .answer)) (wordsOf (served .reply .head)) (now (head .entry))) × (now (tally .exit) ≡ tallyWords (served .tally)) ⌝ }
+    ensures { λ r. ⌜ (r ≡ served .reply .answer)
+        × (now (head .exit) ≡ cond (acceptedB (served .reply .answer)) (wordsOf (served .reply .head)) (now (head .entry)))
+        × (now (tally .exit) ≡ tallyWords (served .tally)) ⌝ }
 {
     let counts = served.tally;
     put_tally(tally, counts);

@@ -14,7 +14,7 @@ use Rattle.answers.specs.declared.answer.Answer.{Answer}
 use Rattle.answers.specs.declared.answer.Answer.the-variants.{Done, Refused as Away}
 use Rattle.answers.specs.declared.answer.Check.{Check}
 use Rattle.answers.specs.declared.answer.Check.the-variants.{Passed, Refused}
-use Rattle.answers.specs.declared.refusal.Refusal.{Refusal}
+use Rattle.answers.specs.declared.ground.Ground.{Ground}
 use Rattle.answers.specs.Answers.{answered}
 use Rattle.answers.specs.First.{first}
 use Rattle.answers.specs.Numbers.{numberOf}
@@ -26,16 +26,16 @@ use Rattle.layout.specs.declared.head.Head.{Head}
 use Rattle.views.specs.View.{padded}
 use Rattle.views.proofs.Views.{padded-length}
 use Rattle.listing_text.specs.Listing.{textOf, refusalText}
-use Rattle.snapshot.specs.Calls.{loadGrounds, loadCheck, loadHead, loadTable}
+use Rattle.snapshot.specs.Snapshots.{loadGrounds, loadCheck, loadHead, loadTable}
 use Rattle.snapshot.specs.Fresh.{freshHead}
-use Rattle.snapshot.proofs.Accepted.{LoadOk, load-ok}
+use Rattle.snapshot.proofs.ImagesAccepted.{LoadOk, load-ok}
 use Rattle.listing.specs.Report.{reportOf, byCheck, Rendered}
 
 -- an answer that names no ground
 abbrev pub NoGround : Answer → Type 0
 NoGround answer = OneOf (0 ∷ 1 ∷ 2 ∷ 3 ∷ []) (tagOf the-type answer)
 
-refused-not : (g : Refusal) → NoGround (Away g) → ⊥
+refused-not : (g : Ground) → NoGround (Away g) → ⊥
 refused-not g (inl e) = omega arith
 refused-not g (inr (inl e)) = omega arith
 refused-not g (inr (inr (inl e))) = omega arith
@@ -46,7 +46,7 @@ passed-of : {answer : Answer} (check : Check) → answer ≡ answered check Done
 passed-of Passed e h = refl
 passed-of (Refused g) e h = absurd (refused-not g (subst NoGround e h))
 
-refused-of : {g : Refusal} (check : Check) → Away g ≡ answered check Done → check ≡ Refused g
+refused-of : {g : Ground} (check : Check) → Away g ≡ answered check Done → check ≡ Refused g
 refused-of Passed e = absurd (let z : _≡_ {A = ℕ} 0 1 = cc in omega arith)
 refused-of (Refused h) e = cc
 
@@ -73,7 +73,7 @@ module _ (table journal image : List ℕ) (lt : length table ≡ 8000) (lj : len
       ∙ ap₂ (λ (t j : ℕ). byCheck (first (loadGrounds t j image)) image) (sym lt) (sym lj)
       ∙ ap (λ (check : Check). byCheck check image) e
 
-  pub report-refused : {g : Refusal} → answer ≡ Away g → refusalText (numberOf g) ≡ reportOf image
+  pub report-refused : {g : Ground} → answer ≡ Away g → refusalText (numberOf g) ≡ reportOf image
   report-refused e = sym (here (refused-of (loadCheck table journal image) (sym e ∙ ea)))
 
   module _ (e : loadCheck table journal image ≡ Passed) {h : Head} (before : Head) (eh : h ≡ loadHead table journal image before)

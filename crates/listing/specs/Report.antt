@@ -12,7 +12,7 @@ use Rattle.answers.specs.First.{first}
 use Rattle.answers.specs.Numbers.{numberOf}
 use Rattle.image.specs.Image.{numberIn, wordsIn}
 use Rattle.listing_text.specs.Listing.{textOf, refusalText}
-use Rattle.snapshot.specs.Calls.{loadGrounds, loadTable, loadJournal}
+use Rattle.snapshot.specs.Snapshots.{loadGrounds, loadTable, loadJournal}
 
 -- the listing, or the line of the refusal
 abbrev pub byCheck : Check → List ℕ → List ℕ

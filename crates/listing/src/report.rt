@@ -1,6 +1,6 @@
 // What the listing prints, rendered into lent bytes.
 use answers::answer::Answer;
-use answers::refusal::number;
+use answers::ground::number;
 use listing_text::listing::render;
 use listing_text::listing::render_refusal;
 use snapshot::fresh::fresh_head;
@@ -17,7 +17,9 @@ pub const IMAGE_BYTES: usize = 64006;
 // the bytes behind it stay. The table has 8,000 words, and `text` has room for the longest listing.
 pub fn report(image: &[u8], table: &mut [u64], journal: &mut [u64], text: &mut [u8]) -> usize
     requires { ⌜ (length (now table) ≡ 8000) × (length (now journal) ≡ 1) × (176045 ≤ length (now text)) ⌝ }
-    ensures { λ r. ⌜ Rendered (reportOf (now (image .entry))) (now (text .entry)) (now (text .exit)) r × (now (table .exit) ≡ tableAfter (now (table .entry)) (now (journal .entry)) (now (image .entry))) × (now (journal .exit) ≡ journalAfter (now (table .entry)) (now (journal .entry)) (now (image .entry))) ⌝ }
+    ensures { λ r. ⌜ Rendered (reportOf (now (image .entry))) (now (text .entry)) (now (text .exit)) r
+        × (now (table .exit) ≡ tableAfter (now (table .entry)) (now (journal .entry)) (now (image .entry)))
+        × (now (journal .exit) ≡ journalAfter (now (table .entry)) (now (journal .entry)) (now (image .entry))) ⌝ }
 {
     if IMAGE_BYTES < image.len() {
         return render_refusal(15, text);

@@ -28,7 +28,8 @@ within-same zero g n h k = within-one zero n (omega arith) ∙ sym (within-one g
 within-same (suc f) zero n h k = within-one (suc f) n (omega arith) ∙ sym (within-one zero n (omega arith))
 within-same (suc f) (suc g) n h k = go (decLt n 10) (within-same f g (n / 10))
   where
-    go : Dec (n < 10) → (n / 10 ≤ f → n / 10 ≤ g → decimalWithin f (n / 10) ≡ decimalWithin g (n / 10)) → decimalWithin (suc f) n ≡ decimalWithin (suc g) n
+    go : Dec (n < 10) → (n / 10 ≤ f → n / 10 ≤ g → decimalWithin f (n / 10) ≡ decimalWithin g (n / 10))
+        → decimalWithin (suc f) n ≡ decimalWithin (suc g) n
     go (yes l) same = within-one (suc f) n l ∙ sym (within-one (suc g) n l)
     go (no l) same =
         let ten : 10 ≤ n = omega arith in
@@ -44,7 +45,8 @@ pub decimal-more : (n : ℕ) → 10 ≤ n → decimalOf n ≡ decimalOf (n / 10)
 unfolding decimalOf
 decimal-more zero h = absurd (omega arith)
 decimal-more (suc m) h =
-    within-more m (suc m) h ∙ ap (λ (d : List ℕ). d ++ digit (suc m % 10)) (within-same m (suc m / 10) (suc m / 10) (omega arith) (omega arith))
+    within-more m (suc m) h ∙ ap (λ (d : List ℕ). d ++ digit (suc m % 10))
+    (within-same m (suc m / 10) (suc m / 10) (omega arith) (omega arith))
 
 pub length-one : (n : ℕ) → n < 10 → length (decimalOf n) ≡ 1
 length-one n h = ap length (decimal-one n h)
@@ -83,14 +85,16 @@ module _ (out : List ℕ) (at n : ℕ) where
   pub one-stored : n < 10 → at < length out → Stored out at (decimalOf n) (at + 1) (set out at (48 + n))
   one-stored h l =
       record {
-        place = omega (arith, length-one n h);
+        position = omega (arith, length-one n h);
         bytes = completed (stored (start-at out (decimalOf n) at (omega arith)) (decimal-one n h) l);
       }
 
-  pub last-stored : 10 ≤ n → {mid : List ℕ} {end : ℕ} → Stored out at (decimalOf (n / 10)) end mid → end < length out → Stored out at (decimalOf n) (end + 1) (set mid end (48 + n % 10))
+  pub last-stored : 10 ≤ n → {mid : List ℕ} {end : ℕ} → Stored out at (decimalOf (n / 10)) end mid → end < length out
+      → Stored out at (decimalOf n) (end + 1) (set mid end (48 + n % 10))
   last-stored h {mid} {end} s l =
-      let others = wrote-piece (start-at out (decimalOf n) at (omega (arith, s .place))) (decimalOf (n / 10)) (digit (n % 10)) (decimal-more n h) end (s .place) (omega arith) (s .bytes) in
+      let others = wrote-piece (start-at out (decimalOf n) at (omega (arith, s .position))) (decimalOf (n / 10))
+      (digit (n % 10)) (decimal-more n h) end (s .position) (omega arith) (s .bytes) in
       record {
-        place = omega (arith, length-more n h, s .place);
+        position = omega (arith, length-more n h, s .position);
         bytes = completed (stored others refl (omega (arith, others .same)));
       }

@@ -16,12 +16,14 @@ use Rattle.listing_text.specs.Stored.{Stored}
 use Rattle.listing_text.proofs.Digits.{digits-32, digits-64}
 
 -- two pieces stored one behind the other are one piece
-pub both : {out : List ℕ} {at : ℕ} {p : List ℕ} {r : ℕ} {mid : List ℕ} → Stored out at p r mid → {q : List ℕ} {s : ℕ} {last : List ℕ} → Stored mid r q s last → s ≤ length out → Stored out at (p ++ q) s last
+pub both : {out : List ℕ} {at : ℕ} {p : List ℕ} {r : ℕ} {mid : List ℕ} → Stored out at p r mid
+    → {q : List ℕ} {s : ℕ} {last : List ℕ} → Stored mid r q s last → s ≤ length out → Stored out at (p ++ q) s last
 both {out} {at} {p} {r} {mid} a {q} {s} {last} b room =
-    let first = wrote-piece (start-at out (p ++ q) at (omega (arith, a .place, b .place))) p q refl r (a .place) (omega (arith, b .place)) (a .bytes) in
-    let second = wrote-piece first q [] (sym (append-nil q)) s (b .place) (omega (arith, first .same)) (b .bytes) in
+    let first = wrote-piece (start-at out (p ++ q) at (omega (arith, a .position, b .position))) p q refl r
+    (a .position) (omega (arith, b .position)) (a .bytes) in
+    let second = wrote-piece first q [] (sym (append-nil q)) s (b .position) (omega (arith, first .same)) (b .bytes) in
     record {
-      place = omega (arith, a .place, b .place, length-append p q);
+      position = omega (arith, a .position, b .position, length-append p q);
       bytes = completed second;
     }
 
@@ -51,7 +53,7 @@ pub line-length : (w : ℕ) → length (lineOf w) ≤ 22
 unfolding lineOf codes
 line-length w = simp length-append (omega (arith, digits-32 (offerOf w) (omega arith), digits-32 (priceOf w) (omega arith)))
 
--- the lines from a place on, as a loop meets them
+-- the lines from a position on, as a loop meets them
 pub lines-next : (l : List ℕ) (i : ℕ) → i < length l → linesOf (drop i l) ≡ lineOf (getD l i 0) ++ linesOf (drop (i + 1) l)
 unfolding linesOf
 lines-next l i h = rw (next l i h)
@@ -61,7 +63,9 @@ unfolding linesOf
 lines-end l i h = rw (drop-of-length-le l h)
 
 -- the first line is stored, and the lines of the words are left
-pub header-stored : {out : List ℕ} (n : ℕ) (words : List ℕ) {r : ℕ} {last : List ℕ} → Stored out 0 (headerOf n (length words)) r last → r ≤ length out → Writing last out r (linesOf words) (textOf n words)
+pub header-stored : {out : List ℕ} (n : ℕ) (words : List ℕ) {r : ℕ} {last : List ℕ}
+    → Stored out 0 (headerOf n (length words)) r last → r ≤ length out → Writing last out r (linesOf words) (textOf n words)
 unfolding textOf
 header-stored {out} n words {r} {last} s room =
-    wrote-piece (start out (headerOf n (length words) ++ linesOf words)) (headerOf n (length words)) (linesOf words) refl r (s .place) room (s .bytes)
+    wrote-piece (start out (headerOf n (length words) ++ linesOf words)) (headerOf n (length words)) (linesOf words)
+    refl r (s .position) room (s .bytes)

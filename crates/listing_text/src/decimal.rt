@@ -1,10 +1,10 @@
-// Text and numbers in decimal, stored from a place on.
+// Text and numbers in decimal, stored from a position on.
 ghost use Prim.Native.Nat.{_+_, _≤_};
 ghost use lib.ListN.{length};
 ghost use Rattle.listing_text.specs.Decimal.{decimalOf};
 ghost use Rattle.listing_text.specs.Stored.{Stored};
 
-// Stores the text from a place on, and gives the place behind it; all other bytes stay.
+// Stores the text from a position on, and gives the position behind it; all other bytes stay.
 pub fn put_text(text: &[u8], out: &mut [u8], at: usize) -> usize
     requires { ⌜ at + length (now text) ≤ length (now out) ⌝ }
     ensures { λ r. ⌜ Stored (now (out .entry)) at (now (text .entry)) r (now (out .exit)) ⌝ }
@@ -19,7 +19,7 @@ pub fn put_text(text: &[u8], out: &mut [u8], at: usize) -> usize
     k
 }
 
-// Stores the number from a place on, and gives the place behind it; all other bytes stay.
+// Stores the number from a position on, and gives the position behind it; all other bytes stay.
 pub fn put_decimal(number: u64, out: &mut [u8], at: usize) -> usize
     requires { ⌜ at + length (decimalOf number) ≤ length (now out) ⌝ }
     ensures { λ r. ⌜ Stored (now (out .entry)) at (decimalOf number) r (now (out .exit)) ⌝ }

@@ -9,7 +9,7 @@ ghost use lib.ListN.{length, drop};
 ghost use Rattle.listing_text.specs.Listing.{headerOf, lineOf, textOf, refusalText};
 ghost use Rattle.listing_text.specs.Stored.{Stored};
 
-// Stores the first line at the start, and gives the place behind it; all other bytes stay. Its words take 15
+// Stores the first line at the start, and gives the position behind it; all other bytes stay. Its words take 15
 // bytes, a state number at most 10 and a count at most 20.
 fn put_header(state: u32, count: usize, out: &mut [u8]) -> usize
     requires { ⌜ 45 ≤ length (now out) ⌝ }
@@ -22,7 +22,7 @@ fn put_header(state: u32, count: usize, out: &mut [u8]) -> usize
     put_text(b"\n", out, counted)
 }
 
-// Stores a word's line from a place on, and gives the place behind it; all other bytes stay. An offer and a
+// Stores a word's line from a position on, and gives the position behind it; all other bytes stay. An offer and a
 // price take at most 10 bytes each.
 fn put_line(word: u64, out: &mut [u8], at: usize) -> usize
     requires { ⌜ at + 22 ≤ length (now out) ⌝ }
@@ -40,7 +40,8 @@ fn put_line(word: u64, out: &mut [u8], at: usize) -> usize
 // it stay. There is room for the longest listing of so many words.
 pub fn render(state: u32, words: &[u64], out: &mut [u8]) -> usize
     requires { ⌜ 45 + 22 * length (now words) ≤ length (now out) ⌝ }
-    ensures { λ r. ⌜ (r ≡ length (textOf state (now (words .entry)))) × (now (out .exit) ≡ textOf state (now (words .entry)) ++ drop r (now (out .entry))) ⌝ }
+    ensures { λ r. ⌜ (r ≡ length (textOf state (now (words .entry))))
+        × (now (out .exit) ≡ textOf state (now (words .entry)) ++ drop r (now (out .entry))) ⌝ }
 {
     let mut at = put_header(state, words.len(), out);
     let mut i = 0;

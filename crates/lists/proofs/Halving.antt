@@ -9,12 +9,12 @@ use native.Mathlib.Omega.{arith}
 use borrow.Author.Tests.{le-leb, lt-leb}
 use lib.Dec.{leb}
 use lib.ListN.{length, getD}
-use Rattle.entry.specs.Word.{offerOf, markOf}
+use Rattle.entry.specs.Word.{offerOf, bitOf}
 use Rattle.changes.specs.Lists.{From}
 use Rattle.changes.specs.declared.search.Found.the-variants.{Nothing}
 use Rattle.changes.specs.Calculus.{find}
 use Rattle.changes.proofs.Find.{find-nowhere, not-below-at, rises-at}
-use Rattle.lists.specs.Places.{OnlyAt}
+use Rattle.lists.specs.Positions.{OnlyAt}
 
 pub record Halving (words : List ℕ) (offer low size : ℕ) : Type 0 where
   pub inside : low + size ≤ length words
@@ -29,10 +29,10 @@ halving words offer =
       above = λ i h b. absurd (omega arith);
     }
 
--- a mark is at most 1
-pub mark-times : (n r : ℕ) (b : Bool) → r ≡ markOf b → n * r ≤ n
-mark-times n r true e = rw (e) (omega arith)
-mark-times n r false e = rw (e) (omega arith)
+-- a flag is at most 1
+pub flag-times : (n r : ℕ) (b : Bool) → r ≡ bitOf b → n * r ≤ n
+flag-times n r true e = rw (e) (omega arith)
+flag-times n r false e = rw (e) (omega arith)
 
 module _ {words : List ℕ} {offer low size : ℕ} (s : Halving words offer low size) where
   pub one-left : size ≤ 1 → OnlyAt words offer low
@@ -66,7 +66,7 @@ module _ {words : List ℕ} {offer low size : ℕ} (s : Halving words offer low 
           above = λ i k l. omega (arith, not-below-at 0 words rises (low + half) i (omega arith) l);
         }
 
-    pub halved : (r : ℕ) → r ≡ markOf (leb there offer) → Halving words offer (low + half * r) (size - half)
+    pub halved : (r : ℕ) → r ≡ bitOf (leb there offer) → Halving words offer (low + half * r) (size - half)
     halved r e = go (decLt offer there)
       where
         go : Dec (offer < there) → Halving words offer (low + half * r) (size - half)
@@ -77,11 +77,11 @@ module _ {words : List ℕ} {offer low size : ℕ} (s : Halving words offer low 
             let bit : r ≡ 1 = rw (le-leb there offer (omega arith)) at e in
             subst (λ (n : ℕ). Halving words offer (low + half * n) (size - half)) (sym bit) (upper (omega arith))
 
--- the mark, worked out by a difference
-pub reached : (there offer : ℕ) → there < 2 ^ 32 → offer < 2 ^ 32 → (offer + 2 ^ 32 - there) / 2 ^ 32 ≡ markOf (leb there offer)
+-- the flag, worked out by a difference
+pub reached : (there offer : ℕ) → there < 2 ^ 32 → offer < 2 ^ 32 → (offer + 2 ^ 32 - there) / 2 ^ 32 ≡ bitOf (leb there offer)
 reached there offer t o = go (decLt offer there)
   where
-    go : Dec (offer < there) → (offer + 2 ^ 32 - there) / 2 ^ 32 ≡ markOf (leb there offer)
+    go : Dec (offer < there) → (offer + 2 ^ 32 - there) / 2 ^ 32 ≡ bitOf (leb there offer)
     go (yes l) =
         let bit : (offer + 2 ^ 32 - there) / 2 ^ 32 ≡ 0 = omega arith in
         bit ∙ rw (lt-leb there offer l)
@@ -89,7 +89,7 @@ reached there offer t o = go (decLt offer there)
         let bit : (offer + 2 ^ 32 - there) / 2 ^ 32 ≡ 1 = omega arith in
         bit ∙ rw (le-leb there offer (omega arith))
 
--- the word at the only place is the word found
+-- the word at the only position is the word found
 module _ (words : List ℕ) (offer at : ℕ) (only : OnlyAt words offer at) where
   pub none-there : length words ≤ at → find offer words ≡ Nothing
   none-there h = find-nowhere offer words (λ i l e. absurd (omega (arith, only i l e)))

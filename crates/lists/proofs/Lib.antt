@@ -1,4 +1,4 @@
 pub mod Halving
 mod Pairs
 mod Scans
-mod Turns
+mod InOrder

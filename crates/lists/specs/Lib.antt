@@ -1,2 +1,2 @@
 pub mod Pairs
-pub mod Places
+pub mod Positions

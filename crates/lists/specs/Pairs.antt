@@ -11,7 +11,7 @@ use Rattle.entry.specs.Word.{offerOf}
 abbrev pub pairB : (ℕ → Bool) → ℕ → ℕ → Bool
 pairB passes before word = passes word && ltb (offerOf before) (offerOf word)
 
--- and so do n words in turn, the first of them the one behind a place
+-- and so do n words in turn, the first of them the one behind a position
 unfoldable pub pairsB : (ℕ → Bool) → List ℕ → ℕ → ℕ → Bool
 pairsB passes words from zero = true
 pairsB passes words from (suc n) = pairB passes (getD words from 0) (getD words (from + 1) 0) && pairsB passes words (from + 1) n

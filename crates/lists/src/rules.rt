@@ -1,11 +1,11 @@
-// The rules of a list (document 01, "What the unit holds"). A scan joins the marks of its words and looks at the bit once for a block
+// The rules of a list (document 01, "What the unit holds"). A scan joins the flags of its words and looks at the bit once for a block
 // of many: straight-line code, of which the compiler takes four words at a time. The last block starts early enough to end with the
 // words, so that none is left over; the pairs that it shares with the block before are tested twice.
 use entry::Entry;
 ghost use mathlib.Core.Path.{_≡_};
 ghost use Prim.Native.Nat.{_+_, _-_, _<_, min};
 ghost use lib.ListN.{length, getD};
-ghost use Rattle.entry.specs.Word.{isPut, Put, validB, markOf, topOf};
+ghost use Rattle.entry.specs.Word.{isPut, Put, validB, bitOf, topOf};
 ghost use Rattle.changes.specs.Lists.{listB, mapB};
 ghost use Rattle.lists.specs.Pairs.{pairsB};
 
@@ -17,7 +17,7 @@ const LIST_BLOCK: usize = 16;
 
 const MAP_BLOCK: usize = 32;
 
-// The lesser of two places.
+// The lesser of two positions.
 fn lesser(a: usize, b: usize) -> usize
     ensures { λ r. ⌜ r ≡ min a b ⌝ }
 {
@@ -27,10 +27,10 @@ fn lesser(a: usize, b: usize) -> usize
     b
 }
 
-// The mark of four words behind a place that each follow the one before.
+// The flag of four words behind a position that each follow the one before.
 fn four_follow(words: &[u64], from: usize) -> u32
     requires { ⌜ from + 4 < length (now words) ⌝ }
-    ensures { λ r. ⌜ topOf r ≡ markOf (pairsB validB (now (words .entry)) from 4) ⌝ }
+    ensures { λ r. ⌜ topOf r ≡ bitOf (pairsB validB (now (words .entry)) from 4) ⌝ }
 {
     Entry::follows(words[from], words[from + 1])
         & Entry::follows(words[from + 1], words[from + 2])
@@ -38,10 +38,10 @@ fn four_follow(words: &[u64], from: usize) -> u32
         & Entry::follows(words[from + 3], words[from + 4])
 }
 
-// The mark of a block of words that each follow the one before.
+// The flag of a block of words that each follow the one before.
 fn block_follows(words: &[u64], from: usize) -> u32
     requires { ⌜ from + 16 < length (now words) ⌝ }
-    ensures { λ r. ⌜ topOf r ≡ markOf (pairsB validB (now (words .entry)) from 16) ⌝ }
+    ensures { λ r. ⌜ topOf r ≡ bitOf (pairsB validB (now (words .entry)) from 16) ⌝ }
 {
     four_follow(words, from)
         & four_follow(words, from + 4)
@@ -58,7 +58,7 @@ fn many_follow(words: &[u64]) -> bool
     let mut i = 0;
     while i + 1 < words.len() {
         let from = lesser(i, last);
-        if Entry::mark_bit(block_follows(words, from)) == 0 {
+        if Entry::flag_bit(block_follows(words, from)) == 0 {
             return false;
         }
         i = from + LIST_BLOCK;
@@ -71,13 +71,13 @@ fn few_follow(words: &[u64]) -> bool
     requires { ⌜ 0 < length (now words) ⌝ }
     ensures { λ r. ⌜ r ≡ pairsB validB (now (words .entry)) 0 (length (now (words .entry)) - 1) ⌝ }
 {
-    let mut good = Entry::MARK;
+    let mut good = Entry::FLAG;
     let mut i = 1;
     while i < words.len() {
         good = good & Entry::follows(words[i - 1], words[i]);
         i += 1;
     }
-    Entry::mark_bit(good) == 1
+    Entry::flag_bit(good) == 1
 }
 
 // Whether the words are a list: at most 64, each valid, with strictly rising offers.
@@ -90,7 +90,7 @@ pub fn is_list(words: &[u64]) -> bool
     if words.len() == 0 {
         return true;
     }
-    if Entry::mark_bit(Entry::valid_mark(words[0])) == 0 {
+    if Entry::flag_bit(Entry::valid_flag(words[0])) == 0 {
         return false;
     }
     if words.len() <= LIST_BLOCK {
@@ -99,10 +99,10 @@ pub fn is_list(words: &[u64]) -> bool
     many_follow(words)
 }
 
-// The mark of four words behind a word of kind 1, each of kind 1 and with an offer above that of the one before.
+// The flag of four words behind a word of kind 1, each of kind 1 and with an offer above that of the one before.
 fn four_climb(words: &[u64], from: usize) -> u32
     requires { ⌜ from + 4 < length (now words) ⌝ }
-    ensures { λ r. ⌜ (Put (getD (now (words .entry)) from 0) → topOf r ≡ markOf (pairsB isPut (now (words .entry)) from 4)) ⌝ }
+    ensures { λ r. ⌜ (Put (getD (now (words .entry)) from 0) → topOf r ≡ bitOf (pairsB isPut (now (words .entry)) from 4)) ⌝ }
 {
     Entry::climbs(words[from], words[from + 1])
         & Entry::climbs(words[from + 1], words[from + 2])
@@ -113,7 +113,7 @@ fn four_climb(words: &[u64], from: usize) -> u32
 // The same of sixteen words.
 fn sixteen_climb(words: &[u64], from: usize) -> u32
     requires { ⌜ from + 16 < length (now words) ⌝ }
-    ensures { λ r. ⌜ (Put (getD (now (words .entry)) from 0) → topOf r ≡ markOf (pairsB isPut (now (words .entry)) from 16)) ⌝ }
+    ensures { λ r. ⌜ (Put (getD (now (words .entry)) from 0) → topOf r ≡ bitOf (pairsB isPut (now (words .entry)) from 16)) ⌝ }
 {
     four_climb(words, from)
         & four_climb(words, from + 4)
@@ -124,7 +124,7 @@ fn sixteen_climb(words: &[u64], from: usize) -> u32
 // The same of a block.
 fn block_climbs(words: &[u64], from: usize) -> u32
     requires { ⌜ from + 32 < length (now words) ⌝ }
-    ensures { λ r. ⌜ (Put (getD (now (words .entry)) from 0) → topOf r ≡ markOf (pairsB isPut (now (words .entry)) from 32)) ⌝ }
+    ensures { λ r. ⌜ (Put (getD (now (words .entry)) from 0) → topOf r ≡ bitOf (pairsB isPut (now (words .entry)) from 32)) ⌝ }
 {
     sixteen_climb(words, from) & sixteen_climb(words, from + 16)
 }
@@ -139,7 +139,7 @@ fn many_climb(words: &[u64]) -> bool
     let mut i = 0;
     while i + 1 < words.len() {
         let from = lesser(i, last);
-        if Entry::mark_bit(block_climbs(words, from)) == 0 {
+        if Entry::flag_bit(block_climbs(words, from)) == 0 {
             return false;
         }
         i = from + MAP_BLOCK;
@@ -152,13 +152,13 @@ fn few_climb(words: &[u64]) -> bool
     requires { ⌜ (0 < length (now words)) × Put (getD (now words) 0 0) ⌝ }
     ensures { λ r. ⌜ r ≡ pairsB isPut (now (words .entry)) 0 (length (now (words .entry)) - 1) ⌝ }
 {
-    let mut good = Entry::MARK;
+    let mut good = Entry::FLAG;
     let mut i = 1;
     while i < words.len() {
         good = good & Entry::climbs(words[i - 1], words[i]);
         i += 1;
     }
-    Entry::mark_bit(good) == 1
+    Entry::flag_bit(good) == 1
 }
 
 // Whether the words are a map: of kind 1, with strictly rising offers.

@@ -3,20 +3,20 @@ use changes::search::Found;
 use entry::Entry;
 ghost use mathlib.Core.Path.{_≡_};
 ghost use lib.Dec.{leb};
-ghost use Rattle.entry.specs.Word.{markOf};
+ghost use Rattle.entry.specs.Word.{bitOf};
 ghost use Rattle.changes.specs.Calculus.{find};
 ghost use Rattle.changes.specs.Lists.{From};
-ghost use Rattle.lists.specs.Places.{OnlyAt};
+ghost use Rattle.lists.specs.Positions.{OnlyAt};
 
-// 1 where an offer is not above another, else 0. A search multiplies by it, so that no turn of it branches.
+// 1 where an offer is not above another, else 0. A search multiplies by it, so that no iteration of it branches.
 fn reaches(there: u32, offer: u32) -> usize
-    ensures { λ r. ⌜ r ≡ markOf (leb there offer) ⌝ }
+    ensures { λ r. ⌜ r ≡ bitOf (leb there offer) ⌝ }
 {
     (((offer as u64) + (1 << 32) - (there as u64)) >> 32) as usize
 }
 
-// The place of the offer, by halving; where the words have no such offer, some place.
-pub fn place(words: &[u64], offer: u32) -> usize
+// The position of the offer, by halving; where the words have no such offer, some position.
+pub fn position(words: &[u64], offer: u32) -> usize
     requires { ⌜ From 0 (now words) ⌝ }
     ensures { λ r. ⌜ OnlyAt (now (words .entry)) offer r ⌝ }
 {
@@ -36,7 +36,7 @@ pub fn find(words: &[u64], offer: u32) -> Found
     requires { ⌜ From 0 (now words) ⌝ }
     ensures { λ r. ⌜ r ≡ find offer (now (words .entry)) ⌝ }
 {
-    let at = place(words, offer);
+    let at = position(words, offer);
     if words.len() <= at {
         return Found::Nothing;
     }

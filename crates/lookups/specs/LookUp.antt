@@ -11,7 +11,7 @@ use Rattle.answers.specs.declared.answer.Answer.{Answer}
 use Rattle.answers.specs.declared.answer.Answer.the-variants.{Price, NoPrice}
 use Rattle.answers.specs.declared.answer.Check.{Check}
 use Rattle.answers.specs.declared.call.LookUp.{LookUp}
-use Rattle.answers.specs.declared.refusal.Refusal.the-variants.{BadList}
+use Rattle.answers.specs.declared.ground.Ground.the-variants.{BadList}
 use Rattle.answers.specs.Answers.{answered}
 use Rattle.answers.specs.First.{met, first}
 use Rattle.layout.specs.declared.head.Head.{Head}

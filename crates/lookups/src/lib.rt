@@ -2,7 +2,7 @@
 use answers::answer::Answer;
 use answers::answer::Check;
 use answers::call::LookUp;
-use answers::refusal::Refusal;
+use answers::ground::Ground;
 use changes::search::Found;
 use entry::Entry;
 use last_changes::last_change;
@@ -32,7 +32,7 @@ fn look_up_check(table: &[u64], journal: &[u64], head: Head, asked: LookUp) -> C
         return store;
     };
     if OFFERS <= asked.offer {
-        return Check::Refused(Refusal::BadList);
+        return Check::Refused(Ground::BadList);
     }
     state_check(head, asked.state)
 }
@@ -62,7 +62,8 @@ fn price_after(
     offer: u32,
 ) -> Answer
     requires { ⌜ Map (now base) × Rising (now journal) (now ends) from to ⌝ }
-    ensures { λ r. ⌜ r ≡ quoteOf (found offer (apply (now (base .entry)) (composeAll (runOf (now (journal .entry)) (now (ends .entry)) from (to - from))))) ⌝ }
+    ensures { λ r. ⌜ r ≡ quoteOf
+        (found offer (apply (now (base .entry)) (composeAll (runOf (now (journal .entry)) (now (ends .entry)) from (to - from))))) ⌝ }
 {
     let last = last_change(journal, ends, from, to, offer);
     let Found::Nothing = last else {

@@ -11,8 +11,8 @@ use Rattle.answers.specs.First.{first}
 use Rattle.orders.specs.Effects.{sixteenths, putAt, withPrice, effect}
 use Rattle.orders.specs.Orders.{kindNamed, allowedB}
 use Rattle.batch.specs.Batches.{checked, batch}
-use Rattle.order_runs.specs.Running.{run, priced}
-use Rattle.order_runs.specs.Tests.{readB, allB as allOrdersB}
+use Rattle.execution.specs.Executing.{execute, priced}
+use Rattle.execution.specs.Tests.{readB, allB as allOrdersB}
 use Rattle.image.specs.Bytes.{bytesOf, valueOf}
 use Rattle.image.specs.Image.{wordBytes, imageOf, wordsOf, numberIn, countIn, wordsIn, imageB}
 use Rattle.soundness.specs.Sound.{soundB}
@@ -22,11 +22,14 @@ use Rattle.snapshot.specs.Fresh.{freshHead}
 use Rattle.commits.specs.Commit.{withStep}
 use Rattle.flushes.specs.Flush.{flushedHead}
 use Rattle.rollbacks.specs.RollBack.{cutTo}
-use Rattle.slots.specs.Slots.{opened, shut}
-use Rattle.history.specs.Runs.{storeResponses}
+use Rattle.slots.specs.Slots.{opened, closedAt}
+use Rattle.history.specs.Traces.{storeResponses}
 use Rattle.moments.specs.Moments.{computed, expected}
 use Rattle.moments.specs.Table.{twelve}
 
 pub moments-follow : map computed twelve ≡ map expected twelve
-unfolding find compose puts apply composeAll risingB mapB readOf over runOf first sixteenths putAt withPrice effect kindNamed allowedB checked batch run priced readB allOrdersB bytesOf valueOf wordBytes imageOf wordsOf numberIn countIn wordsIn imageB soundB allB allOf zerosB least trimmedHead trimmedJournal freshHead withStep flushedHead cutTo noPutB opened shut storeResponses twelve
+unfolding find compose puts apply composeAll risingB mapB readOf over runOf first sixteenths putAt withPrice effect
+    kindNamed allowedB checked batch execute priced readB allOrdersB bytesOf valueOf wordBytes imageOf wordsOf numberIn
+    countIn wordsIn imageB soundB allB allOf zerosB least trimmedHead trimmedJournal freshHead withStep flushedHead cutTo
+    noPutB opened closedAt storeResponses twelve
 moments-follow = refl

@@ -14,7 +14,7 @@ use Rattle.batch.specs.Batches.{batch, answer, output}
 use Rattle.snapshot.specs.Fresh.{freshHead}
 use Rattle.calls.specs.Meaning.{performed}
 use Rattle.history.specs.Named.{Call, Response, done}
-use Rattle.history.specs.Runs.{Asked, nothing, lentWith, storeIn, storeResponses, Answers, afterLoad, storeRun}
+use Rattle.history.specs.Traces.{Asked, nothing, lentWith, storeIn, storeResponses, Answers, afterLoad, storeTrace}
 
 -- where a store starts: lent memory of two lengths, the table's and the journal's, which is cleared, or loaded from an image
 pub data Start : Type 0 where
@@ -30,7 +30,7 @@ pub data Moment : Type 0 where
   -- an offer at a price; its word
   word : ℕ → ℕ → ℕ → Moment
   -- a start, which is accepted, and then the calls in turn
-  run : Start → List Exchange → Moment
+  calls : Start → List Exchange → Moment
   -- a read set, orders and output memory; the answer, and the output memory then
   priced : List ℕ → List ℕ → List ℕ → Said → List ℕ → Moment
 
@@ -43,14 +43,14 @@ abbrev pub lentOf : ℕ → ℕ → Store
 lentOf table journal = record { table = replicate table 1; journal = replicate journal 1; head = freshHead 0 0 }
 
 -- a clear, and then the calls
-abbrev pub clearRun : Store → List Asked → Answers
-clearRun s asked =
+abbrev pub clearTrace : Store → List Asked → Answers
+clearTrace s asked =
     let left = performed (lentWith s [] []) (Reset Clear) in
     afterLoad (saidBy (left .answer)) (storeResponses (storeIn (left .lent)) (replicate 8 nothing) asked)
 
-abbrev pub runFrom : Start → List Asked → Answers
-runFrom (cleared table journal) asked = clearRun (lentOf table journal) asked
-runFrom (loaded table journal image) asked = storeRun (lentOf table journal) image asked
+abbrev pub traceFrom : Start → List Asked → Answers
+traceFrom (cleared table journal) asked = clearTrace (lentOf table journal) asked
+traceFrom (loaded table journal image) asked = storeTrace (lentOf table journal) image asked
 
 -- No moment forwards a slot that is not open: a forward is lent what the slot's issue filled, and no other words.
 abbrev pub askedIn : Exchange → Asked
@@ -68,13 +68,13 @@ pub data Result : Type 0 where
 -- by the definitions,
 abbrev pub computed : Moment → Result
 computed (word offer price w) = asWord (putOf offer price)
-computed (run start exchanges) = asAnswers (runFrom start (map askedIn exchanges))
+computed (calls start exchanges) = asAnswers (traceFrom start (map askedIn exchanges))
 computed (priced reads orders out a after) =
-    let ran = batch reads orders (length out) in
-    asBatch (answer ran) (output ran out)
+    let executed = batch reads orders (length out) in
+    asBatch (answer executed) (output executed out)
 
 -- and by the table
 abbrev pub expected : Moment → Result
 expected (word offer price w) = asWord w
-expected (run start exchanges) = asAnswers (record { load = done; responses = map responseIn exchanges })
+expected (calls start exchanges) = asAnswers (record { load = done; responses = map responseIn exchanges })
 expected (priced reads orders out a after) = asBatch a after

@@ -13,7 +13,8 @@ high : (b : Bool) (amount : ℕ) → b ≡ allowedWith (cond b keeps unknown) am
 high true amount = refl
 high false amount = refl
 
-tests : (kind amount : ℕ) → ((ltb kind 4 && (not (eqb kind 1) || eqb amount 0)) || (leb 16 kind && leb kind 31)) ≡ allowedWith (kindNamed kind) amount
+tests : (kind amount : ℕ) → ((ltb kind 4 && (not (eqb kind 1) || eqb amount 0)) || (leb 16 kind && leb kind 31))
+    ≡ allowedWith (kindNamed kind) amount
 unfolding kindNamed
 tests zero amount = refl
 tests (suc zero) amount = or-false (eqb amount 0)
@@ -21,7 +22,14 @@ tests (suc (suc zero)) amount = refl
 tests (suc (suc (suc zero))) amount = refl
 tests (suc (suc (suc (suc n)))) amount =
     let k : ℕ = suc (suc (suc (suc n))) in
-    rw (le-ltb k 4 (omega arith), ne-eqb k 0 (λ e. omega arith), ne-eqb k 1 (λ e. omega arith), ne-eqb k 2 (λ e. omega arith), ne-eqb k 3 (λ e. omega arith))
+    rw (
+      le-ltb k 4 (omega arith),
+      ne-eqb k 0 (λ e. omega arith),
+      ne-eqb k 1 (λ e. omega arith),
+      ne-eqb k 2
+          (λ e. omega arith),
+      ne-eqb k 3 (λ e. omega arith),
+    )
     (high (leb 16 k && leb k 31) amount)
 
 pub allowed-tests : (o : ℕ) {kind amount : ℕ} → kind ≡ orderKind o → amount ≡ orderAmount o

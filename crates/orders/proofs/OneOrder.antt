@@ -11,7 +11,7 @@ use lib.Dec.{leb}
 use Rattle.entry.specs.Word.{kindOf, offerOf, priceOf, putOf, Valid}
 use Rattle.changes.specs.declared.search.Found.{Found}
 use Rattle.changes.specs.declared.search.Found.the-variants.{Word, Nothing}
-use Rattle.answers.specs.declared.refusal.Refusal.the-variants.{NoPrice, PriceRange}
+use Rattle.answers.specs.declared.ground.Ground.the-variants.{NoPrice, PriceRange}
 use Rattle.orders.specs.declared.effects.Effect.{Effect}
 use Rattle.orders.specs.declared.effects.Effect.the-variants.{Change, Fails}
 use Rattle.orders.specs.Orders.{orderKind, orderAmount, orderOffer, Kind, lists, withdraws, raises, cuts, keeps, unknown, kindNamed}
@@ -60,7 +60,8 @@ module _ (offer amount w : ℕ) (put : kindOf w ≡ 1) where
   pub cut-fits : amount ≤ priceOf w → lowered offer amount (Word w) ≡ Change (putOf offer (priceOf w - amount))
   cut-fits h = with-price w _ put ∙ rw (le-leb amount (priceOf w) h) (put-fits offer (priceOf w - amount) (omega arith))
 
-  pub keep-fits : (kind price : ℕ) → price ≡ sixteenths kind amount (priceOf w) → price < 2 ^ 32 → kept kind offer amount (Word w) ≡ Change (putOf offer price)
+  pub keep-fits : (kind price : ℕ) → price ≡ sixteenths kind amount (priceOf w) → price < 2 ^ 32
+      → kept kind offer amount (Word w) ≡ Change (putOf offer price)
   keep-fits kind price e h = with-price w _ put ∙ ap (putAt offer) (sym e) ∙ put-fits offer price h
 
 -- a word built from an offer that fits
@@ -68,7 +69,8 @@ pub put-is : (r o p : ℕ) → r ≡ putOf (o % 2 ^ 31) p → o < 2 ^ 31 → r �
 put-is r o p e h = omega arith
 
 -- an order of a kind does as the kind says
-pub effect-as : (o : ℕ) (found : Found) {kind : Kind} → kindNamed (orderKind o) ≡ kind → effect o found ≡ effectBy kind (orderKind o) (orderAmount o) (orderOffer o) found
+pub effect-as : (o : ℕ) (found : Found) {kind : Kind} → kindNamed (orderKind o) ≡ kind → effect o found
+    ≡ effectBy kind (orderKind o) (orderAmount o) (orderOffer o) found
 unfolding effect
 effect-as o found e = ap (λ (kind : Kind). effectBy kind (orderKind o) (orderAmount o) (orderOffer o) found) e
 
@@ -116,4 +118,5 @@ module _ (offer : ℕ) (small : offer < 2 ^ 31) where
 pub effect-names : (o : ℕ) (found : Found) (w : ℕ) → effect o found ≡ Change w → Names (orderOffer o) w
 unfolding effect
 effect-names o found w e =
-    subst (Changing (orderOffer o)) e (by-changing (orderOffer o) (omega arith) (kindNamed (orderKind o)) (orderKind o) (orderAmount o) found)
+    subst (Changing (orderOffer o)) e
+    (by-changing (orderOffer o) (omega arith) (kindNamed (orderKind o)) (orderKind o) (orderAmount o) found)

@@ -26,7 +26,15 @@ module _ (k : ℕ) where
   pub kind-keeps : 16 ≤ k → k ≤ 31 → kindNamed k ≡ keeps
   unfolding kindNamed
   kind-keeps l h =
-      rw (ne-eqb k 0 (λ z. omega arith), ne-eqb k 1 (λ z. omega arith), ne-eqb k 2 (λ z. omega arith), ne-eqb k 3 (λ z. omega arith), le-leb 16 k l, le-leb k 31 h)
+      rw (
+        ne-eqb k 0 (λ z. omega arith),
+        ne-eqb k 1 (λ z. omega arith),
+        ne-eqb k 2 (λ z. omega arith),
+        ne-eqb k 3
+            (λ z. omega arith),
+        le-leb 16 k l,
+        le-leb k 31 h,
+      )
 
   pub kind-between : (k ≡ 0 → ⊥) → (k ≡ 1 → ⊥) → (k ≡ 2 → ⊥) → (k ≡ 3 → ⊥) → k < 16 → kindNamed k ≡ unknown
   unfolding kindNamed
@@ -35,4 +43,12 @@ module _ (k : ℕ) where
   pub kind-above : 31 < k → kindNamed k ≡ unknown
   unfolding kindNamed
   kind-above h =
-      rw (ne-eqb k 0 (λ z. omega arith), ne-eqb k 1 (λ z. omega arith), ne-eqb k 2 (λ z. omega arith), ne-eqb k 3 (λ z. omega arith), le-leb 16 k (omega arith), lt-leb k 31 h)
+      rw (
+        ne-eqb k 0 (λ z. omega arith),
+        ne-eqb k 1 (λ z. omega arith),
+        ne-eqb k 2 (λ z. omega arith),
+        ne-eqb k 3
+            (λ z. omega arith),
+        le-leb 16 k (omega arith),
+        lt-leb k 31 h,
+      )

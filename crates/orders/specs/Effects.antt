@@ -6,7 +6,7 @@ use lib.Dec.{leb, ltb}
 use Rattle.entry.specs.Word.{priceOf, putOf, noneOf, isPut}
 use Rattle.changes.specs.declared.search.Found.{Found}
 use Rattle.changes.specs.declared.search.Found.the-variants.{Word, Nothing}
-use Rattle.answers.specs.declared.refusal.Refusal.the-variants.{BadOrder, NoPrice, PriceRange}
+use Rattle.answers.specs.declared.ground.Ground.the-variants.{BadOrder, NoPrice, PriceRange}
 use Rattle.orders.specs.declared.effects.Effect.{Effect}
 use Rattle.orders.specs.declared.effects.Effect.the-variants.{Change, Fails}
 use Rattle.orders.specs.Orders.{orderKind, orderAmount, orderOffer, Kind, lists, withdraws, raises, cuts, keeps, unknown, kindNamed}
@@ -34,7 +34,7 @@ lowered offer amount found = withPrice found (λ price. cond (leb amount price) 
 abbrev pub kept : ℕ → ℕ → ℕ → Found → Effect
 kept kind offer amount found = withPrice found (λ price. putAt offer (sixteenths kind amount price))
 
--- by kinds; an unknown one fails by ground 7, which is tested before any order runs
+-- by kinds; an unknown one fails by ground 7, which is tested before any order is executed
 abbrev pub effectBy : Kind → ℕ → ℕ → ℕ → Found → Effect
 effectBy lists kind amount offer found = putAt offer amount
 effectBy withdraws kind amount offer found = Change (noneOf offer)

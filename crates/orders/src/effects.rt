@@ -1,6 +1,6 @@
 // What one order does (document 01, "Batches"), seen the word that shows its offer's price or none.
 use crate::Order;
-use answers::refusal::Refusal;
+use answers::ground::Ground;
 use entry::Entry;
 ghost use mathlib.Core.Path.{_≡_};
 ghost use Prim.Native.Nat.{_^_, _≤_, _<_};
@@ -13,7 +13,7 @@ const MAX_PRICE: u64 = (1 << Entry::PRICE_BITS) - 1;
 // What an order does: it puts or removes a price by an entry word, or it fails.
 pub enum Effect {
     Change(u64),
-    Fails(Refusal),
+    Fails(Ground),
 }
 
 // So many sixteenths of a price, rounded down, or the amount if that is more.
@@ -34,11 +34,11 @@ fn raise(offer: u32, amount: u32, shown: u64) -> Effect
     ensures { λ r. ⌜ r ≡ raised offer amount (Word shown) ⌝ }
 {
     if Entry::kind_of(shown) != Entry::PUT {
-        return Effect::Fails(Refusal::NoPrice);
+        return Effect::Fails(Ground::NoPrice);
     }
     let sum = (Entry::price_of(shown) as u64) + (amount as u64);
     if MAX_PRICE < sum {
-        return Effect::Fails(Refusal::PriceRange);
+        return Effect::Fails(Ground::PriceRange);
     }
     Effect::Change(Entry::put(offer, sum as u32))
 }
@@ -49,13 +49,13 @@ fn cut(offer: u32, amount: u32, shown: u64) -> Effect
     ensures { λ r. ⌜ r ≡ lowered offer amount (Word shown) ⌝ }
 {
     if Entry::kind_of(shown) != Entry::PUT {
-        return Effect::Fails(Refusal::NoPrice);
+        return Effect::Fails(Ground::NoPrice);
     }
     let price = Entry::price_of(shown);
     if amount <= price {
         return Effect::Change(Entry::put(offer, price - amount));
     }
-    Effect::Fails(Refusal::PriceRange)
+    Effect::Fails(Ground::PriceRange)
 }
 
 // Keeps so many sixteenths of the price shown.
@@ -68,7 +68,7 @@ fn keep(kind: u32, offer: u32, amount: u32, shown: u64) -> Effect
     if Entry::PUT <= shows {
         return Effect::Change(Entry::put(offer, sixteenths(kind, amount, price)));
     }
-    Effect::Fails(Refusal::NoPrice)
+    Effect::Fails(Ground::NoPrice)
 }
 
 // The effect of an order where its offer is shown by a word.
@@ -84,6 +84,6 @@ pub fn effect_of(order: u64, shown: u64) -> Effect
         2 => raise(offer, amount, shown),
         3 => cut(offer, amount, shown),
         16..=31 => keep(kind, offer, amount, shown),
-        _ => Effect::Fails(Refusal::BadOrder),
+        _ => Effect::Fails(Ground::BadOrder),
     }
 }

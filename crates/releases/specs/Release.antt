@@ -6,20 +6,21 @@ use Prim.Native.Nat.{ℕ}
 use lib.ListN.{getD}
 use Rattle.answers.specs.declared.answer.Check.{Check}
 use Rattle.answers.specs.declared.call.Reader.{Reader}
-use Rattle.answers.specs.declared.refusal.Refusal.the-variants.{SlotClosed}
+use Rattle.answers.specs.declared.ground.Ground.the-variants.{SlotClosed}
 use Rattle.answers.specs.First.{met, first, ifPassed}
 use Rattle.layout.specs.declared.head.Head.{Head}
 use Rattle.soundness.specs.Checks.{storeGrounds}
 use Rattle.views.specs.Trim.{trimmedHead, trimmedJournal}
-use Rattle.slots.specs.Slots.{slotGrounds, shut}
+use Rattle.slots.specs.Slots.{slotGrounds, closedAt}
 
 -- grounds 1, 2, 3, 5
 abbrev pub releaseCheck : List ℕ → List ℕ → Head → Reader → Check
 releaseCheck table journal head reader =
-    first (storeGrounds table journal head ++ slotGrounds reader ++ (met (not (getD (head .held) (reader .slot) false)) SlotClosed ∷ []))
+    first (storeGrounds table journal head ++ slotGrounds reader ++ (met (not (getD (head .taken) (reader .slot) false)) SlotClosed ∷ []))
 
 abbrev pub releaseHead : List ℕ → List ℕ → Head → Reader → Head
-releaseHead table journal head reader = ifPassed (releaseCheck table journal head reader) (trimmedHead (shut head (reader .slot))) head
+releaseHead table journal head reader = ifPassed (releaseCheck table journal head reader) (trimmedHead (closedAt head (reader .slot))) head
 
 abbrev pub releaseJournal : List ℕ → List ℕ → Head → Reader → List ℕ
-releaseJournal table journal head reader = ifPassed (releaseCheck table journal head reader) (trimmedJournal (shut head (reader .slot)) journal) journal
+releaseJournal table journal head reader =
+    ifPassed (releaseCheck table journal head reader) (trimmedJournal (closedAt head (reader .slot)) journal) journal

@@ -2,7 +2,7 @@
 use answers::answer::Answer;
 use answers::answer::Check;
 use answers::call::Reader;
-use answers::refusal::Refusal;
+use answers::ground::Ground;
 use layout::head::Head;
 use layout::head::Reply;
 use slots::close_slot;
@@ -18,7 +18,7 @@ ghost use Rattle.releases.specs.Release.{releaseCheck, releaseHead, rele
 fn release_check(table: &[u64], journal: &[u64], head: Head, reader: Reader) -> Check
     ensures { λ r. ⌜ r ≡ releaseCheck (now (table .entry)) (now (journal .entry)) head reader ⌝ }
 {
-    let held = head.held;
+    let taken = head.taken;
     let slot = reader.slot;
     let store = store_check(table, journal, head);
     let Check::Passed = store else {
@@ -28,14 +28,16 @@ fn release_check(table: &[u64], journal: &[u64], head: Head, reader: Reader) -> 
     let Check::Passed = range else {
         return range;
     };
-    if !held[slot] {
-        return Check::Refused(Refusal::SlotClosed);
+    if !taken[slot] {
+        return Check::Refused(Ground::SlotClosed);
     }
     Check::Passed
 }
 
 pub fn release(table: &[u64], journal: &mut [u64], head: Head, reader: Reader) -> Reply
-    ensures { λ r. ⌜ Gives (r .answer) (answered (releaseCheck (now (table .entry)) (now (journal .entry)) head reader) Done) × (r .head ≡ releaseHead (now (table .entry)) (now (journal .entry)) head reader) × (now (journal .exit) ≡ releaseJournal (now (table .entry)) (now (journal .entry)) head reader) ⌝ }
+    ensures { λ r. ⌜ Gives (r .answer) (answered (releaseCheck (now (table .entry)) (now (journal .entry)) head reader) Done)
+        × (r .head ≡ releaseHead (now (table .entry)) (now (journal .entry)) head reader)
+        × (now (journal .exit) ≡ releaseJournal (now (table .entry)) (now (journal .entry)) head reader) ⌝ }
 {
     let check = release_check(table, journal, head, reader);
     if let Check::Refused(ground) = check {

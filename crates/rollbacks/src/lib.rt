@@ -28,7 +28,7 @@ fn roll_back_check(table: &[u64], journal: &[u64], head: Head, state: u32) -> Ch
     state_check(head, state)
 }
 
-// The marks with those from a place on set to 0.
+// The marks with those from a position on set to 0.
 fn clear_marks(ends: [usize; MARKS], from: usize) -> [usize; MARKS]
     requires { ⌜ from ≤ 64 ⌝ }
     ensures { λ r. ⌜ r ≡ take from ends ++ replicate (64 - from) 0 ⌝ }
@@ -56,7 +56,9 @@ fn cut_to(head: Head, kept: usize, state: u32) -> Head
 }
 
 pub fn roll_back(table: &[u64], journal: &mut [u64], head: Head, state: u32) -> Reply
-    ensures { λ r. ⌜ Gives (r .answer) (answered (rollCheck (now (table .entry)) (now (journal .entry)) head state) Done) × (r .head ≡ rollHead (now (table .entry)) (now (journal .entry)) head state) × (now (journal .exit) ≡ rollJournal (now (table .entry)) (now (journal .entry)) head state) ⌝ }
+    ensures { λ r. ⌜ Gives (r .answer) (answered (rollCheck (now (table .entry)) (now (journal .entry)) head state) Done)
+        × (r .head ≡ rollHead (now (table .entry)) (now (journal .entry)) head state)
+        × (now (journal .exit) ≡ rollJournal (now (table .entry)) (now (journal .entry)) head state) ⌝ }
 {
     let check = roll_back_check(table, journal, head, state);
     if let Check::Refused(ground) = check {

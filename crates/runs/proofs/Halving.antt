@@ -16,21 +16,26 @@ use Rattle.runs.specs.Composed.{RunRoom, Composed}
 
 -- a step that was copied
 pub copied-step : (words ends : List ℕ) (i : ℕ) → Marked words ends (i + 1) → (a b : ℕ) → a ≡ startOf ends i → b ≡ startOf ends (i + 1)
-    → (last out : List ℕ) → last ≡ take (b - a) (drop a words) ++ drop (length (take (b - a) (drop a words))) out → last ≡ stepOf words ends i ++ drop (b - a) out
+    → (last out : List ℕ) → last ≡ take (b - a) (drop a words) ++ drop (length (take (b - a) (drop a words))) out → last
+    ≡ stepOf words ends i ++ drop (b - a) out
 copied-step words ends i m a b ea eb last out e =
     let step : take (b - a) (drop a words) ≡ stepOf words ends i = ap₂ (λ (x y : ℕ). take (y - x) (drop x words)) ea eb in
-    let long : length (take (b - a) (drop a words)) ≡ b - a = ap length step ∙ step-length words ends (i + 1) m i (omega arith) ∙ ap₂ (λ (x y : ℕ). y - x) (sym ea) (sym eb) in
+    let long : length (take (b - a) (drop a words)) ≡ b - a = ap length step
+    ∙ step-length words ends (i + 1) m i (omega arith) ∙ ap₂ (λ (x y : ℕ). y - x) (sym ea) (sym eb) in
     e ∙ ap₂ (λ (x : List ℕ) (y : ℕ). x ++ drop y out) step long
 
 -- no step
-pub compose-none : {words ends : List ℕ} {i j o s : ℕ} → RunRoom words ends i j o s → j ≤ i → (out spare : List ℕ) → Composed words ends i j out spare out spare 0
+pub compose-none : {words ends : List ℕ} {i j o s : ℕ} → RunRoom words ends i j o s → j ≤ i → (out spare : List ℕ)
+    → Composed words ends i j out spare out spare 0
 compose-none {words} {ends} {i} {j} r h out spare =
     let none : j - i ≡ 0 = omega arith in
-    let empty : composeAll (runOf words ends i (j - i)) ≡ [] = ap (λ (n : ℕ). composeAll (runOf words ends i n)) none ∙ ap composeAll (run-none words ends i) ∙ compose-all-nil in
+    let empty : composeAll (runOf words ends i (j - i)) ≡ [] = ap (λ (n : ℕ). composeAll (runOf words ends i n)) none
+    ∙ ap composeAll (run-none words ends i) ∙ compose-all-nil in
     record { size = ap length (sym empty); front = sym empty; out-behind = refl; spare-behind = refl }
 
 -- one step
-pub compose-single : {words ends : List ℕ} {i j o s : ℕ} → RunRoom words ends i j o s → j ≡ i + 1 → (out spare last : List ℕ) (n : ℕ) → n ≡ runWords ends i (i + 1)
+pub compose-single : {words ends : List ℕ} {i j o s : ℕ} → RunRoom words ends i j o s → j ≡ i + 1
+    → (out spare last : List ℕ) (n : ℕ) → n ≡ runWords ends i (i + 1)
     → last ≡ stepOf words ends i ++ drop n out → Composed words ends i j out spare last spare n
 compose-single {words} {ends} {i} {j} r h out spare last n en el =
     let marked : Marked words ends (i + 1) = subst (Marked words ends) h (r .marked) in
@@ -73,7 +78,8 @@ pub record Left (words ends : List ℕ) (i j mid : ℕ) (out₀ spare₀ out₁ 
   pub long-s : length spare₁ ≡ length spare₀
   pub done : Composed words ends i mid spare₀ out₀ spare₁ out₁ n
 
-module _ {words ends : List ℕ} {i j mid : ℕ} {out₀ spare₀ out₁ spare₁ : List ℕ} {n : ℕ} (l : Left words ends i j mid out₀ spare₀ out₁ spare₁ n) where
+module _ {words ends : List ℕ} {i j mid : ℕ} {out₀ spare₀ out₁ spare₁ : List ℕ} {n : ℕ}
+    (l : Left words ends i j mid out₀ spare₀ out₁ spare₁ n) where
   up-left : startOf ends i ≤ startOf ends mid
   up-left = rise-left (l .room) mid (l .low) (l .high)
 
@@ -95,7 +101,16 @@ module _ {words ends : List ℕ} {i j mid : ℕ} {out₀ spare₀ out₁ spare�
       record {
         marked = l .room .marked;
         order = omega (arith, l .high);
-        out-room = omega (arith, ap length (part spare₁ n), length-drop n spare₁, left-short, l .room .spare-room, up-left, up-right, l .long-s);
+        out-room = omega (
+          arith,
+          ap length (part spare₁ n),
+          length-drop n spare₁,
+          left-short,
+          l .room .spare-room,
+          up-left,
+          up-right,
+          l .long-s,
+        );
         spare-room = omega (arith, l .room .out-room, up-left, up-right, l .long-o);
       }
 
@@ -106,7 +121,8 @@ pub record Right (words ends : List ℕ) (i j mid : ℕ) (out₀ spare₀ out₁
   pub long-t : length tail ≡ length (take (length spare₁ - n) (drop n spare₁))
   pub done : Composed words ends mid j (take (length spare₁ - n) (drop n spare₁)) out₁ tail out₂ m
 
-module _ {words ends : List ℕ} {i j mid : ℕ} {out₀ spare₀ out₁ spare₁ : List ℕ} {n : ℕ} {out₂ tail : List ℕ} {m : ℕ} (r : Right words ends i j mid out₀ spare₀ out₁ spare₁ n out₂ tail m) where
+module _ {words ends : List ℕ} {i j mid : ℕ} {out₀ spare₀ out₁ spare₁ : List ℕ} {n : ℕ} {out₂ tail : List ℕ} {m : ℕ}
+    (r : Right words ends i j mid out₀ spare₀ out₁ spare₁ n out₂ tail m) where
   right-short : m ≤ runWords ends mid j
   right-short =
       let sum : mid + (j - mid) ≡ j = omega (arith, r .left .high) in
@@ -153,7 +169,8 @@ module _ {words ends : List ℕ} {i j mid : ℕ} {out₀ spare₀ out₁ spare�
       ∙ ap (λ (k : ℕ). take (k + m) (take n spare₁ ++ tail)) (sym first-long)
       ∙ take-append-add (take n spare₁) tail m
 
-  halves : compose (take n (take (n + m) (putMid n (length spare₁ - n) spare₁ tail))) (drop n (take (n + m) (putMid n (length spare₁ - n) spare₁ tail)))
+  halves : compose (take n (take (n + m) (putMid n (length spare₁ - n) spare₁ tail)))
+      (drop n (take (n + m) (putMid n (length spare₁ - n) spare₁ tail)))
       ≡ composeAll (runOf words ends i (j - i))
   halves =
       let sum : j - i ≡ (mid - i) + (j - mid) = omega (arith, r .left .low, r .left .high) in
@@ -167,8 +184,10 @@ module _ {words ends : List ℕ} {i j mid : ℕ} {out₀ spare₀ out₁ spare�
       ∙ ap (λ (k : ℕ). composeAll (runOf words ends i k)) (sym sum)
 
   pub composed-halves : (last : List ℕ) (k : ℕ)
-      → k ≡ length (compose (take n (take (n + m) (putMid n (length spare₁ - n) spare₁ tail))) (drop n (take (n + m) (putMid n (length spare₁ - n) spare₁ tail))))
-      → last ≡ compose (take n (take (n + m) (putMid n (length spare₁ - n) spare₁ tail))) (drop n (take (n + m) (putMid n (length spare₁ - n) spare₁ tail))) ++ drop k out₂
+      → k ≡ length (compose (take n (take (n + m) (putMid n (length spare₁ - n) spare₁ tail)))
+      (drop n (take (n + m) (putMid n (length spare₁ - n) spare₁ tail))))
+      → last ≡ compose (take n (take (n + m) (putMid n (length spare₁ - n) spare₁ tail)))
+      (drop n (take (n + m) (putMid n (length spare₁ - n) spare₁ tail))) ++ drop k out₂
       → Composed words ends i j out₀ spare₀ last (putMid n (length spare₁ - n) spare₁ tail) k
   composed-halves last k ek el = record { size = size; front = front; out-behind = out-behind; spare-behind = spare-behind }
     where
@@ -188,13 +207,21 @@ module _ {words ends : List ℕ} {i j mid : ℕ} {out₀ spare₀ out₁ spare�
       sum = omega (arith, r .left .low, r .left .high)
 
       short : k ≤ runWords ends i j
-      short = omega (arith, size, subst (λ (n : ℕ). length (composeAll (runOf words ends i (j - i))) ≤ runWords ends i n) sum (run-length words ends j (r .left .room .marked) (j - i) i (omega (arith, sum))))
+      short =
+          omega (
+            arith,
+            size,
+            subst (λ (n : ℕ). length (composeAll (runOf words ends i (j - i))) ≤ runWords ends i n)
+                sum (run-length words ends j (r .left .room .marked) (j - i) i (omega (arith, sum))),
+          )
 
       out-behind : drop (runWords ends i j) last ≡ drop (runWords ends i j) out₀
       out-behind =
           further last out₂ k (runWords ends i j) back short
-          ∙ further out₂ out₁ (runWords ends mid j) (runWords ends i j) (r .done .spare-behind) (omega (arith, up-left (r .left), up-right (r .left)))
-          ∙ further out₁ out₀ (runWords ends i mid) (runWords ends i j) (r .left .done .spare-behind) (omega (arith, up-left (r .left), up-right (r .left)))
+          ∙ further out₂ out₁ (runWords ends mid j) (runWords ends i j) (r .done .spare-behind)
+          (omega (arith, up-left (r .left), up-right (r .left)))
+          ∙ further out₁ out₀ (runWords ends i mid) (runWords ends i j) (r .left .done .spare-behind)
+          (omega (arith, up-left (r .left), up-right (r .left)))
 
       spare-behind : drop (runWords ends i j) (putMid n (length spare₁ - n) spare₁ tail) ≡ drop (runWords ends i j) spare₀
       spare-behind =
@@ -203,8 +230,10 @@ module _ {words ends : List ℕ} {i j mid : ℕ} {out₀ spare₀ out₁ spare�
           ∙ ap (λ (k : ℕ). drop k (take n spare₁ ++ tail)) (sym rest)
           ∙ ap (λ (k : ℕ). drop (k + (runWords ends i j - n)) (take n spare₁ ++ tail)) (sym first-long)
           ∙ drop-append-add (take n spare₁) tail (runWords ends i j - n)
-          ∙ further tail (take (length spare₁ - n) (drop n spare₁)) (runWords ends mid j) (runWords ends i j - n) (r .done .out-behind) (omega (arith, left-short (r .left), up-left (r .left), up-right (r .left)))
+          ∙ further tail (take (length spare₁ - n) (drop n spare₁)) (runWords ends mid j) (runWords ends i j - n)
+          (r .done .out-behind) (omega (arith, left-short (r .left), up-left (r .left), up-right (r .left)))
           ∙ ap (drop (runWords ends i j - n)) (part spare₁ n)
           ∙ drop-drop (runWords ends i j - n) n spare₁
           ∙ ap (λ (k : ℕ). drop k spare₁) rest
-          ∙ further spare₁ spare₀ (runWords ends i mid) (runWords ends i j) (r .left .done .out-behind) (omega (arith, up-left (r .left), up-right (r .left)))
+          ∙ further spare₁ spare₀ (runWords ends i mid) (runWords ends i j) (r .left .done .out-behind)
+          (omega (arith, up-left (r .left), up-right (r .left)))

@@ -23,7 +23,8 @@ fn start_of(ends: &[usize], step: usize) -> usize
 // Copies the words of a step to the start of `out`, and gives their count; the words behind them stay.
 fn copy_step(words: &[u64], ends: &[usize], step: usize, out: &mut [u64]) -> usize
     requires { ⌜ Marked (now words) (now ends) (step + 1) × (runWords (now ends) step (step + 1) ≤ length (now out)) ⌝ }
-    ensures { λ r. ⌜ (r ≡ runWords (now (ends .entry)) step (step + 1)) × (now (out .exit) ≡ stepOf (now (words .entry)) (now (ends .entry)) step ++ drop r (now (out .entry))) ⌝ }
+    ensures { λ r. ⌜ (r ≡ runWords (now (ends .entry)) step (step + 1))
+        × (now (out .exit) ≡ stepOf (now (words .entry)) (now (ends .entry)) step ++ drop r (now (out .entry))) ⌝ }
 {
     let start = start_of(ends, step);
     let end = start_of(ends, step + 1);
@@ -34,7 +35,9 @@ fn copy_step(words: &[u64], ends: &[usize], step: usize, out: &mut [u64]) -> usi
 // Composes the words before `middle` with those from it on.
 fn compose_parts(words: &[u64], middle: usize, out: &mut [u64]) -> usize
     requires { ⌜ (middle ≤ length (now words)) × (length (now words) ≤ length (now out)) ⌝ }
-    ensures { λ r. ⌜ (r ≡ length (composed (take middle (now (words .entry))) (drop middle (now (words .entry))))) × (now (out .exit) ≡ composed (take middle (now (words .entry))) (drop middle (now (words .entry))) ++ drop r (now (out .entry))) ⌝ }
+    ensures { λ r. ⌜ (r ≡ length (composed (take middle (now (words .entry))) (drop middle (now (words .entry)))))
+        × (now (out .exit) ≡ composed (take middle (now (words .entry))) (drop middle (now (words .entry)))
+        ++ drop r (now (out .entry))) ⌝ }
 {
     compose(&words[..middle], &words[middle..], out)
 }
@@ -51,7 +54,8 @@ pub fn compose_run(
     spare: &mut [u64],
 ) -> usize
     requires { ⌜ RunRoom (now words) (now ends) from to (length (now out)) (length (now spare)) ⌝ }
-    ensures { λ r. ⌜ Composed (now (words .entry)) (now (ends .entry)) from to (now (out .entry)) (now (spare .entry)) (now (out .exit)) (now (spare .exit)) r ⌝ }
+    ensures { λ r. ⌜ Composed (now (words .entry)) (now (ends .entry)) from to (now (out .entry)) (now (spare .entry))
+        (now (out .exit)) (now (spare .exit)) r ⌝ }
 {
     if to <= from {
         return 0;

@@ -7,11 +7,11 @@ use borrow.Author.Tests.{leb-false}
 use Rattle.answers.specs.declared.answer.Check.{Check}
 use Rattle.answers.specs.declared.answer.Check.the-variants.{Passed}
 use Rattle.answers.specs.declared.call.Reader.{Reader}
-use Rattle.answers.specs.First.{Ground, first}
+use Rattle.answers.specs.First.{Test, first}
 use Rattle.answers.proofs.Firsts.{passed-not}
 use Rattle.slots.specs.Slots.{slotGrounds}
 
-pub slot-passed : (reader : Reader) (gs : List Ground) → first (slotGrounds reader ++ gs) ≡ Passed → (reader .slot < 8) × (first gs ≡ Passed)
+pub slot-passed : (reader : Reader) (gs : List Test) → first (slotGrounds reader ++ gs) ≡ Passed → (reader .slot < 8) × (first gs ≡ Passed)
 slot-passed reader gs e =
     let a = passed-not _ _ _ e in
     (leb-false 8 (reader .slot) (a .0), a .1)

@@ -6,17 +6,17 @@ use Prim.Native.Nat.{ℕ}
 use lib.Dec.{leb}
 use lib.ListN.{set}
 use Rattle.answers.specs.declared.call.Reader.{Reader}
-use Rattle.answers.specs.declared.refusal.Refusal.the-variants.{SlotRange}
-use Rattle.answers.specs.First.{Ground, met}
+use Rattle.answers.specs.declared.ground.Ground.the-variants.{SlotRange}
+use Rattle.answers.specs.First.{Test, met}
 use Rattle.layout.specs.declared.head.Head.{Head}
 use Rattle.layout.specs.Heads.{withSlots}
 
 -- ground 3: "The place is above 7."
-abbrev pub slotGrounds : Reader → List Ground
+abbrev pub slotGrounds : Reader → List Test
 slotGrounds reader = met (leb 8 (reader .slot)) SlotRange ∷ []
 
 unfoldable pub opened : Head → ℕ → Head
-opened head slot = withSlots head (set (head .held) slot true) (set (head .issued) slot (head .checkpoint))
+opened head slot = withSlots head (set (head .taken) slot true) (set (head .issued) slot (head .checkpoint))
 
-unfoldable pub shut : Head → ℕ → Head
-shut head slot = withSlots head (set (head .held) slot false) (set (head .issued) slot 0)
+unfoldable pub closedAt : Head → ℕ → Head
+closedAt head slot = withSlots head (set (head .taken) slot false) (set (head .issued) slot 0)

@@ -1,20 +1,20 @@
 // Slots (document 01: reading places) that open and close.
 use answers::answer::Check;
 use answers::call::Reader;
-use answers::refusal::Refusal;
+use answers::ground::Ground;
 use layout::head::Head;
 use layout::head::SLOTS;
 ghost use mathlib.Core.Path.{_≡_};
 ghost use Prim.Native.Nat.{_<_};
 ghost use Rattle.answers.specs.First.{first};
-ghost use Rattle.slots.specs.Slots.{slotGrounds, opened, shut};
+ghost use Rattle.slots.specs.Slots.{slotGrounds, opened, closedAt};
 
 // Whether the slot named is one of a store's.
 pub fn slot_check(reader: Reader) -> Check
     ensures { λ r. ⌜ r ≡ first (slotGrounds reader) ⌝ }
 {
     if SLOTS <= reader.slot {
-        return Check::Refused(Refusal::SlotRange);
+        return Check::Refused(Ground::SlotRange);
     }
     Check::Passed
 }
@@ -25,7 +25,7 @@ pub fn open_slot(head: Head, slot: usize) -> Head
     ensures { λ r. ⌜ r ≡ opened head slot ⌝ }
 {
     let mut next = head;
-    next.held[slot] = true;
+    next.taken[slot] = true;
     next.issued[slot] = head.checkpoint;
     next
 }
@@ -33,10 +33,10 @@ pub fn open_slot(head: Head, slot: usize) -> Head
 // The head with the slot closed.
 pub fn close_slot(head: Head, slot: usize) -> Head
     requires { ⌜ slot < 8 ⌝ }
-    ensures { λ r. ⌜ r ≡ shut head slot ⌝ }
+    ensures { λ r. ⌜ r ≡ closedAt head slot ⌝ }
 {
     let mut next = head;
-    next.held[slot] = false;
+    next.taken[slot] = false;
     next.issued[slot] = 0;
     next
 }

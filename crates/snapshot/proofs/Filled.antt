@@ -12,7 +12,8 @@ use Rattle.image.specs.Image.{countIn, wordsIn}
 use Rattle.image.proofs.Words.{words-in-length}
 use Rattle.views.specs.View.{padded}
 
-pub filled : (table image : List ℕ) (n : ℕ) (read zeros : List ℕ) → n ≡ countIn image → read ≡ wordsIn image ++ drop (countIn image) table → countIn image ≤ length table
+pub filled : (table image : List ℕ) (n : ℕ) (read zeros : List ℕ) → n ≡ countIn image → read ≡ wordsIn image
+    ++ drop (countIn image) table → countIn image ≤ length table
     → zeros ≡ replicate (length (take (length read - n) (drop n read))) 0
     → putMid n (length read - n) read zeros ≡ padded (length table) (wordsIn image)
 filled table image n read zeros en er room ez =
@@ -24,6 +25,7 @@ filled table image n read zeros en er room ez =
     ∙ ap₂ _++_ (ap (take n) er ∙ take-at (wordsIn image) (drop (countIn image) table) n count) (ez ∙ ap (λ (k : ℕ). replicate k 0) rest)
 
 -- a slice that was cleared from its start
-pub emptied : (words zeros : List ℕ) → zeros ≡ replicate (length (take (length words - 0) (drop 0 words))) 0 → putMid 0 (length words - 0) words zeros ≡ replicate (length words) 0
+pub emptied : (words zeros : List ℕ) → zeros ≡ replicate (length (take (length words - 0) (drop 0 words))) 0
+    → putMid 0 (length words - 0) words zeros ≡ replicate (length words) 0
 emptied words zeros e =
     put-part words zeros 0 (omega arith) ∙ e ∙ ap (λ (l : List ℕ). replicate (length l) 0) (part words 0)

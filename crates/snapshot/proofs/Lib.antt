@@ -1,4 +1,4 @@
-pub mod Accepted
+pub mod ImagesAccepted
 mod Filled
 pub mod OnViews
 pub mod Theorems

@@ -16,11 +16,11 @@ use Rattle.views.specs.View.{Store, Limits, leastSlot, flat, marksFrom, padded,
 use Rattle.soundness.proofs.Sounds.{Sound}
 use Rattle.views.proofs.Encodes.{Encodes}
 use Rattle.views.proofs.Views.{encoded-sound, decoded}
-use Rattle.snapshot.specs.Calls.{loadCheck}
-use Rattle.snapshot.specs.Calls.{writeCheck, imageHere}
+use Rattle.snapshot.specs.Snapshots.{loadCheck}
+use Rattle.snapshot.specs.Snapshots.{writeCheck, imageHere}
 use Rattle.snapshot.specs.Fresh.{freshHead}
 use Rattle.snapshot.specs.FreshView.{freshView}
-use Rattle.snapshot.proofs.Accepted.{LoadOk, load-ok, WriteOk, write-ok, used-long, reads-back, count-back}
+use Rattle.snapshot.proofs.ImagesAccepted.{LoadOk, load-ok, WriteOk, write-ok, used-long, reads-back, count-back}
 
 -- the memory of a store with one state
 abbrev pub freshStore : List ℕ → ℕ → Limits → Store
@@ -78,7 +78,8 @@ module _ (table journal : List ℕ) where
   unfolding From All
   clear-leaves =
       record {
-        is = (λ i. record { table = zeros i; journal = replicate (length journal) 0; head = freshHead 0 0 }) ∙ sym (fresh-encoded [] 0 (limitsOf table journal));
+        is = (λ i. record { table = zeros i; journal = replicate (length journal) 0; head = freshHead 0 0 })
+            ∙ sym (fresh-encoded [] 0 (limitsOf table journal));
         good = fresh-good [] 0 (limitsOf table journal) (record { rises = tt; puts = tt }) (omega arith);
       }
     where

@@ -27,10 +27,10 @@ use Rattle.soundness.specs.Sound.{soundB}
 use Rattle.views.specs.View.{Store, padded}
 use Rattle.soundness.proofs.Sounds.{Sound, facts-sound}
 use Rattle.views.proofs.Views.{padded-length}
-use Rattle.snapshot.specs.Calls.{loadGrounds, loadCheck, loadHead, loadTable, loadJournal}
-use Rattle.snapshot.specs.Calls.{writeCheck, writeAnswer, writeBytes, imageHere}
+use Rattle.snapshot.specs.Snapshots.{loadGrounds, loadCheck, loadHead, loadTable, loadJournal}
+use Rattle.snapshot.specs.Snapshots.{writeCheck, writeAnswer, writeBytes, imageHere}
 use Rattle.snapshot.specs.Fresh.{freshHead}
-use Rattle.snapshot.proofs.Accepted.{LoadOk, load-ok, write-ok, reads-back, count-back}
+use Rattle.snapshot.proofs.ImagesAccepted.{LoadOk, load-ok, write-ok, reads-back, count-back}
 use Rattle.views.proofs.Encodes.{encodes-sound}
 use Rattle.snapshot.proofs.OnViews.{load-leaves}
 
@@ -145,7 +145,8 @@ module _ (table journal image out : List ℕ) (head : Head) (bytes : All Byte im
 -- checkpoint's map under its number.
 module _ (table journal : List ℕ) (head : Head) (room : ℕ) (e : writeCheck table journal head room ≡ Passed)
     (small : head .checkpoint < 2 ^ 32)
-    (table′ journal′ : List ℕ) (before : Head) (range : lengthsB (length table′) (length journal′) ≡ true) (holds : head .used ≤ length table′) where
+    (table′ journal′ : List ℕ) (before : Head) (range : lengthsB (length table′) (length journal′) ≡ true)
+    (holds : head .used ≤ length table′) where
   loads : loadCheck table′ journal′ (imageHere table head) ≡ Passed
   loads = written-loads table journal head room e small (length table′) (length journal′) range holds
 
@@ -157,4 +158,5 @@ module _ (table journal : List ℕ) (head : Head) (room : ℕ) (e : writeCheck t
   pub write-then-load-head : loadHead table′ journal′ (imageHere table head) before ≡ freshHead (head .used) (head .checkpoint)
   write-then-load-head =
       let count : countIn (imageHere table head) ≡ head .used = count-back (write-ok table journal head room e) small in
-      new-is loads (freshHead (countIn (imageHere table head)) (numberIn (imageHere table head))) before ∙ ap₂ freshHead count (written-same table journal head room e small .0)
+      new-is loads (freshHead (countIn (imageHere table head)) (numberIn (imageHere table head))) before
+      ∙ ap₂ freshHead count (written-same table journal head room e small .0)

@@ -11,7 +11,7 @@ freshHead used number = record {
   oldest = number;
   checkpoint = number;
   tip = number;
-  held = replicate 8 false;
+  taken = replicate 8 false;
   issued = replicate 8 0;
   ends = replicate 64 0;
 }

@@ -1,3 +1,3 @@
-pub mod Calls
+pub mod Snapshots
 pub mod Fresh
 pub mod FreshView

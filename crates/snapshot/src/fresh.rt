@@ -22,7 +22,7 @@ pub fn fresh_head(used: usize, state: u32) -> Head
         oldest: state,
         checkpoint: state,
         tip: state,
-        held: [false; SLOTS],
+        taken: [false; SLOTS],
         issued: [0; SLOTS],
         ends: [0; MARKS],
     }
@@ -31,7 +31,9 @@ pub fn fresh_head(used: usize, state: u32) -> Head
 // Makes the store hold the map of a tested image, for which the table has room, and nothing else.
 pub fn fill(table: &mut [u64], journal: &mut [u64], image: &[u8]) -> Head
     requires { ⌜ (6 + 8 * countIn (now image) ≤ length (now image)) × (countIn (now image) ≤ length (now table)) ⌝ }
-    ensures { λ r. ⌜ (r ≡ freshHead (countIn (now (image .entry))) (numberIn (now (image .entry)))) × (now (table .exit) ≡ padded (length (now (table .entry))) (wordsIn (now (image .entry)))) × (now (journal .exit) ≡ replicate (length (now (journal .entry))) 0) ⌝ }
+    ensures { λ r. ⌜ (r ≡ freshHead (countIn (now (image .entry))) (numberIn (now (image .entry))))
+        × (now (table .exit) ≡ padded (length (now (table .entry))) (wordsIn (now (image .entry))))
+        × (now (journal .exit) ≡ replicate (length (now (journal .entry))) 0) ⌝ }
 {
     let count = count_of(image);
     read_words(image, table);

@@ -2,7 +2,7 @@
 use crate::fresh::fill;
 use answers::answer::Answer;
 use answers::answer::Check;
-use answers::refusal::Refusal;
+use answers::ground::Ground;
 use image::reading::count_of;
 use image::reading::is_image;
 use layout::clauses::lengths_fit;
@@ -12,26 +12,29 @@ ghost use mathlib.Core.Path.{_≡_};
 ghost use Rattle.answers.specs.declared.answer.Answer.the-variants.{Done};
 ghost use Rattle.answers.specs.Answers.{Gives, answered};
 ghost use Rattle.answers.specs.First.{first};
-ghost use Rattle.snapshot.specs.Calls.{loadGrounds, loadCheck, loadHead, loadTable, loadJournal};
+ghost use Rattle.snapshot.specs.Snapshots.{loadGrounds, loadCheck, loadHead, loadTable, loadJournal};
 
 // The first ground on which a load into memory of these lengths is turned away.
 fn load_check(table: usize, journal: usize, image: &[u8]) -> Check
     ensures { λ r. ⌜ r ≡ first (loadGrounds table journal (now (image .entry))) ⌝ }
 {
     if !lengths_fit(table, journal) {
-        return Check::Refused(Refusal::Lengths);
+        return Check::Refused(Ground::Lengths);
     }
     if !is_image(image) {
-        return Check::Refused(Refusal::BadImage);
+        return Check::Refused(Ground::BadImage);
     }
     if table < count_of(image) {
-        return Check::Refused(Refusal::TableFull);
+        return Check::Refused(Ground::TableFull);
     }
     Check::Passed
 }
 
 pub fn load(table: &mut [u64], journal: &mut [u64], head: Head, image: &[u8]) -> Reply
-    ensures { λ r. ⌜ Gives (r .answer) (answered (loadCheck (now (table .entry)) (now (journal .entry)) (now (image .entry))) Done) × (r .head ≡ loadHead (now (table .entry)) (now (journal .entry)) (now (image .entry)) head) × (now (table .exit) ≡ loadTable (now (table .entry)) (now (journal .entry)) (now (image .entry))) × (now (journal .exit) ≡ loadJournal (now (table .entry)) (now (journal .entry)) (now (image .entry))) ⌝ }
+    ensures { λ r. ⌜ Gives (r .answer) (answered (loadCheck (now (table .entry)) (now (journal .entry)) (now (image .entry))) Done)
+        × (r .head ≡ loadHead (now (table .entry)) (now (journal .entry)) (now (image .entry)) head)
+        × (now (table .exit) ≡ loadTable (now (table .entry)) (now (journal .entry)) (now (image .entry)))
+        × (now (journal .exit) ≡ loadJournal (now (table .entry)) (now (journal .entry)) (now (image .entry))) ⌝ }
 {
     let check = load_check(table.len(), journal.len(), image);
     if let Check::Refused(ground) = check {

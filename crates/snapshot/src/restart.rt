@@ -11,10 +11,15 @@ ghost use mathlib.Core.Path.{_≡_};
 ghost use lib.ListN.{length};
 ghost use Rattle.answers.specs.declared.answer.Answer.the-variants.{Done};
 ghost use Rattle.answers.specs.Answers.{Gives, answered};
-ghost use Rattle.snapshot.specs.Calls.{writeCheck, writeBytes, restartHead, restartTable, restartJournal};
+ghost use Rattle.snapshot.specs.Snapshots.{writeCheck, writeBytes, restartHead, restartTable, restartJournal};
 
 pub fn restart(table: &mut [u64], journal: &mut [u64], head: Head, bytes: &mut [u8]) -> Reply
-    ensures { λ r. ⌜ Gives (r .answer) (answered (writeCheck (now (table .entry)) (now (journal .entry)) head (length (now (bytes .entry)))) Done) × (r .head ≡ restartHead (now (table .entry)) (now (journal .entry)) head (length (now (bytes .entry)))) × (now (table .exit) ≡ restartTable (now (table .entry)) (now (journal .entry)) head (length (now (bytes .entry)))) × (now (journal .exit) ≡ restartJournal (now (table .entry)) (now (journal .entry)) head (length (now (bytes .entry)))) × (now (bytes .exit) ≡ writeBytes (now (table .entry)) (now (journal .entry)) head (now (bytes .entry))) ⌝ }
+    ensures { λ r. ⌜ Gives (r .answer)
+        (answered (writeCheck (now (table .entry)) (now (journal .entry)) head (length (now (bytes .entry)))) Done)
+        × (r .head ≡ restartHead (now (table .entry)) (now (journal .entry)) head (length (now (bytes .entry))))
+        × (now (table .exit) ≡ restartTable (now (table .entry)) (now (journal .entry)) head (length (now (bytes .entry))))
+        × (now (journal .exit) ≡ restartJournal (now (table .entry)) (now (journal .entry)) head (length (now (bytes .entry))))
+        × (now (bytes .exit) ≡ writeBytes (now (table .entry)) (now (journal .entry)) head (now (bytes .entry))) ⌝ }
 {
     let check = write_check(table, journal, head, bytes.len());
     if let Check::Refused(ground) = check {

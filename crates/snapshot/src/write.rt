@@ -1,7 +1,7 @@
 // Writing the image of the checkpoint.
 use answers::answer::Answer;
 use answers::answer::Check;
-use answers::refusal::Refusal;
+use answers::ground::Ground;
 use image::writing::write;
 use layout::head::Head;
 use soundness::store_check;
@@ -9,7 +9,7 @@ ghost use mathlib.Core.Path.{_≡_};
 ghost use Prim.Native.Nat.{_+_, _*_};
 ghost use lib.ListN.{length};
 ghost use Rattle.answers.specs.Answers.{Gives};
-ghost use Rattle.snapshot.specs.Calls.{writeCheck, writeAnswer, writeBytes};
+ghost use Rattle.snapshot.specs.Snapshots.{writeCheck, writeAnswer, writeBytes};
 
 // The first ground on which writing an image into so many bytes is turned away.
 pub fn write_check(table: &[u64], journal: &[u64], head: Head, room: usize) -> Check
@@ -20,14 +20,15 @@ pub fn write_check(table: &[u64], journal: &[u64], head: Head, room: usize) -> C
         return store;
     };
     if room < 6 + 8 * head.used {
-        return Check::Refused(Refusal::OutputShort);
+        return Check::Refused(Ground::OutputShort);
     }
     Check::Passed
 }
 
 // Writes the image to the start of `out`; the bytes behind it stay.
 pub fn write_image(table: &[u64], journal: &[u64], head: Head, out: &mut [u8]) -> Answer
-    ensures { λ r. ⌜ Gives r (writeAnswer (now (table .entry)) (now (journal .entry)) head (length (now (out .entry)))) × (now (out .exit) ≡ writeBytes (now (table .entry)) (now (journal .entry)) head (now (out .entry))) ⌝ }
+    ensures { λ r. ⌜ Gives r (writeAnswer (now (table .entry)) (now (journal .entry)) head (length (now (out .entry))))
+        × (now (out .exit) ≡ writeBytes (now (table .entry)) (now (journal .entry)) head (now (out .entry))) ⌝ }
 {
     let check = write_check(table, journal, head, out.len());
     if let Check::Refused(ground) = check {

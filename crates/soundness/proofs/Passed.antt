@@ -7,7 +7,7 @@ use borrow.Author.Tests.{ltb-false, not-false}
 use lib.ListN.{length}
 use Rattle.answers.specs.declared.answer.Check.{Check}
 use Rattle.answers.specs.declared.answer.Check.the-variants.{Passed}
-use Rattle.answers.specs.First.{Ground, first}
+use Rattle.answers.specs.First.{Test, first}
 use Rattle.answers.proofs.Firsts.{passed-not}
 use Rattle.layout.specs.declared.head.Head.{Head}
 use Rattle.layout.proofs.HeadTests.{InRange, lengths-facts}
@@ -19,7 +19,7 @@ pub record StoreOk (table journal : List ℕ) (head : Head) : Type 0 where
   pub range : InRange (length table) (length journal)
   pub sound : Sound table journal head
 
-pub store-passed : (table journal : List ℕ) (head : Head) (gs : List Ground)
+pub store-passed : (table journal : List ℕ) (head : Head) (gs : List Test)
     → first (storeGrounds table journal head ++ gs) ≡ Passed → StoreOk table journal head × (first gs ≡ Passed)
 store-passed table journal head gs e =
     let a = passed-not _ _ _ e in
@@ -32,11 +32,12 @@ store-passed table journal head gs e =
     )
 
 -- the same of a check that was made for these grounds alone
-pub store-ok : (table journal : List ℕ) (head : Head) {c : Check} → c ≡ first (storeGrounds table journal head) → c ≡ Passed → StoreOk table journal head
+pub store-ok : (table journal : List ℕ) (head : Head) {c : Check} → c ≡ first (storeGrounds table journal head) → c
+    ≡ Passed → StoreOk table journal head
 store-ok table journal head e d = store-passed table journal head [] (sym e ∙ d) .0
 
 -- the state lies from the checkpoint to the tip
-pub state-passed : (head : Head) (state : ℕ) (gs : List Ground)
+pub state-passed : (head : Head) (state : ℕ) (gs : List Test)
     → first (stateGrounds head state ++ gs) ≡ Passed → ((head .checkpoint ≤ state) × (state ≤ head .tip)) × (first gs ≡ Passed)
 state-passed head state gs e =
     let a = passed-not _ _ _ e in

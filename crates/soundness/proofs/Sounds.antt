@@ -24,8 +24,8 @@ pub record Sound (table journal : List ℕ) (head : Head) : Type 0 where
   pub high : head .checkpoint ≤ head .tip
   pub few : heldOf head ≤ 64
   pub lists : journalB journal (head .ends) (heldOf head) ≡ true
-  pub slots : (k : ℕ) → k < 8 → slotB (head .checkpoint) (head .held) (head .issued) k ≡ true
-  pub oldest : head .oldest ≡ least (head .checkpoint) (head .held) (head .issued)
+  pub slots : (k : ℕ) → k < 8 → slotB (head .checkpoint) (head .taken) (head .issued) k ≡ true
+  pub oldest : head .oldest ≡ least (head .checkpoint) (head .taken) (head .issued)
 
 module _ (table journal : List ℕ) (head : Head) where
   pub sound-facts : soundB table journal head ≡ true → Sound table journal head
@@ -45,7 +45,7 @@ module _ (table journal : List ℕ) (head : Head) where
         high = n .1;
         few = n .2;
         lists = all-first _ _ r2;
-        slots = all-at (slotB (head .checkpoint) (head .held) (head .issued)) 8 (all-first _ _ r3);
+        slots = all-at (slotB (head .checkpoint) (head .taken) (head .issued)) 8 (all-first _ _ r3);
         oldest = eqb-true _ _ (all-first _ _ r4);
       }
 
@@ -62,6 +62,6 @@ module _ (table journal : List ℕ) (head : Head) where
       first-holds _ _ (is-table s)
       ∙ first-holds _ _ (facts-numbers (head .oldest) (head .checkpoint) (head .tip) (s .low) (s .high) (s .few))
       ∙ first-holds _ _ (s .lists)
-      ∙ first-holds _ _ (all-of (slotB (head .checkpoint) (head .held) (head .issued)) 8 (s .slots))
-      ∙ first-holds _ _ (eq-eqb (head .oldest) (least (head .checkpoint) (head .held) (head .issued)) (s .oldest))
+      ∙ first-holds _ _ (all-of (slotB (head .checkpoint) (head .taken) (head .issued)) 8 (s .slots))
+      ∙ first-holds _ _ (eq-eqb (head .oldest) (least (head .checkpoint) (head .taken) (head .issued)) (s .oldest))
       ∙ all-none

@@ -11,7 +11,7 @@ use Rattle.layout.specs.Tests.{allOf, least}
 
 -- "and floor the least of the anchor and the open places' numbers."
 abbrev pub floorB : Head → Bool
-floorB head = eqb (head .oldest) (least (head .checkpoint) (head .held) (head .issued))
+floorB head = eqb (head .oldest) (least (head .checkpoint) (head .taken) (head .issued))
 
 -- a sound store: ground 2
 unfoldable pub soundB : List ℕ → List ℕ → Head → Bool
@@ -20,6 +20,6 @@ soundB table journal head =
     (tableB table (head .used)
     ∷ numbersB (head .oldest) (head .checkpoint) (head .tip)
     ∷ journalB journal (head .ends) (heldOf head)
-    ∷ slotsB (head .checkpoint) (head .held) (head .issued)
+    ∷ slotsB (head .checkpoint) (head .taken) (head .issued)
     ∷ floorB head
     ∷ [])

@@ -1,6 +1,6 @@
 // Whether a store is sound, and the grounds that several calls share: those of the store, and that of a state named.
 use answers::answer::Check;
-use answers::refusal::Refusal;
+use answers::ground::Ground;
 use layout::clauses::is_journal;
 use layout::clauses::is_table;
 use layout::clauses::least_of;
@@ -19,7 +19,7 @@ pub fn is_sound(table: &[u64], journal: &[u64], head: Head) -> bool
     ensures { λ r. ⌜ r ≡ soundB (now (table .entry)) (now (journal .entry)) head ⌝ }
 {
     let checkpoint = head.checkpoint;
-    let held = head.held;
+    let taken = head.taken;
     let issued = head.issued;
     if !is_table(table, head.used) {
         return false;
@@ -31,10 +31,10 @@ pub fn is_sound(table: &[u64], journal: &[u64], head: Head) -> bool
     if !is_journal(journal, &head.ends, n) {
         return false;
     }
-    if !slots_fit(checkpoint, held, issued) {
+    if !slots_fit(checkpoint, taken, issued) {
         return false;
     }
-    head.oldest == least_of(checkpoint, held, issued)
+    head.oldest == least_of(checkpoint, taken, issued)
 }
 
 // Whether the lengths lent are in their ranges, and the store is sound.
@@ -42,10 +42,10 @@ pub fn store_check(table: &[u64], journal: &[u64], head: Head) -> Check
     ensures { λ r. ⌜ r ≡ first (storeGrounds (now (table .entry)) (now (journal .entry)) head) ⌝ }
 {
     if !lengths_fit(table.len(), journal.len()) {
-        return Check::Refused(Refusal::Lengths);
+        return Check::Refused(Ground::Lengths);
     }
     if !is_sound(table, journal, head) {
-        return Check::Refused(Refusal::Unsound);
+        return Check::Refused(Ground::Unsound);
     }
     Check::Passed
 }
@@ -55,10 +55,10 @@ pub fn state_check(head: Head, state: u32) -> Check
     ensures { λ r. ⌜ r ≡ first (stateGrounds head state) ⌝ }
 {
     if state < head.checkpoint {
-        return Check::Refused(Refusal::StateRange);
+        return Check::Refused(Ground::StateRange);
     }
     if head.tip < state {
-        return Check::Refused(Refusal::StateRange);
+        return Check::Refused(Ground::StateRange);
     }
     Check::Passed
 }

@@ -19,7 +19,8 @@ pub fn map_at(
     map: &mut [u64],
 ) -> usize
     requires { ⌜ HeldState (now table) (now journal) head state × MapRoom head state (length (now changes)) (length (now map)) ⌝ }
-    ensures { λ r. ⌜ (r ≡ length (mapHere (now (table .entry)) (now (journal .entry)) head state)) × (take r (now (map .exit)) ≡ mapHere (now (table .entry)) (now (journal .entry)) head state) ⌝ }
+    ensures { λ r. ⌜ (r ≡ length (mapHere (now (table .entry)) (now (journal .entry)) head state))
+        × (take r (now (map .exit)) ≡ mapHere (now (table .entry)) (now (journal .entry)) head state) ⌝ }
 {
     let used = head.used;
     let from = step_index(head, head.checkpoint);

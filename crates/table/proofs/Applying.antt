@@ -14,7 +14,7 @@ use Rattle.changes.specs.Lists.{All}
 use Rattle.changes.proofs.Applying.{apply-nil}
 use Rattle.changes.proofs.Each.{all-at, all-drop}
 use Rattle.changes.proofs.Merging.{nil-compose, compose-above, puts-put, puts-other}
-use Rattle.composing.proofs.Places.{below-there, same-there, passed, compose-at-below, compose-at-same}
+use Rattle.composing.proofs.Positions.{below-there, same-there, passed, compose-at-below, compose-at-same}
 use Rattle.words.proofs.Parts.{next}
 use Rattle.words.proofs.Writing.{Writing, start, stored, unwritten}
 use Rattle.table.proofs.Sides.{below, found, is-below, found-most}
@@ -34,7 +34,8 @@ pub record Applying (m d out out₀ : List ℕ) (i j k : ℕ) : Type 0 where
   pub writing : Writing out out₀ k (apply (drop i m) (drop j d)) (apply m d)
 
 pub applying : (m d out : List ℕ) → All Put m → length m + length d ≤ length out → Applying m d out out 0 0 0
-applying m d out p h = record { i-in = omega arith; j-in = omega arith; few = omega arith; room = h; puts = p; writing = start out (apply m d) }
+applying m d out p h =
+    record { i-in = omega arith; j-in = omega arith; few = omega arith; room = h; puts = p; writing = start out (apply m d) }
 
 module _ {m d out out₀ : List ℕ} {i j k : ℕ} (c : Applying m d out out₀ i j k) where
   module _ (h : j < length d) where
@@ -48,7 +49,9 @@ module _ {m d out out₀ : List ℕ} {i j k : ℕ} (c : Applying m d out out₀ 
 
       kept-first : apply (drop i m) (drop j d) ≡ getD m i 0 ∷ apply (drop (i + 1) m) (drop j d)
       unfolding apply
-      kept-first = ap puts (compose-at-below m d i j (there .0) h (there .1)) ∙ puts-put (getD m i 0) (compose (drop (i + 1) m) (drop j d)) (all-at Put m 0 i (c .puts) (there .0))
+      kept-first =
+          ap puts (compose-at-below m d i j (there .0) h (there .1))
+          ∙ puts-put (getD m i 0) (compose (drop (i + 1) m) (drop j d)) (all-at Put m 0 i (c .puts) (there .0))
 
       pub kept : Applying m d (set out k (getD m i 0)) out₀ (i + 1) j (k + 1)
       kept =
@@ -66,7 +69,8 @@ module _ {m d out out₀ : List ℕ} {i j k : ℕ} (c : Applying m d out out₀ 
       pub f-most : f ≤ 1
       f-most = omega (arith, ef, found-most (sideOf (drop i m) w))
 
-      here : (s : Side) → sideOf (drop i m) w ≡ s → (i + f ≤ length m) × (compose (drop i m) (drop j d) ≡ w ∷ compose (drop (i + f) m) (drop (j + 1) d))
+      here : (s : Side) → sideOf (drop i m) w ≡ s → (i + f ≤ length m)
+          × (compose (drop i m) (drop j d) ≡ w ∷ compose (drop (i + f) m) (drop (j + 1) d))
       here Below q = let t : b ≡ true = e ∙ ap below q in absurd (let z : _≡_ {A = ℕ} 0 1 = cc in omega arith)
       here Same q =
           let at = same-there m i w q in
@@ -91,7 +95,8 @@ module _ {m d out out₀ : List ℕ} {i j k : ℕ} (c : Applying m d out out₀ 
             few = omega (arith, c .few);
             room = rw length-set (c .room);
             puts = c .puts;
-            writing = stored (c .writing) (ap puts taken ∙ puts-put w (compose (drop (i + f) m) (drop (j + 1) d)) p) (omega (arith, c .room, c .few, c .i-in));
+            writing = stored (c .writing) (ap puts taken ∙ puts-put w (compose (drop (i + f) m) (drop (j + 1) d)) p)
+                (omega (arith, c .room, c .few, c .i-in));
           }
 
       pub removed-change : (Put w → ⊥) → Applying m d out out₀ (i + f) (j + 1) k

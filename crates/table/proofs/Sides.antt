@@ -1,4 +1,4 @@
--- Where the word at a place lies, seen from a change: the two tests of the merge.
+-- Where the word at a position lies, seen from a change: the two tests of the merge.
 -- Assumes nothing.
 use mathlib.Core.Bool.{Bool, true, false}
 use mathlib.Core.Path.{_≡_, refl, ap, _∙_}
@@ -11,13 +11,13 @@ use Rattle.changes.specs.declared.merge.Side.{Side}
 use Rattle.changes.specs.declared.merge.Side.the-variants.{Below, Same, Above}
 use Rattle.changes.specs.Calculus.{side, sideOf, bySide}
 use Rattle.changes.proofs.Merging.{Lies, lower, equal, higher, lies, side-below, side-same, side-above}
-use Rattle.composing.proofs.Places.{side-past, side-here}
+use Rattle.composing.proofs.Positions.{side-past, side-here}
 
--- whether there is a word at a place, and its offer lies below
+-- whether there is a word at a position, and its offer lies below
 abbrev pub below : Side → Bool
 below s = bySide {A = Bool} s true false false
 
--- 1 where the word at a place has a word's offer, and else 0
+-- 1 where the word at a position has a word's offer, and else 0
 abbrev pub found : Side → ℕ
 found s = bySide {A = ℕ} s 0 1 0
 

@@ -11,7 +11,7 @@ ghost use Rattle.entry.specs.Word.{Put};
 ghost use Rattle.changes.specs.Calculus.{sideOf, bySide, apply as applied};
 ghost use Rattle.changes.specs.Lists.{All};
 
-// Whether there is a word at a place, and its offer lies below a word's.
+// Whether there is a word at a position, and its offer lies below a word's.
 fn is_below(words: &[u64], at: usize, word: u64) -> bool
     ensures { λ r. ⌜ r ≡ bySide (sideOf (drop at (now (words .entry))) word) true false false ⌝ }
 {
@@ -24,7 +24,7 @@ fn is_below(words: &[u64], at: usize, word: u64) -> bool
     false
 }
 
-// Whether the word at a place has a word's offer, as 1 or 0; past the end there is none.
+// Whether the word at a position has a word's offer, as 1 or 0; past the end there is none.
 fn found_at(words: &[u64], at: usize, word: u64) -> usize
     ensures { λ r. ⌜ r ≡ bySide (sideOf (drop at (now (words .entry))) word) 0 1 0 ⌝ }
 {
@@ -41,7 +41,8 @@ fn found_at(words: &[u64], at: usize, word: u64) -> usize
 // passes both, and nothing of the map itself changes.
 pub fn apply(map: &[u64], changes: &[u64], out: &mut [u64]) -> usize
     requires { ⌜ All Put (now map) × (length (now map) + length (now changes) ≤ length (now out)) ⌝ }
-    ensures { λ r. ⌜ (r ≡ length (applied (now (map .entry)) (now (changes .entry)))) × (now (out .exit) ≡ applied (now (map .entry)) (now (changes .entry)) ++ drop r (now (out .entry))) ⌝ }
+    ensures { λ r. ⌜ (r ≡ length (applied (now (map .entry)) (now (changes .entry))))
+        × (now (out .exit) ≡ applied (now (map .entry)) (now (changes .entry)) ++ drop r (now (out .entry))) ⌝ }
 {
     let mut i = 0;
     let mut j = 0;
@@ -69,7 +70,8 @@ pub fn apply(map: &[u64], changes: &[u64], out: &mut [u64]) -> usize
 // those behind stay.
 pub fn replace(table: &mut [u64], used: usize, map: &[u64])
     requires { ⌜ (used ≤ length (now table)) × (length (now map) ≤ length (now table)) ⌝ }
-    ensures { λ r. ⌜ now (table .exit) ≡ now (map .entry) ++ replicate (used - length (now (map .entry))) 0 ++ drop (max used (length (now (map .entry)))) (now (table .entry)) ⌝ }
+    ensures { λ r. ⌜ now (table .exit) ≡ now (map .entry) ++ replicate (used - length (now (map .entry))) 0
+        ++ drop (max used (length (now (map .entry)))) (now (table .entry)) ⌝ }
 {
     copy(map, table);
     let size = map.len();

@@ -1,16 +1,16 @@
 -- The tally and the sums that it stands for, kept by every call.
 -- Assumes nothing.
 use mathlib.Core.Path.{_≡_, refl, sym, _∙_}
-use mathlib.Core.Bool.{Bool, true, false, _&&_, and-eq-true-iff}
+use mathlib.Core.Bool.{Bool, true, false, and-eq-true-iff}
 use mathlib.Core.List.{List, [], _∷_}
 use Prim.Native.Nat.{ℕ, _+_, _-_, _≤_, min}
 use native.Mathlib.Omega.{arith}
 use Rattle.layout.specs.declared.head.Head.{Head}
 use Rattle.calls.specs.Meaning.{performed}
 use Rattle.answers.specs.declared.tally.Tally.{Tally}
-use Rattle.unit.specs.Runs.{Carried, Asked, Accepted, lentTo, acceptsB, next, after, setsToZeroB, noted, notedAll, sumOf}
+use Rattle.unit.specs.Carried.{Carried, Asked, Accepted, lentTo, acceptsB, next, after, setsToZeroB, noted, notedAll, sumOf}
 use Rattle.answers.specs.Counts.{largest, resetsB, countsOf}
-use Rattle.unit.proofs.Effects.{Moves, Effect, turned, began, moved, effect}
+use Rattle.unit.proofs.Effects.{Effect, turned, began, moved, effect}
 
 -- the numbers of steps committed, rolled back and flushed, the tally that stands for them, and the head
 pub record Balanced (c r f : ℕ) (tally : Tally) (head : Head) : Type 0 where
@@ -30,7 +30,9 @@ balance-moves : (c r f cc rr ff tip checkpoint tip' checkpoint' : ℕ) → check
 balance-moves c r f cc rr ff tip checkpoint tip' checkpoint' h h' e m = omega (arith, e, m)
 
 abbrev pub Kept : List Accepted → Carried → Type 0
-Kept calls l = Balanced (sumOf (λ (t : Tally). t .committed) calls) (sumOf (λ (t : Tally). t .«rolled_back») calls) (sumOf (λ (t : Tally). t .flushed) calls) (l .tally) (l .head)
+Kept calls l =
+    Balanced (sumOf (λ (t : Tally). t .committed) calls) (sumOf (λ (t : Tally). t .«rolled_back») calls)
+    (sumOf (λ (t : Tally). t .flushed) calls) (l .tally) (l .head)
 
 -- what a call does to the head that is lent to it
 abbrev EffectOf : Carried → Asked → Type 0
@@ -46,7 +48,13 @@ module _ (calls : List Accepted) (l : Carried) (a : Asked) where
   unfolding noted next sumOf
   kept-by (turned n same) k = rw n (rw same k)
   kept-by (began y anew level) k =
-      rw y (rw anew (record { order = omega (arith, level); committed = refl; rolled-back = refl; flushed = refl; balance = omega (arith, level) }))
+      rw y (rw anew (record {
+        order = omega (arith, level);
+        committed = refl;
+        rolled-back = refl;
+        flushed = refl;
+        balance = omega (arith, level);
+      }))
   kept-by (moved y on moves) k =
       let m = moves (k .order) in
       rw y (rw on (record {
@@ -70,9 +78,16 @@ module _ (l : Carried) (a : Asked) where
   starts-by : EffectOf l a → acceptsB l a ≡ true → resetsB (a .call) ≡ true → Kept [] (next l a)
   unfolding next sumOf
   starts-by (turned n same) y anew = absurd (let z : _≡_ {A = Bool} true false = sym y ∙ n in let z : _≡_ {A = ℕ} 0 1 = cc in omega arith)
-  starts-by (moved t on moves) y anew = absurd (let z : _≡_ {A = Bool} true false = sym anew ∙ on in let z : _≡_ {A = ℕ} 0 1 = cc in omega arith)
+  starts-by (moved t on moves) y anew =
+      absurd (let z : _≡_ {A = Bool} true false = sym anew ∙ on in let z : _≡_ {A = ℕ} 0 1 = cc in omega arith)
   starts-by (began t u level) y anew =
-      rw y (rw anew (record { order = omega (arith, level); committed = refl; rolled-back = refl; flushed = refl; balance = omega (arith, level) }))
+      rw y (rw anew (record {
+        order = omega (arith, level);
+        committed = refl;
+        rolled-back = refl;
+        flushed = refl;
+        balance = omega (arith, level);
+      }))
 
   pub starts : setsToZeroB l a ≡ true → Kept [] (next l a)
   starts e =

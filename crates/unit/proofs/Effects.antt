@@ -26,14 +26,14 @@ use Rattle.image.specs.Image.{countIn, numberIn}
 use Rattle.layout.specs.declared.head.Head.{Head}
 use Rattle.layout.specs.States.{heldOf, mapHere}
 use Rattle.views.specs.Trim.{trimmedHead}
-use Rattle.slots.specs.Slots.{opened, shut}
-use Rattle.snapshot.specs.Calls.{imageHere}
+use Rattle.slots.specs.Slots.{opened, closedAt}
+use Rattle.snapshot.specs.Snapshots.{imageHere}
 use Rattle.snapshot.specs.Fresh.{freshHead}
 use Rattle.commits.specs.Commit.{usedOf, withStep}
 use Rattle.flushes.specs.Flush.{flushedHead}
 use Rattle.flushes.proofs.Flushing.{flush-ok}
 use Rattle.rollbacks.specs.RollBack.{keptOf, cutTo}
-use Rattle.rollbacks.proofs.Accepted.{roll-ok}
+use Rattle.rollbacks.proofs.RollBackAccepted.{roll-ok}
 use Rattle.calls.specs.Lent.{Lent, Left, Meaning, asks, settled}
 use Rattle.calls.specs.Meaning.{resetOf, stepOf, readCallOf, queryOf, performed}
 
@@ -88,7 +88,8 @@ step-added : (head : Head) (held end : ℕ) → head .checkpoint ≤ head .tip �
 unfolding withStep
 step-added head held end h = record { order = omega arith; steps = omega arith }
 
-rolled : (head : Head) (kept state : ℕ) → head .checkpoint ≤ state → state ≤ head .tip → Moves (counts 0 (head .tip - state) 0) head (cutTo head kept state)
+rolled : (head : Head) (kept state : ℕ) → head .checkpoint ≤ state → state ≤ head .tip
+    → Moves (counts 0 (head .tip - state) 0) head (cutTo head kept state)
 unfolding cutTo
 rolled head kept state low high = record { order = low; steps = omega arith }
 
@@ -101,9 +102,9 @@ opens : (head : Head) (slot : ℕ) → head .checkpoint ≤ head .tip → Moves 
 unfolding opened
 opens head slot h = record { order = h; steps = refl }
 
-shuts : (head : Head) (slot : ℕ) → head .checkpoint ≤ head .tip → Moves (counts 0 0 0) head (trimmedHead (shut head slot))
-unfolding shut trimmedHead
-shuts head slot h = record { order = h; steps = refl }
+closes : (head : Head) (slot : ℕ) → head .checkpoint ≤ head .tip → Moves (counts 0 0 0) head (trimmedHead (closedAt head slot))
+unfolding closedAt trimmedHead
+closes head slot h = record { order = h; steps = refl }
 
 -- what each call does, by groups
 resets : (l : Lent) (call : ResetCall) (count : Tally)
@@ -121,17 +122,19 @@ steps : (l : Lent) (call : StepCall)
 steps l Commit = goes l _ (stepOf l Commit) refl (λ e h. step-added (l .head) (heldOf (l .head)) (usedOf (l .head) + length (l .words)) h)
 steps l (RollBack state) =
     goes l _ (stepOf l (RollBack state)) refl
-    (λ e h. let ok = roll-ok (l .table) (l .journal) (l .head) state e in rolled (l .head) (keptOf (l .head) state) state (ok .low) (ok .high))
+    (λ e h. let ok = roll-ok (l .table) (l .journal) (l .head) state e in rolled (l .head) (keptOf (l .head) state)
+    state (ok .low) (ok .high))
 steps l (Flush state) =
     let used = length (mapHere (l .table) (l .journal) (l .head) state) in
-    goes l _ (stepOf l (Flush state)) refl (λ e h. let ok = flush-ok (l .table) (l .journal) (l .head) state e in flushed (l .head) used state (ok .low) (ok .high))
+    goes l _ (stepOf l (Flush state)) refl
+    (λ e h. let ok = flush-ok (l .table) (l .journal) (l .head) state e in flushed (l .head) used state (ok .low) (ok .high))
 
 reads : (l : Lent) (call : ReadCall)
     → let left = settled (readCallOf l call) l in
     Effect (acceptedB (left .answer)) false (counts 0 0 0) (l .head) (left .lent .head)
 reads l (Issue reader) = goes l _ (readCallOf l (Issue reader)) refl (λ e h. opens (l .head) (reader .slot) h)
-reads l (Forward reader state) = goes l _ (readCallOf l (Forward reader state)) refl (λ e h. shuts (l .head) (reader .slot) h)
-reads l (Release reader) = goes l _ (readCallOf l (Release reader)) refl (λ e h. shuts (l .head) (reader .slot) h)
+reads l (Forward reader state) = goes l _ (readCallOf l (Forward reader state)) refl (λ e h. closes (l .head) (reader .slot) h)
+reads l (Release reader) = goes l _ (readCallOf l (Release reader)) refl (λ e h. closes (l .head) (reader .slot) h)
 
 pub effect : (l : Lent) (call : Call)
     → let left = performed l call in

@@ -3,7 +3,6 @@
 use mathlib.Core.Path.{_≡_, ap, _∙_}
 use mathlib.Core.List.{List}
 use Prim.Native.Nat.{ℕ}
-use Rattle.answers.specs.declared.answer.Answer.{Answer}
 use Rattle.answers.specs.declared.call.Call.{Call}
 use Rattle.answers.specs.declared.tally.Tally.{Tally}
 use Rattle.answers.specs.Counts.{tallyAfter}

@@ -6,14 +6,13 @@ use mathlib.Core.Path.{_≡_, refl, sym, _∙_}
 use mathlib.Core.Bool.{true, false}
 use mathlib.Core.List.{List, []}
 use Prim.Native.Nat.{ℕ, _+_, _-_, _≤_, min}
-use native.Mathlib.Omega.{arith}
 use Rattle.answers.specs.declared.answer.Answer.{Answer}
 use Rattle.answers.specs.declared.call.Call.{Call}
 use Rattle.answers.specs.declared.tally.Tally.{Tally}
 use Rattle.answers.specs.Answers.{acceptedB}
 use Rattle.answers.specs.Counts.{largest, resetsB, counts, countsOf, tallyAfter}
 use Rattle.answers.proofs.Counting.{count-kept}
-use Rattle.unit.specs.Runs.{Carried, Asked, next, after, setsToZeroB, committedBy, rolledBackBy, flushedBy}
+use Rattle.unit.specs.Carried.{Carried, Asked, next, after, setsToZeroB, committedBy, rolledBackBy, flushedBy}
 use Rattle.unit.proofs.Balance.{Balanced, kept-after, starts, exact}
 
 -- An accepted clear, load or restart, and then any calls: refused ones, and more clears, loads and restarts, among them.
@@ -51,7 +50,8 @@ module _ (lent : Carried) (first : Asked) (zeroed : setsToZeroB lent first ≡ t
       ec ∙ sums-balance ∙ (λ i. sym er i + sym ef i + (end .head .tip - end .head .checkpoint))
 
 -- "everything lent and the head keep their values" where a call is turned away: the tally too
-pub refused-keeps : (tally : Tally) (checkpoint tip : ℕ) (call : Call) (answer : Answer) → acceptedB answer ≡ false → tallyAfter tally checkpoint tip call answer ≡ tally
+pub refused-keeps : (tally : Tally) (checkpoint tip : ℕ) (call : Call) (answer : Answer) → acceptedB answer ≡ false
+    → tallyAfter tally checkpoint tip call answer ≡ tally
 refused-keeps tally checkpoint tip call answer e = rw e refl
 
 -- a call that commits, rolls back and flushes nothing, and does not start the tally anew, leaves counts of 64 bits as they came

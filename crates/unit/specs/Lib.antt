@@ -1,2 +1,2 @@
-pub mod Runs
+pub mod Carried
 pub mod Serve

@@ -24,7 +24,9 @@ pub fn serve_core(
     head: Head,
     call: Call,
 ) -> Served
-    ensures { λ r. ⌜ Serves tally (lent (now (table .entry)) (now (journal .entry)) (now (words .entry)) (now (bytes .entry)) head) call r (now (table .exit)) (now (journal .exit)) (now (words .exit)) (now (bytes .exit)) ⌝ }
+    ensures { λ r. ⌜ Serves tally
+        (lent (now (table .entry)) (now (journal .entry)) (now (words .entry)) (now (bytes .entry)) head) call r
+        (now (table .exit)) (now (journal .exit)) (now (words .exit)) (now (bytes .exit)) ⌝ }
 {
     let reply = perform(table, journal, words, bytes, head, call);
     let answer = reply.answer;
@@ -44,7 +46,9 @@ pub fn serve(
     head: Head,
     call: Call,
 ) -> Reply
-    ensures { λ r. ⌜ Replies (now (tally .entry)) (lent (now (table .entry)) (now (journal .entry)) (now (words .entry)) (now (bytes .entry)) head) call r (now (tally .exit)) (now (table .exit)) (now (journal .exit)) (now (words .exit)) (now (bytes .exit)) ⌝ }
+    ensures { λ r. ⌜ Replies (now (tally .entry))
+        (lent (now (table .entry)) (now (journal .entry)) (now (words .entry)) (now (bytes .entry)) head) call r
+        (now (tally .exit)) (now (table .exit)) (now (journal .exit)) (now (words .exit)) (now (bytes .exit)) ⌝ }
 {
     let t = *tally;
     let s = serve_core(t, table, journal, words, bytes, head, call);

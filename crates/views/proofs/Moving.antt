@@ -30,12 +30,13 @@ abbrev lowered : ℕ → List ℕ → List ℕ
 lowered w l = map (λ e. e - w) l
 
 next-mark : (ends : List ℕ) (from to w k : ℕ) → k < to - from → to ≤ length ends
-    → lowered w (take (to - from - k) (drop (from + k) ends)) ≡ (getD ends (from + k) 0 - w) ∷ lowered w (take (to - from - (k + 1)) (drop (from + (k + 1)) ends))
+    → lowered w (take (to - from - k) (drop (from + k) ends)) ≡ (getD ends (from + k) 0 - w)
+    ∷ lowered w (take (to - from - (k + 1)) (drop (from + (k + 1)) ends))
 next-mark ends from to w k h l =
     let count : to - from - k ≡ suc (to - from - (k + 1)) = omega arith in
-    let place : from + k + 1 ≡ from + (k + 1) = omega arith in
+    let position : from + k + 1 ≡ from + (k + 1) = omega arith in
     ap₂ (λ (n : ℕ) (r : List ℕ). lowered w (take n r)) count (next ends (from + k) (omega arith))
-    ∙ ap (λ (n : ℕ). (getD ends (from + k) 0 - w) ∷ lowered w (take (to - from - (k + 1)) (drop n ends))) place
+    ∙ ap (λ (n : ℕ). (getD ends (from + k) 0 - w) ∷ lowered w (take (to - from - (k + 1)) (drop n ends))) position
 
 -- so many marks are moved, and those that are left make the goal
 pub record Moving (out ends : List ℕ) (from to w k : ℕ) : Type 0 where
@@ -43,18 +44,19 @@ pub record Moving (out ends : List ℕ) (from to w k : ℕ) : Type 0 where
   pub order : from ≤ to
   pub inside : to ≤ length ends
   pub some : k ≤ to - from
-  pub writing : Writing out (replicate 64 0) k (lowered w (take (to - from - k) (drop (from + k) ends))) (lowered w (take (to - from) (drop from ends)))
+  pub writing : Writing out (replicate 64 0) k (lowered w (take (to - from - k) (drop (from + k) ends)))
+      (lowered w (take (to - from) (drop from ends)))
 
 pub moving : (ends : List ℕ) (from to w : ℕ) → from ≤ to → to ≤ length ends → Moving (replicate 64 0) ends from to w 0
 moving ends from to w h l =
     let none : to - from ≡ to - from - 0 = omega arith in
-    let place : from ≡ from + 0 = omega arith in
+    let position : from ≡ from + 0 = omega arith in
     record {
       long = length-replicate {A = ℕ} 64 0;
       order = h;
       inside = l;
       some = omega arith;
-      writing = unwritten (start (replicate 64 0) _) (ap₂ (λ (n m : ℕ). lowered w (take n (drop m ends))) none place);
+      writing = unwritten (start (replicate 64 0) _) (ap₂ (λ (n m : ℕ). lowered w (take n (drop m ends))) none position);
     }
 
 module _ {out ends : List ℕ} {from to w k : ℕ} (m : Moving out ends from to w k) where
@@ -72,17 +74,21 @@ module _ {out ends : List ℕ} {from to w k : ℕ} (m : Moving out ends from to 
   pub moved-all : to - from ≤ k → out ≡ movedEnds ends from to w
   moved-all h =
       let none : to - from - k ≡ 0 = omega arith in
-      let rest : lowered w (take (to - from - k) (drop (from + k) ends)) ≡ [] = ap (λ (n : ℕ). lowered w (take n (drop (from + k) ends))) none in
+      let rest : lowered w (take (to - from - k) (drop (from + k) ends))
+      ≡ [] = ap (λ (n : ℕ). lowered w (take n (drop (from + k) ends))) none in
       sym (take-append-drop k out)
       ∙ whole (unwritten (m .writing) rest)
-      ∙ ap (λ (r : List ℕ). lowered w (take (to - from) (drop from ends)) ++ r) (drop-zeros (length (lowered w (take (to - from) (drop from ends)))) 64)
+      ∙ ap (λ (r : List ℕ). lowered w (take (to - from) (drop from ends)) ++ r)
+      (drop-zeros (length (lowered w (take (to - from) (drop from ends)))) 64)
 
 -- what trimming needs of the marks
 module _ {journal : List ℕ} {head : Head} (t : Trimmable journal head) (oldest : ℕ) (e : oldest ≡ floorOf head) where
   pub words-inside : startOf (head .ends) (oldest - head .oldest) ≤ length journal
-  words-inside = omega (arith, t .marked .rises (oldest - head .oldest) (heldOf head) (omega (arith, t .high)) (omega arith), t .marked .inside)
+  words-inside =
+      omega (arith, t .marked .rises (oldest - head .oldest) (heldOf head) (omega (arith, t .high)) (omega arith), t .marked .inside)
 
-  pub marks-above : (i : ℕ) → oldest - head .oldest ≤ i → i < heldOf head → startOf (head .ends) (oldest - head .oldest) ≤ getD (head .ends) i 0
+  pub marks-above : (i : ℕ) → oldest - head .oldest ≤ i → i < heldOf head → startOf (head .ends) (oldest - head .oldest)
+      ≤ getD (head .ends) i 0
   marks-above i a b = omega (arith, t .marked .rises (oldest - head .oldest) (i + 1) (omega arith) (omega arith), start-next (head .ends) i)
 
   pub head-trimmed : (words : ℕ) (moved : List ℕ) → words ≡ startOf (head .ends) (oldest - head .oldest)
@@ -111,5 +117,7 @@ module _ {journal : List ℕ} {head : Head} (t : Trimmable journal head) (oldest
       let count : length (take (length shifted - (length journal - words)) (drop (length journal - words) shifted)) ≡ words =
       ap length (part shifted (length journal - words)) ∙ length-drop (length journal - words) shifted ∙ omega arith in
       put-part shifted zeros (length journal - words) (omega arith)
-      ∙ ap₂ _++_ (ap (take (length journal - words)) es ∙ take-at (drop words journal) (drop (0 + (length journal - words)) journal) (length journal - words) kept) (ez ∙ ap (λ (n : ℕ). replicate n 0) count)
+      ∙ ap₂ _++_ (ap (take (length journal - words)) es
+      ∙ take-at (drop words journal) (drop (0 + (length journal - words)) journal) (length journal - words) kept)
+      (ez ∙ ap (λ (n : ℕ). replicate n 0) count)
       ∙ ap (λ (n : ℕ). drop n journal ++ replicate n 0) gone

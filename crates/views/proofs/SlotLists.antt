@@ -25,7 +25,8 @@ least-slots c [] = refl
 least-slots c (closed ∷ ss) = least-slots c ss
 least-slots c (holding n ∷ ss) = ap (min n) (least-slots c ss)
 
-pub slots-pass : (c : ℕ) (ss : List Slot) → All (NotAbove c) ss → (k : ℕ) → k < length ss → slotB c (map openOf ss) (map issuedOf ss) k ≡ true
+pub slots-pass : (c : ℕ) (ss : List Slot) → All (NotAbove c) ss → (k : ℕ) → k < length ss
+    → slotB c (map openOf ss) (map issuedOf ss) k ≡ true
 unfolding All
 slots-pass c [] a k h = absurd (omega arith)
 slots-pass c (closed ∷ ss) a zero h = refl
@@ -33,44 +34,49 @@ slots-pass c (holding n ∷ ss) a zero h = le-leb n c (a .0)
 slots-pass c (closed ∷ ss) a (suc k) h = slots-pass c ss (a .1) k (omega arith)
 slots-pass c (holding n ∷ ss) a (suc k) h = slots-pass c ss (a .1) k (omega arith)
 
--- marks and numbers that pass, as a list of slots, and back
+-- taken and numbers that pass, as a list of slots, and back
 module _ (c : ℕ) where
-  pub marks-again : (marks : List Bool) (numbers : List ℕ) → map openOf (slotsOf marks numbers) ≡ marks
+  pub taken-again : (taken : List Bool) (numbers : List ℕ) → map openOf (slotsOf taken numbers) ≡ taken
   unfolding slotsOf
-  marks-again [] numbers = refl
-  marks-again (true ∷ marks) [] = ap (λ (l : List Bool). true ∷ l) (marks-again marks [])
-  marks-again (false ∷ marks) [] = ap (λ (l : List Bool). false ∷ l) (marks-again marks [])
-  marks-again (true ∷ marks) (n ∷ numbers) = ap (λ (l : List Bool). true ∷ l) (marks-again marks numbers)
-  marks-again (false ∷ marks) (n ∷ numbers) = ap (λ (l : List Bool). false ∷ l) (marks-again marks numbers)
+  taken-again [] numbers = refl
+  taken-again (true ∷ taken) [] = ap (λ (l : List Bool). true ∷ l) (taken-again taken [])
+  taken-again (false ∷ taken) [] = ap (λ (l : List Bool). false ∷ l) (taken-again taken [])
+  taken-again (true ∷ taken) (n ∷ numbers) = ap (λ (l : List Bool). true ∷ l) (taken-again taken numbers)
+  taken-again (false ∷ taken) (n ∷ numbers) = ap (λ (l : List Bool). false ∷ l) (taken-again taken numbers)
 
-  pub numbers-again : (marks : List Bool) (numbers : List ℕ) → length marks ≡ length numbers → ((k : ℕ) → k < length marks → slotB c marks numbers k ≡ true) → map issuedOf (slotsOf marks numbers) ≡ numbers
+  pub numbers-again : (taken : List Bool) (numbers : List ℕ) → length taken ≡ length numbers
+      → ((k : ℕ) → k < length taken → slotB c taken numbers k ≡ true) → map issuedOf (slotsOf taken numbers) ≡ numbers
   unfolding slotsOf
   numbers-again [] [] e t = refl
   numbers-again [] (n ∷ numbers) e t = absurd (omega arith)
-  numbers-again (m ∷ marks) [] e t = absurd (omega arith)
-  numbers-again (true ∷ marks) (n ∷ numbers) e t = ap (λ (l : List ℕ). n ∷ l) (numbers-again marks numbers (omega arith) (λ k h. t (suc k) (omega arith)))
-  numbers-again (false ∷ marks) (n ∷ numbers) e t =
-      ap₂ _∷_ (sym (eqb-true n 0 (t 0 (omega arith)))) (numbers-again marks numbers (omega arith) (λ k h. t (suc k) (omega arith)))
+  numbers-again (m ∷ taken) [] e t = absurd (omega arith)
+  numbers-again (true ∷ taken) (n ∷ numbers) e t =
+      ap (λ (l : List ℕ). n ∷ l) (numbers-again taken numbers (omega arith) (λ k h. t (suc k) (omega arith)))
+  numbers-again (false ∷ taken) (n ∷ numbers) e t =
+      ap₂ _∷_ (sym (eqb-true n 0 (t 0 (omega arith)))) (numbers-again taken numbers (omega arith) (λ k h. t (suc k) (omega arith)))
 
-  pub least-again : (marks : List Bool) (numbers : List ℕ) → length marks ≡ length numbers → least c marks numbers ≡ leastSlot c (slotsOf marks numbers)
+  pub least-again : (taken : List Bool) (numbers : List ℕ) → length taken ≡ length numbers → least c taken numbers
+      ≡ leastSlot c (slotsOf taken numbers)
   unfolding least leastSlot slotsOf
   least-again [] numbers e = refl
-  least-again (m ∷ marks) [] e = absurd (omega arith)
-  least-again (true ∷ marks) (n ∷ numbers) e = ap (min n) (least-again marks numbers (omega arith))
-  least-again (false ∷ marks) (n ∷ numbers) e = least-again marks numbers (omega arith)
+  least-again (m ∷ taken) [] e = absurd (omega arith)
+  least-again (true ∷ taken) (n ∷ numbers) e = ap (min n) (least-again taken numbers (omega arith))
+  least-again (false ∷ taken) (n ∷ numbers) e = least-again taken numbers (omega arith)
 
-  pub slots-below : (marks : List Bool) (numbers : List ℕ) → length marks ≡ length numbers → ((k : ℕ) → k < length marks → slotB c marks numbers k ≡ true) → All (NotAbove c) (slotsOf marks numbers)
+  pub slots-below : (taken : List Bool) (numbers : List ℕ) → length taken ≡ length numbers
+      → ((k : ℕ) → k < length taken → slotB c taken numbers k ≡ true) → All (NotAbove c) (slotsOf taken numbers)
   unfolding slotsOf All
   slots-below [] numbers e t = tt
-  slots-below (m ∷ marks) [] e t = absurd (omega arith)
-  slots-below (true ∷ marks) (n ∷ numbers) e t = (leb-true n c (t 0 (omega arith)), slots-below marks numbers (omega arith) (λ k h. t (suc k) (omega arith)))
-  slots-below (false ∷ marks) (n ∷ numbers) e t = (tt, slots-below marks numbers (omega arith) (λ k h. t (suc k) (omega arith)))
+  slots-below (m ∷ taken) [] e t = absurd (omega arith)
+  slots-below (true ∷ taken) (n ∷ numbers) e t =
+      (leb-true n c (t 0 (omega arith)), slots-below taken numbers (omega arith) (λ k h. t (suc k) (omega arith)))
+  slots-below (false ∷ taken) (n ∷ numbers) e t = (tt, slots-below taken numbers (omega arith) (λ k h. t (suc k) (omega arith)))
 
-pub slots-length : (marks : List Bool) (numbers : List ℕ) → length (slotsOf marks numbers) ≡ length marks
+pub slots-length : (taken : List Bool) (numbers : List ℕ) → length (slotsOf taken numbers) ≡ length taken
 unfolding slotsOf
 slots-length [] numbers = refl
-slots-length (m ∷ marks) [] = ap suc (slots-length marks [])
-slots-length (m ∷ marks) (n ∷ numbers) = ap suc (slots-length marks numbers)
+slots-length (m ∷ taken) [] = ap suc (slots-length taken [])
+slots-length (m ∷ taken) (n ∷ numbers) = ap suc (slots-length taken numbers)
 
 -- the least is at most the checkpoint
 pub least-most : (c : ℕ) (ss : List Slot) → leastSlot c ss ≤ c
@@ -80,20 +86,20 @@ least-most c (closed ∷ ss) = least-most c ss
 least-most c (holding n ∷ ss) = omega (arith, least-most c ss)
 
 -- the same of the numbers in a head
-pub least-up-to : (c : ℕ) (marks : List Bool) (numbers : List ℕ) → least c marks numbers ≤ c
+pub least-up-to : (c : ℕ) (taken : List Bool) (numbers : List ℕ) → least c taken numbers ≤ c
 unfolding least
 least-up-to c [] numbers = omega arith
-least-up-to c (m ∷ marks) [] = omega arith
-least-up-to c (true ∷ marks) (n ∷ numbers) = omega (arith, least-up-to c marks numbers)
-least-up-to c (false ∷ marks) (n ∷ numbers) = least-up-to c marks numbers
+least-up-to c (m ∷ taken) [] = omega arith
+least-up-to c (true ∷ taken) (n ∷ numbers) = omega (arith, least-up-to c taken numbers)
+least-up-to c (false ∷ taken) (n ∷ numbers) = least-up-to c taken numbers
 
 -- with a later checkpoint the least is no lower, and no open slot lies above it
-pub least-later : (c d : ℕ) (marks : List Bool) (numbers : List ℕ) → c ≤ d → least c marks numbers ≤ least d marks numbers
+pub least-later : (c d : ℕ) (taken : List Bool) (numbers : List ℕ) → c ≤ d → least c taken numbers ≤ least d taken numbers
 unfolding least
 least-later c d [] numbers h = h
-least-later c d (m ∷ marks) [] h = h
-least-later c d (true ∷ marks) (n ∷ numbers) h = omega (arith, least-later c d marks numbers h)
-least-later c d (false ∷ marks) (n ∷ numbers) h = least-later c d marks numbers h
+least-later c d (m ∷ taken) [] h = h
+least-later c d (true ∷ taken) (n ∷ numbers) h = omega (arith, least-later c d taken numbers h)
+least-later c d (false ∷ taken) (n ∷ numbers) h = least-later c d taken numbers h
 
 pub below-later : (c d : ℕ) (ss : List Slot) → c ≤ d → All (NotAbove c) ss → All (NotAbove d) ss
 unfolding All

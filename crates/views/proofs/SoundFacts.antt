@@ -14,8 +14,8 @@ use Rattle.views.proofs.Laid.{journal-inside, journal-marked}
 use Rattle.soundness.proofs.Sounds.{Sound}
 
 -- a head whose arrays have their lengths
-pub shaped : (head : Head) → length (head .held) ≡ 8 → length (head .issued) ≡ 8 → length (head .ends) ≡ 64 → Shaped head
-shaped head a b c = record { held-8 = a; issued-8 = b; ends-64 = c }
+pub shaped : (head : Head) → length (head .taken) ≡ 8 → length (head .issued) ≡ 8 → length (head .ends) ≡ 64 → Shaped head
+shaped head a b c = record { taken-8 = a; issued-8 = b; ends-64 = c }
 
 module _ {table journal : List ℕ} {head : Head} (s : Sound table journal head) where
   -- the used words of the table
@@ -27,5 +27,6 @@ module _ {table journal : List ℕ} {head : Head} (s : Sound table journal head)
   inside = journal-inside journal (head .ends) (heldOf head) (s .lists)
 
 -- the marks of a sound store
-pub sound-marked : (table journal : List ℕ) (head : Head) → Shaped head → Sound table journal head → Marked journal (head .ends) (heldOf head)
+pub sound-marked : (table journal : List ℕ) (head : Head) → Shaped head → Sound table journal head
+    → Marked journal (head .ends) (heldOf head)
 sound-marked table journal head p s = journal-marked journal (head .ends) (heldOf head) (s .lists) (omega (arith, s .few, p .ends-64))

@@ -39,7 +39,8 @@ module _ (v : View) (g : Good v) where
   -- each kept state is a map
   pub at-map : (s : ℕ) → Map (mapAt v s)
   unfolding mapAt
-  at-map s = apply-map (v .base) (composeAll (take (s - v .checkpoint) (v .steps))) (g .map .rises) (first-changes (s - v .checkpoint) .rises)
+  at-map s =
+      apply-map (v .base) (composeAll (take (s - v .checkpoint) (v .steps))) (g .map .rises) (first-changes (s - v .checkpoint) .rises)
 
   -- and the next one is it with the step that leads on applied
   pub at-next : (s : ℕ) → v .checkpoint ≤ s → s < tipOf v → mapAt v (s + 1) ≡ apply (mapAt v s) (getD (v .steps) (s - v .checkpoint) [])
@@ -51,8 +52,10 @@ module _ (v : View) (g : Good v) where
       let step = getD (v .steps) (s - v .checkpoint) [] in
       ap (λ (n : ℕ). apply (v .base) (composeAll (take n (v .steps)))) one
       ∙ ap (λ (l : List (List ℕ)). apply (v .base) (composeAll l)) (take-suc (v .steps) (s - v .checkpoint) [] inside)
-      ∙ ap (apply (v .base)) (run-split (take (s - v .checkpoint) (v .steps)) (step ∷ []) ∙ ap (compose (composeAll (take (s - v .checkpoint) (v .steps)))) (compose-all-one step))
-      ∙ sym (apply-twice (v .base) (composeAll (take (s - v .checkpoint) (v .steps))) step (g .map .rises) (first-changes (s - v .checkpoint) .rises) (all-at Changes (v .steps) [] (s - v .checkpoint) steps-changes inside .rises))
+      ∙ ap (apply (v .base)) (run-split (take (s - v .checkpoint) (v .steps)) (step ∷ [])
+      ∙ ap (compose (composeAll (take (s - v .checkpoint) (v .steps)))) (compose-all-one step))
+      ∙ sym (apply-twice (v .base) (composeAll (take (s - v .checkpoint) (v .steps))) step (g .map .rises)
+      (first-changes (s - v .checkpoint) .rises) (all-at Changes (v .steps) [] (s - v .checkpoint) steps-changes inside .rises))
 
 -- some steps in the middle of a run
 pub run-middle : (words ends : List ℕ) (n a k : ℕ) → a + k ≤ n → take k (drop a (runOf words ends 0 n)) ≡ runOf words ends a k
@@ -67,7 +70,8 @@ run-middle words ends n a k h =
     ∙ take-at (runOf words ends a k) _ k (run-count words ends k a)
 
 -- a sound store: its steps from the checkpoint to a state are the first of its view's, and the map at the state is its view's
-module _ (table journal : List ℕ) (head : Head) (s : Sound table journal head) (state : ℕ) (low : head .checkpoint ≤ state) (high : state ≤ head .tip) where
+module _ (table journal : List ℕ) (head : Head) (s : Sound table journal head) (state : ℕ)
+    (low : head .checkpoint ≤ state) (high : state ≤ head .tip) where
   abbrev here : Store
   here = record { table = table; journal = journal; head = head }
 
@@ -76,7 +80,8 @@ module _ (table journal : List ℕ) (head : Head) (s : Sound table journal head)
   steps-since =
       let count : stepIndex head state - stepIndex head (head .checkpoint) ≡ state - head .checkpoint = omega (arith, s .low) in
       ap (runOf journal (head .ends) (stepIndex head (head .checkpoint))) count
-      ∙ sym (run-middle journal (head .ends) (heldOf head) (head .checkpoint - head .oldest) (state - head .checkpoint) (omega (arith, s .low)))
+      ∙ sym (run-middle journal (head .ends) (heldOf head) (head .checkpoint - head .oldest) (state - head .checkpoint)
+      (omega (arith, s .low)))
 
   pub map-is : mapHere table journal head state ≡ mapAt (decode here) state
   unfolding mapAt decode

@@ -24,7 +24,8 @@ module _ (words ends : List ℕ) (n : ℕ) (m : Marked words ends n) where
   run-marks zero i h = refl
   run-marks (suc k) i h =
       let rise : startOf ends i ≤ startOf ends (i + 1) = m .rises i (i + 1) (omega arith) (omega arith) in
-      let end : startOf ends i + length (stepOf words ends i) ≡ startOf ends (i + 1) = omega (arith, step-length words ends n m i (omega arith)) in
+      let end : startOf ends i + length (stepOf words ends i)
+      ≡ startOf ends (i + 1) = omega (arith, step-length words ends n m i (omega arith)) in
       ap₂ _∷_ (end ∙ start-next ends i) (ap (λ (s : ℕ). marksFrom s (runOf words ends (i + 1) k)) end ∙ run-marks k (i + 1) (omega arith))
       ∙ ap (take (suc k)) (sym (next ends i (omega (arith, m .within))))
 
@@ -60,7 +61,7 @@ unfolding marksFrom flat
 marks-end a [] y = omega arith
 marks-end a (s ∷ ss) y = marks-end (a + length s) ss y ∙ simp length-append (omega arith)
 
--- lists laid out from a place on, with their marks from a place on
+-- lists laid out from a position on, with their marks from a position on
 pub record Laid (words ends : List ℕ) (i : ℕ) (ss : List (List ℕ)) (x y : List ℕ) : Type 0 where
   pub inside : startOf ends i ≤ length words
   pub words-from : drop (startOf ends i) words ≡ flat ss ++ x
@@ -80,7 +81,8 @@ module _ {words ends : List ℕ} {i : ℕ} {s : List ℕ} {ss : List (List ℕ)}
 
   pub mark-is : startOf ends (i + 1) ≡ startOf ends i + length s
   mark-is =
-      let same : getD ends i 0 ∷ drop (i + 1) ends ≡ (startOf ends i + length s) ∷ (marksFrom (startOf ends i + length s) ss ++ y) = sym (next ends i there) ∙ marks-are in
+      let same : getD ends i 0 ∷ drop (i + 1) ends ≡ (startOf ends i + length s)
+      ∷ (marksFrom (startOf ends i + length s) ss ++ y) = sym (next ends i there) ∙ marks-are in
       start-next ends i ∙ cc
 
   pub step-is : stepOf words ends i ≡ s
@@ -93,7 +95,8 @@ module _ {words ends : List ℕ} {i : ℕ} {s : List ℕ} {ss : List (List ℕ)}
 
   pub laid-rest : Laid words ends (i + 1) ss x y
   laid-rest =
-      let same : getD ends i 0 ∷ drop (i + 1) ends ≡ (startOf ends i + length s) ∷ (marksFrom (startOf ends i + length s) ss ++ y) = sym (next ends i there) ∙ marks-are in
+      let same : getD ends i 0 ∷ drop (i + 1) ends ≡ (startOf ends i + length s)
+      ∷ (marksFrom (startOf ends i + length s) ss ++ y) = sym (next ends i there) ∙ marks-are in
       record {
         inside = step-within;
         words-from =
@@ -115,7 +118,8 @@ module _ {words ends : List ℕ} {i : ℕ} {s : List ℕ} {ss : List (List ℕ)}
       ∙ t
 
 -- they are cut out again as they were, and each passes the test of a step
-pub cut-again : (words ends : List ℕ) (i : ℕ) (ss : List (List ℕ)) (x y : List ℕ) → Laid words ends i ss x y → runOf words ends i (length ss) ≡ ss
+pub cut-again : (words ends : List ℕ) (i : ℕ) (ss : List (List ℕ)) (x y : List ℕ) → Laid words ends i ss x y
+    → runOf words ends i (length ss) ≡ ss
 unfolding runOf
 cut-again words ends i [] x y l = refl
 cut-again words ends i (s ∷ ss) x y l = ap₂ _∷_ (step-is l) (cut-again words ends (i + 1) ss x y (laid-rest l))

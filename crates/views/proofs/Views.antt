@@ -15,7 +15,8 @@ use Rattle.layout.specs.States.{heldOf}
 use Rattle.layout.specs.Clauses.{journalB, slotB}
 use Rattle.views.specs.Laid.{laidWords, laidMarks, Fits}
 use Rattle.views.specs.View.{View, heldSteps, openOf, issuedOf, slotsOf, encode, decode, Good, Shaped}
-use Rattle.views.proofs.SlotLists.{slots-again, least-slots, slots-pass, marks-again, numbers-again, least-again, slots-below, slots-length}
+use Rattle.views.proofs.SlotLists.{slots-again, least-slots, slots-pass, taken-again, numbers-again, least-again}
+use Rattle.views.proofs.SlotLists.{slots-below, slots-length}
 use Rattle.soundness.proofs.Sounds.{Sound}
 pub use Rattle.views.proofs.Laid.{padded-length}
 use Rattle.views.proofs.Laid.{padded-is, padded-zeros, run-count, laid-back, read-fits, laid-long, laid-sound, laid-again}
@@ -48,10 +49,11 @@ module _ (table journal : List ℕ) (head : Head) (p : Shaped head) (s : Sound t
   ends-are : laidMarks (take before all ++ drop before all) ≡ head .ends
   ends-are = ap laidMarks whole ∙ laid-back journal (head .ends) (heldOf head) (s .lists) (p .ends-64) (s .few) .1
 
-  slot-passes : (k : ℕ) → k < length (head .held) → slotB (head .checkpoint) (head .held) (head .issued) k ≡ true
-  slot-passes k h = s .slots k (omega (arith, p .held-8))
+  slot-passes : (k : ℕ) → k < length (head .taken) → slotB (head .checkpoint) (head .taken) (head .issued) k ≡ true
+  slot-passes k h = s .slots k (omega (arith, p .taken-8))
 
-  pub restored : encode (decode (record { table = table; journal = journal; head = head })) ≡ record { table = table; journal = journal; head = head }
+  pub restored : encode (decode (record { table = table; journal = journal; head = head }))
+      ≡ record { table = table; journal = journal; head = head }
   unfolding encode decode
   restored i =
       record {
@@ -59,7 +61,7 @@ module _ (table journal : List ℕ) (head : Head) (p : Shaped head) (s : Sound t
         journal = journal-is i;
         head =
             withFloor
-            (withSlots (withSteps (withTable head (used-is i) (head .checkpoint)) (tip-is i) (head .ends)) (held-is i) (issued-is i))
+            (withSlots (withSteps (withTable head (used-is i) (head .checkpoint)) (tip-is i) (head .ends)) (taken-is i) (issued-is i))
             (oldest-is i)
             (ends-are i);
       }
@@ -67,11 +69,11 @@ module _ (table journal : List ℕ) (head : Head) (p : Shaped head) (s : Sound t
       used-is : length (take (head .used) table) ≡ head .used
       used-is = length-take-le (head .used) table (s .used-in)
 
-      held-is : map openOf (slotsOf (head .held) (head .issued)) ≡ head .held
-      held-is = marks-again (head .checkpoint) (head .held) (head .issued)
+      taken-is : map openOf (slotsOf (head .taken) (head .issued)) ≡ head .taken
+      taken-is = taken-again (head .checkpoint) (head .taken) (head .issued)
 
-      issued-is : map issuedOf (slotsOf (head .held) (head .issued)) ≡ head .issued
-      issued-is = numbers-again (head .checkpoint) (head .held) (head .issued) (p .held-8 ∙ sym (p .issued-8)) slot-passes
+      issued-is : map issuedOf (slotsOf (head .taken) (head .issued)) ≡ head .issued
+      issued-is = numbers-again (head .checkpoint) (head .taken) (head .issued) (p .taken-8 ∙ sym (p .issued-8)) slot-passes
 
       oldest-is : head .checkpoint - length (take before all) ≡ head .oldest
       oldest-is = omega (arith, old-long, s .low)
@@ -88,10 +90,10 @@ module _ (table journal : List ℕ) (head : Head) (p : Shaped head) (s : Sound t
         held =
             subst (Fits (length journal)) (sym whole)
             (read-fits journal (head .ends) (heldOf head) (s .lists) (p .ends-64) (s .few));
-        eight = slots-length (head .held) (head .issued) ∙ p .held-8;
-        below = slots-below (head .checkpoint) (head .held) (head .issued) (p .held-8 ∙ sym (p .issued-8)) slot-passes;
+        eight = slots-length (head .taken) (head .issued) ∙ p .taken-8;
+        below = slots-below (head .checkpoint) (head .taken) (head .issued) (p .taken-8 ∙ sym (p .issued-8)) slot-passes;
         since = omega (arith, old-long);
-        floor = oldest-is ∙ s .oldest ∙ least-again (head .checkpoint) (head .held) (head .issued) (p .held-8 ∙ sym (p .issued-8));
+        floor = oldest-is ∙ s .oldest ∙ least-again (head .checkpoint) (head .taken) (head .issued) (p .taken-8 ∙ sym (p .issued-8));
       }
     where
       oldest-is : head .checkpoint - length (take before all) ≡ head .oldest
@@ -115,7 +117,7 @@ module _ (v : View) (g : Good v) where
   unfolding encode
   encoded-shaped =
       record {
-        held-8 = length-map (v .slots) openOf ∙ g .eight;
+        taken-8 = length-map (v .slots) openOf ∙ g .eight;
         issued-8 = length-map (v .slots) issuedOf ∙ g .eight;
         ends-64 = long .1;
       }
@@ -156,8 +158,10 @@ module _ (v : View) (g : Good v) where
       run-is : runOf J E 0 ((v .checkpoint + length (v .steps)) - (v .checkpoint - length (v .old))) ≡ heldSteps v
       run-is = ap (runOf J E 0) held-is ∙ laid-again (v .limits .journal) (heldSteps v)
 
-      old-is : take (v .checkpoint - (v .checkpoint - length (v .old))) (runOf J E 0 ((v .checkpoint + length (v .steps)) - (v .checkpoint - length (v .old)))) ≡ v .old
+      old-is : take (v .checkpoint - (v .checkpoint - length (v .old)))
+          (runOf J E 0 ((v .checkpoint + length (v .steps)) - (v .checkpoint - length (v .old)))) ≡ v .old
       old-is = ap₂ take before run-is ∙ take-append-seam (v .old) (v .steps)
 
-      steps-are : drop (v .checkpoint - (v .checkpoint - length (v .old))) (runOf J E 0 ((v .checkpoint + length (v .steps)) - (v .checkpoint - length (v .old)))) ≡ v .steps
+      steps-are : drop (v .checkpoint - (v .checkpoint - length (v .old)))
+          (runOf J E 0 ((v .checkpoint + length (v .steps)) - (v .checkpoint - length (v .old)))) ≡ v .steps
       steps-are = ap₂ drop before run-is ∙ drop-append-seam (v .old) (v .steps)

@@ -13,7 +13,7 @@ use Rattle.views.specs.View.{View, viewOld, padded, leastSlot}
 
 -- the floor worked out anew, how many steps lie below it, and how many words they have
 abbrev pub floorOf : Head → ℕ
-floorOf head = least (head .checkpoint) (head .held) (head .issued)
+floorOf head = least (head .checkpoint) (head .taken) (head .issued)
 
 abbrev pub goneSteps : Head → ℕ
 goneSteps head = floorOf head - head .oldest

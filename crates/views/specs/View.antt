@@ -128,7 +128,7 @@ encode v = record {
     oldest = v .checkpoint - length (v .old);
     checkpoint = v .checkpoint;
     tip = tipOf v;
-    held = map openOf (v .slots);
+    taken = map openOf (v .slots);
     issued = map issuedOf (v .slots);
     ends = laidMarks (heldSteps v);
   };
@@ -144,7 +144,7 @@ decode s =
       old = take before all;
       steps = drop before all;
       checkpoint = s .head .checkpoint;
-      slots = slotsOf (s .head .held) (s .head .issued);
+      slots = slotsOf (s .head .taken) (s .head .issued);
       limits = record { table = length (s .table); journal = length (s .journal) };
     }
 
@@ -173,6 +173,6 @@ Nearly v = Storable _≤_ v
 
 -- the arrays of a head have their lengths
 pub record Shaped (h : Head) : Type 0 where
-  pub held-8 : length (h .held) ≡ 8
+  pub taken-8 : length (h .taken) ≡ 8
   pub issued-8 : length (h .issued) ≡ 8
   pub ends-64 : length (h .ends) ≡ 64

@@ -32,10 +32,10 @@ pub fn trim(journal: &mut [u64], head: Head) -> Head
     requires { ⌜ Trimmable (now journal) head ⌝ }
     ensures { λ r. ⌜ (r ≡ trimmedHead head) × (now (journal .exit) ≡ trimmedJournal head (now (journal .entry))) ⌝ }
 {
-    let is_held = head.held;
+    let is_taken = head.taken;
     let issued = head.issued;
     let ends = head.ends;
-    let oldest = least_of(head.checkpoint, is_held, issued);
+    let oldest = least_of(head.checkpoint, is_taken, issued);
     let gone = step_index(head, oldest);
     let held = held_count(head);
     let words = end_of(&ends, gone);

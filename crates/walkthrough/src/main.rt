@@ -1,8 +1,8 @@
 // Shows the unit at work on a small feed. First its two lowest layers: entry words, the composition of two lists of
 // changes, and its application to a read set; a list that breaks the rules is refused. Then the same feed through
-// the one door of the unit: the read set that is forwarded is the one that the composition gave.
-mod door;
+// `unit::serve`: the read set that is forwarded is the one that the composition gave.
 mod print;
+mod serving;
 mod store;
 
 use crate::print::show;

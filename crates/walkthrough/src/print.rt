@@ -1,6 +1,6 @@
 // What the program prints, a line at a time.
 use answers::answer::Answer;
-use answers::refusal::number;
+use answers::ground::number;
 use answers::tally::Tally;
 use entry::Entry;
 use layout::head::Head;

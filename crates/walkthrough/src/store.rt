@@ -1,9 +1,9 @@
-// The feed once more, through the one door of the unit, on a small store.
-use crate::door::turn;
+// The feed once more, through `unit::serve`, on a small store.
 use crate::print::show;
 use crate::print::show_bytes;
 use crate::print::show_call;
 use crate::print::show_states;
+use crate::serving::make_call;
 use answers::call::Call;
 use answers::call::LookUp;
 use answers::call::Query;
@@ -35,7 +35,7 @@ fn unused() -> Store {
         oldest: 0,
         checkpoint: 0,
         tip: 0,
-        held: [false; SLOTS],
+        taken: [false; SLOTS],
         issued: [0; SLOTS],
         ends: [0; MARKS],
     };
@@ -59,7 +59,7 @@ fn make(name: &[u8], store: Store, call: Call, words: &mut [u64]) -> Store {
     let mut table = store.table;
     let mut journal = store.journal;
     let mut bytes = store.bytes;
-    let after = turn(
+    let after = make_call(
         store.tally,
         &mut table,
         &mut journal,

@@ -1,4 +1,4 @@
--- A slice that is written from its front piece by piece, each piece by a call that is lent the whole slice and a place.
+-- A slice that is written from its front piece by piece, each piece by a call that is lent the whole slice and a position.
 -- Assumes nothing.
 use mathlib.Core.Path.{_≡_, refl, sym, ap, _∙_}
 use mathlib.Core.List.{List, [], _++_, append-assoc, append-nil}
@@ -8,11 +8,11 @@ use lib.ListN.{length, take, drop, length-append, length-drop}
 use lib.Seq.{length-take-le, take-at, drop-at}
 use Rattle.words.proofs.Writing.{Writing, behind, done}
 
--- a slice of which the part before a place is written
+-- a slice of which the part before a position is written
 pub start-at : (out rest : List ℕ) (k : ℕ) → k ≤ length out → Writing out out k rest (take k out ++ rest)
 start-at out rest k h = record { same = refl; within = h; front = refl; back = refl }
 
--- a piece is stored at the place, and r is the place behind it
+-- a piece is stored at the position, and r is the position behind it
 module _
     {out out₀ : List ℕ}
     {k : ℕ}
@@ -50,7 +50,8 @@ module _
       }
 
 -- what is written on a slice that was written before
-pub continued : {out mid out₀ : List ℕ} {k m : ℕ} {rest left goal : List ℕ} → Writing mid out₀ k rest goal → Writing out mid m left (take k mid ++ rest) → k ≤ m → Writing out out₀ m left goal
+pub continued : {out mid out₀ : List ℕ} {k m : ℕ} {rest left goal : List ℕ} → Writing mid out₀ k rest goal
+    → Writing out mid m left (take k mid ++ rest) → k ≤ m → Writing out out₀ m left goal
 continued h w l =
     record {
       same = w .same ∙ h .same;
@@ -59,7 +60,8 @@ continued h w l =
       back = w .back ∙ behind h _ l;
     }
 
--- nothing is left: the slice is what was to be written, with the part behind the place as it was
+-- nothing is left: the slice is what was to be written, with the part behind the position as it was
 pub completed : {out out₀ : List ℕ} {k : ℕ} {goal : List ℕ} → Writing out out₀ k [] goal → out ≡ goal ++ drop k out₀
 completed {out} {out₀} {k} {goal} h =
-    done h refl ∙ ap (λ (n : ℕ). goal ++ drop n out₀) (ap length (sym (h .front)) ∙ ap length (append-nil (take k out)) ∙ length-take-le k out (h .within))
+    done h refl ∙ ap (λ (n : ℕ). goal ++ drop n out₀)
+    (ap length (sym (h .front)) ∙ ap length (append-nil (take k out)) ∙ length-take-le k out (h .within))

@@ -30,7 +30,8 @@ pub fn clear(words: &mut [u64])
 // Moves the words from `from` on down to `to`; the words behind them stay.
 pub fn shift(words: &mut [u64], from: usize, to: usize)
     requires { ⌜ (to ≤ from) × (from ≤ length (now words)) ⌝ }
-    ensures { λ r. ⌜ now (words .exit) ≡ take to (now (words .entry)) ++ drop from (now (words .entry)) ++ drop (to + (length (now (words .entry)) - from)) (now (words .entry)) ⌝ }
+    ensures { λ r. ⌜ now (words .exit) ≡ take to (now (words .entry)) ++ drop from (now (words .entry))
+        ++ drop (to + (length (now (words .entry)) - from)) (now (words .entry)) ⌝ }
 {
     if from == to {
         return;

@@ -10,7 +10,7 @@ use lib.ListN.{length}
 use Rattle.changes.specs.Runs.{startOf}
 use Rattle.answers.proofs.Firsts.{stops, goes-on, first-met, first-not, none-met}
 use Rattle.layout.specs.States.{heldOf}
-use Rattle.soundness.proofs.Passed.{StoreOk, store-ok}
+use Rattle.soundness.proofs.Passed.{store-ok}
 use Rattle.views.proofs.SoundFacts.{inside}
 use borrow.Author.Needs.{needs}
 use Rattle.commits.proofs.commit_check.Statement.{statement}
@@ -32,57 +32,102 @@ is-list-requires : tie.Need-is-list-requires
 is-list-requires c κs = search needs
 
 returns-2 : tie.Need-returns-2
-returns-2 c = sym (goes-on _ _ (c .before .before .before .before .store-check .ensures) (c .before .before .enum-told .given .1) ∙ first-met _ _ _ (ap not (sym (c .before .is-list .ensures)) ∙ (c .if1 .taken)))
+returns-2 c =
+    let c4 = c .before .before .before .before in
+    sym (goes-on _ _ (c4 .store-check .ensures) (c .before .before .enum-told .given .1)
+    ∙ first-met _ _ _ (ap not (sym (c .before .is-list .ensures)) ∙ (c .if1 .taken)))
 
 returns-3 : tie.Need-returns-3
 returns-3 c =
+    let c3 = c .before .before .before in
+    let c5 = c3 .before .before in
+    let args = c5 .before .before .before .before .args in
     sym
-    (goes-on _ _ (c .before .before .before .before .before .store-check .ensures) (c .before .before .before .enum-told .given .1)
+    (goes-on _ _ (c5 .store-check .ensures) (c3 .enum-told .given .1)
     ∙ first-not _ _ _ (ap not (sym (c .before .before .is-list .ensures)) ∙ (c .before .if1 .left))
-    ∙ first-met _ _ _ (eq-eqb ((c .before .before .before .before .before .before .before .before .before .args .t3) .tip) 4294967295 (c .if2 .taken)))
+    ∙ first-met _ _ _ (eq-eqb (args .t3 .tip) 4294967295 (c .if2 .taken)))
 
 held-count-requires : tie.Need-held-count-requires
 held-count-requires c κs =
-    let ok = store-ok (c .before .before .before .before .before .before .before .before .before .args .table .now) (c .before .before .before .before .before .before .before .before .before .args .journal .now) (c .before .before .before .before .before .before .before .before .before .args .t3) (c .before .before .before .before .before .store-check .ensures) (c .before .before .before .enum-told .given .1) in
+    let c3 = c .before .before .before in
+    let c5 = c3 .before .before in
+    let args = c5 .before .before .before .before .args in
+    let ok = store-ok (args .table .now) (args .journal .now) (args .t3) (c5 .store-check .ensures) (c3 .enum-told .given .1) in
     omega (arith, ok .sound .low, ok .sound .high)
 
 returns-4 : tie.Need-returns-4
 returns-4 c =
+    let c3 = c .before .before .before in
+    let c4 = c3 .before in
+    let c5 = c4 .before in
+    let c7 = c5 .before .before in
+    let args = c7 .before .before .before .before .args in
     sym
-    (goes-on _ _ (c .before .before .before .before .before .before .before .store-check .ensures) (c .before .before .before .before .before .enum-told .given .1)
-    ∙ first-not _ _ _ (ap not (sym (c .before .before .before .before .is-list .ensures)) ∙ (c .before .before .before .if1 .left))
-    ∙ first-not _ _ _ (ne-eqb ((c .before .before .before .before .before .before .before .before .before .before .before .args .t3) .tip) 4294967295 (c .before .before .if2 .left))
-    ∙ first-met _ _ _ (eq-eqb (heldOf (c .before .before .before .before .before .before .before .before .before .before .before .args .t3)) 64 (sym (c .before .held-count .ensures) ∙ (c .if3 .taken))))
+    (goes-on _ _ (c7 .store-check .ensures) (c5 .enum-told .given .1)
+    ∙ first-not _ _ _ (ap not (sym (c4 .is-list .ensures)) ∙ (c3 .if1 .left))
+    ∙ first-not _ _ _ (ne-eqb (args .t3 .tip) 4294967295 (c .before .before .if2 .left))
+    ∙ first-met _ _ _ (eq-eqb (heldOf (args .t3)) 64 (sym (c .before .held-count .ensures) ∙ (c .if3 .taken))))
 
 end-of-requires : tie.Need-end-of-requires
 end-of-requires c κs =
-    let ok = store-ok (c .before .before .before .before .before .before .before .before .before .before .before .before .before .before .args .table .now) (c .before .before .before .before .before .before .before .before .before .before .before .before .before .before .args .journal .now) (c .before .before .before .before .before .before .before .before .before .before .before .before .before .before .args .t3) (c .before .before .before .before .before .before .before .before .before .before .store-check .ensures) (c .before .before .before .before .before .before .before .before .enum-told .given .1) in
-    omega (arith, ok .sound .few, (c .before .before .before .before .held-count .ensures))
+    let c4 = c .before .before .before .before in
+    let c8 = c4 .before .before .before .before in
+    let c10 = c8 .before .before in
+    let args = c10 .before .before .before .before .args in
+    let ok = store-ok (args .table .now) (args .journal .now) (args .t3) (c10 .store-check .ensures) (c8 .enum-told .given .1) in
+    omega (arith, ok .sound .few, (c4 .held-count .ensures))
 
 sub-if4 : tie.Need-sub-if4
 sub-if4 c =
-    let ok = store-ok (c .before .before .before .before .before .before .before .before .before .before .before .before .before .before .before .args .table .now) (c .before .before .before .before .before .before .before .before .before .before .before .before .before .before .before .args .journal .now) (c .before .before .before .before .before .before .before .before .before .before .before .before .before .before .before .args .t3) (c .before .before .before .before .before .before .before .before .before .before .before .store-check .ensures) (c .before .before .before .before .before .before .before .before .before .enum-told .given .1) in
-    omega (arith, inside (ok .sound) (heldOf (c .before .before .before .before .before .before .before .before .before .before .before .before .before .before .before .args .t3)) (le-refl (heldOf (c .before .before .before .before .before .before .before .before .before .before .before .before .before .before .before .args .t3))), (c .end-of .ensures) ∙ ap (startOf ((c .before .before .before .before .before .before .before .before .before .before .before .before .before .before .before .args .t3) .ends)) (c .before .before .before .before .before .held-count .ensures))
+    let c5 = c .before .before .before .before .before in
+    let c9 = c5 .before .before .before .before in
+    let c11 = c9 .before .before in
+    let args = c11 .before .before .before .before .args in
+    let ok = store-ok (args .table .now) (args .journal .now) (args .t3) (c11 .store-check .ensures) (c9 .enum-told .given .1) in
+    omega (
+      arith,
+      inside (ok .sound) (heldOf (args .t3)) (le-refl (heldOf (args .t3))),
+      (c .end-of .ensures)
+          ∙ ap (startOf (args .t3 .ends)) (c5 .held-count .ensures),
+    )
 
 returns-5 : tie.Need-returns-5
 returns-5 c =
-    let used = (c .before .end-of .ensures) ∙ ap (startOf ((c .before .before .before .before .before .before .before .before .before .before .before .before .before .before .before .before .args .t3) .ends)) (c .before .before .before .before .before .before .held-count .ensures) in
+    let c5 = c .before .before .before .before .before in
+    let c6 = c5 .before in
+    let c7 = c6 .before in
+    let c8 = c7 .before in
+    let c9 = c8 .before in
+    let c10 = c9 .before in
+    let c12 = c10 .before .before in
+    let args = c12 .before .before .before .before .args in
+    let used = (c .before .end-of .ensures) ∙ ap (startOf (args .t3 .ends)) (c6 .held-count .ensures) in
     sym
-    (goes-on _ _ (c .before .before .before .before .before .before .before .before .before .before .before .before .store-check .ensures) (c .before .before .before .before .before .before .before .before .before .before .enum-told .given .1)
-    ∙ first-not _ _ _ (ap not (sym (c .before .before .before .before .before .before .before .before .before .is-list .ensures)) ∙ (c .before .before .before .before .before .before .before .before .if1 .left))
-    ∙ first-not _ _ _ (ne-eqb ((c .before .before .before .before .before .before .before .before .before .before .before .before .before .before .before .before .args .t3) .tip) 4294967295 (c .before .before .before .before .before .before .before .if2 .left))
-    ∙ first-not _ _ _ (ne-eqb (heldOf (c .before .before .before .before .before .before .before .before .before .before .before .before .before .before .before .before .args .t3)) 64 (λ e. (c .before .before .before .before .before .if3 .left) ((c .before .before .before .before .before .before .held-count .ensures) ∙ e)))
-    ∙ first-met _ _ _ (lt-ltb (length (c .before .before .before .before .before .before .before .before .before .before .before .before .before .before .before .before .args .journal .now) - startOf ((c .before .before .before .before .before .before .before .before .before .before .before .before .before .before .before .before .args .t3) .ends) (heldOf (c .before .before .before .before .before .before .before .before .before .before .before .before .before .before .before .before .args .t3))) (length (c .before .before .before .before .before .before .before .before .before .before .before .before .before .before .before .before .args .list .now)) (omega (arith, used, (c .if4 .taken)))))
+    (goes-on _ _ (c12 .store-check .ensures) (c10 .enum-told .given .1)
+    ∙ first-not _ _ _ (ap not (sym (c9 .is-list .ensures)) ∙ (c8 .if1 .left))
+    ∙ first-not _ _ _ (ne-eqb (args .t3 .tip) 4294967295 (c7 .if2 .left))
+    ∙ first-not _ _ _ (ne-eqb (heldOf (args .t3)) 64 (λ e. (c5 .if3 .left) ((c6 .held-count .ensures) ∙ e)))
+    ∙ first-met _ _ _ (lt-ltb (length (args .journal .now) - startOf (args .t3 .ends) (heldOf (args .t3)))
+    (length (args .list .now)) (omega (arith, used, (c .if4 .taken)))))
 
 returns-6 : tie.Need-returns-6
 returns-6 c =
-    let used = (c .before .end-of .ensures) ∙ ap (startOf ((c .before .before .before .before .before .before .before .before .before .before .before .before .before .before .before .before .args .t3) .ends)) (c .before .before .before .before .before .before .held-count .ensures) in
+    let c5 = c .before .before .before .before .before in
+    let c6 = c5 .before in
+    let c7 = c6 .before in
+    let c8 = c7 .before in
+    let c9 = c8 .before in
+    let c10 = c9 .before in
+    let c12 = c10 .before .before in
+    let args = c12 .before .before .before .before .args in
+    let used = (c .before .end-of .ensures) ∙ ap (startOf (args .t3 .ends)) (c6 .held-count .ensures) in
     sym
-    (goes-on _ _ (c .before .before .before .before .before .before .before .before .before .before .before .before .store-check .ensures) (c .before .before .before .before .before .before .before .before .before .before .enum-told .given .1)
-    ∙ first-not _ _ _ (ap not (sym (c .before .before .before .before .before .before .before .before .before .is-list .ensures)) ∙ (c .before .before .before .before .before .before .before .before .if1 .left))
-    ∙ first-not _ _ _ (ne-eqb ((c .before .before .before .before .before .before .before .before .before .before .before .before .before .before .before .before .args .t3) .tip) 4294967295 (c .before .before .before .before .before .before .before .if2 .left))
-    ∙ first-not _ _ _ (ne-eqb (heldOf (c .before .before .before .before .before .before .before .before .before .before .before .before .before .before .before .before .args .t3)) 64 (λ e. (c .before .before .before .before .before .if3 .left) ((c .before .before .before .before .before .before .held-count .ensures) ∙ e)))
-    ∙ first-not _ _ _ (le-ltb (length (c .before .before .before .before .before .before .before .before .before .before .before .before .before .before .before .before .args .journal .now) - startOf ((c .before .before .before .before .before .before .before .before .before .before .before .before .before .before .before .before .args .t3) .ends) (heldOf (c .before .before .before .before .before .before .before .before .before .before .before .before .before .before .before .before .args .t3))) (length (c .before .before .before .before .before .before .before .before .before .before .before .before .before .before .before .before .args .list .now)) (omega (arith, used, (c .if4 .left))))
+    (goes-on _ _ (c12 .store-check .ensures) (c10 .enum-told .given .1)
+    ∙ first-not _ _ _ (ap not (sym (c9 .is-list .ensures)) ∙ (c8 .if1 .left))
+    ∙ first-not _ _ _ (ne-eqb (args .t3 .tip) 4294967295 (c7 .if2 .left))
+    ∙ first-not _ _ _ (ne-eqb (heldOf (args .t3)) 64 (λ e. (c5 .if3 .left) ((c6 .held-count .ensures) ∙ e)))
+    ∙ first-not _ _ _ (le-ltb (length (args .journal .now) - startOf (args .t3 .ends) (heldOf (args .t3)))
+    (length (args .list .now)) (omega (arith, used, (c .if4 .left))))
     ∙ none-met)
 
 pub commit-check-spec : {M : Type 1} → statement M

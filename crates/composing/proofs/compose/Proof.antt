@@ -1,9 +1,8 @@
 -- `composing::compose` meets its contract: what is written so far and the composition of what is left make the composition.
 -- Assumes nothing.
-use mathlib.Core.Path.{_∙_, sym}
 use Prim.Native.Nat.{_+_, _-_}
-use lib.ListN.{length, getD}
-use Rattle.composing.proofs.Composing.{Composing, composing, turn, left-earlier, left-later}
+use lib.ListN.{length}
+use Rattle.composing.proofs.Composing.{Composing, composing, iteration, left-earlier, left-later}
 use Rattle.words.proofs.Writing.{copied-size, copied}
 use borrow.Author.Needs.{needs}
 use native.Mathlib.Omega.{arith}
@@ -57,8 +56,14 @@ same-length c = search needs
 
 returns : tie.Need-returns Inv-loop μ-loop
 returns c =
-    let rest = left-later (c .before .before .before .before .before .before .before .loop .inv) (c .before .before .before .before .before .if1 .taken) in
-    (copied-size (c .before .before .before .before .before .before .before .loop .inv .writing) (c .before .before .before .before .before .before .before .before .before .before .before .args .later .now) (c .before .before .before .before .before .before .before .loop .j) rest, copied (c .before .before .before .before .before .before .before .loop .inv .writing) (c .before .before .before .before .before .before .before .before .before .before .before .args .later .now) (c .before .before .before .before .before .before .before .loop .j) rest (c .before .before .copy .last .1 .0) (c .before .before .copy .ensures))
+    let c5 = c .before .before .before .before .before in
+    let c7 = c5 .before .before in
+    let args = c7 .before .before .before .before .args in
+    let rest = left-later (c7 .loop .inv) (c5 .if1 .taken) in (
+      copied-size (c7 .loop .inv .writing) (args .later .now) (c7 .loop .j) rest,
+      copied (c7 .loop .inv .writing)
+          (args .later .now) (c7 .loop .j) rest (c .before .before .copy .last .1 .0) (c .before .before .copy .ensures),
+    )
 
 mul-v : tie.Need-mul-v Inv-loop μ-loop
 mul-v c = search needs
@@ -91,10 +96,20 @@ past-requires-2 : tie.Need-past-requires-2 Inv-loop μ-loop
 past-requires-2 c κs = search needs
 
 loop-less : tie.Need-loop-less Inv-loop μ-loop
-loop-less c = turn (c .before .before .before .before .before .before .before .loop .inv) (c .before .before .before .before .before .if1 .left) (c .before .before .before .before .before .before .loop-test .taken) (c .before .before .next-word .result) (c .before .past .result) (c .past2 .result) (c .before .before .next-word .ensures) (c .before .past .ensures) (c .past2 .ensures) .1
+loop-less c =
+    let c5 = c .before .before .before .before .before in
+    let c6 = c5 .before in
+    let c7 = c6 .before in
+    iteration (c7 .loop .inv) (c5 .if1 .left) (c6 .loop-test .taken) (c .before .before .next-word .result)
+    (c .before .past .result) (c .past2 .result) (c .before .before .next-word .ensures) (c .before .past .ensures) (c .past2 .ensures) .1
 
 loop-again : tie.Need-loop-again Inv-loop μ-loop
-loop-again c = turn (c .before .before .before .before .before .before .before .loop .inv) (c .before .before .before .before .before .if1 .left) (c .before .before .before .before .before .before .loop-test .taken) (c .before .before .next-word .result) (c .before .past .result) (c .past2 .result) (c .before .before .next-word .ensures) (c .before .past .ensures) (c .past2 .ensures) .0
+loop-again c =
+    let c5 = c .before .before .before .before .before in
+    let c6 = c5 .before in
+    let c7 = c6 .before in
+    iteration (c7 .loop .inv) (c5 .if1 .left) (c6 .loop-test .taken) (c .before .before .next-word .result)
+    (c .before .past .result) (c .past2 .result) (c .before .before .next-word .ensures) (c .before .past .ensures) (c .past2 .ensures) .0
 
 mul-copy-3 : tie.Need-mul-copy-3 Inv-loop μ-loop
 mul-copy-3 c = search needs
@@ -134,8 +149,14 @@ same-length-2 c = search needs
 
 returns-2 : tie.Need-returns-2 Inv-loop μ-loop
 returns-2 c =
-    let rest = left-earlier (c .before .before .before .before .before .before .loop .inv) (c .before .before .before .before .before .loop-test .left) in
-    (copied-size (c .before .before .before .before .before .before .loop .inv .writing) (c .before .before .before .before .before .before .before .before .before .before .args .earlier .now) (c .before .before .before .before .before .before .loop .i) rest, copied (c .before .before .before .before .before .before .loop .inv .writing) (c .before .before .before .before .before .before .before .before .before .before .args .earlier .now) (c .before .before .before .before .before .before .loop .i) rest (c .before .before .copy2 .last .1 .0) (c .before .before .copy2 .ensures))
+    let c5 = c .before .before .before .before .before in
+    let c6 = c5 .before in
+    let args = c6 .before .before .before .before .args in
+    let rest = left-earlier (c6 .loop .inv) (c5 .loop-test .left) in (
+      copied-size (c6 .loop .inv .writing) (args .earlier .now) (c6 .loop .i) rest,
+      copied (c6 .loop .inv .writing)
+          (args .earlier .now) (c6 .loop .i) rest (c .before .before .copy2 .last .1 .0) (c .before .before .copy2 .ensures),
+    )
 
 pub compose-spec : {M : Type 1} → statement M
 compose-spec =

@@ -14,10 +14,14 @@ offer-field-requires-2 : tie.Need-offer-field-requires-2
 offer-field-requires-2 c κs = search needs
 
 returns : tie.Need-returns
-returns c = rw (lt-ltb (offerOf (c .before .before .before .args .earlier)) (offerOf (c .before .before .before .args .later)) (omega arith))
+returns c =
+    let args = c .before .before .before .args in
+    rw (lt-ltb (offerOf (args .earlier)) (offerOf (args .later)) (omega arith))
 
 returns-2 : tie.Need-returns-2
-returns-2 c = rw (le-ltb (offerOf (c .before .before .before .args .earlier)) (offerOf (c .before .before .before .args .later)) (omega arith))
+returns-2 c =
+    let args = c .before .before .before .args in
+    rw (le-ltb (offerOf (args .earlier)) (offerOf (args .later)) (omega arith))
 
 pub next-word-spec : {M : Type 1} → statement M
 next-word-spec = tie.close (tie.spec offer-field-requires offer-field-requires-2 returns returns-2)

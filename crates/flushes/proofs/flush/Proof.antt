@@ -37,7 +37,7 @@ trim-requires c κs =
     let s = c .before .before .before .before .before .before .before .before .before .before .before .before in
     let shape =
     shaped (s .args .head)
-    (length-unmapped Bool (s .args .head .held) 8 (s .good .1 .1 .0 .1 .1 .1 .1 .1 .1 .0 .1 .0 .1))
+    (length-unmapped Bool (s .args .head .taken) 8 (s .good .1 .1 .0 .1 .1 .1 .1 .1 .1 .0 .1 .0 .1))
     (length-unmapped ℕ (s .args .head .issued) 8 (s .good .1 .1 .0 .1 .1 .1 .1 .1 .1 .1 .0 .1 .0 .1))
     (length-unmapped ℕ (s .args .head .ends) 64 (s .good .1 .1 .0 .1 .1 .1 .1 .1 .1 .1 .1 .0 .1 .0 .1)) in
     let k = counted-of _ _ (sym (c .before .before .before .made .given .1)

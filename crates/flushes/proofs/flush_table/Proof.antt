@@ -17,7 +17,7 @@ use borrow.Author.Needs.{needs}
 use Rattle.flushes.proofs.flush_table.Statement.{statement}
 use Rattle.flushes.proofs.flush_table.Tie as tie
 
--- the place where the call begins, from the one where its checks have passed
+-- the position where the call begins, from the one where its checks have passed
 abbrev start : tie.After-enum-told2 → tie.Start
 start d = d .before .before .before .before .before .before .before .before .before
 
@@ -35,7 +35,7 @@ shape : (d : tie.After-enum-told2) → Shaped (start d .args .head)
 shape d =
     let s = start d in
     shaped (s .args .head)
-    (length-unmapped Bool (s .args .head .held) 8 (s .good .1 .1 .0 .1 .1 .1 .1 .1 .1 .0 .1 .0 .1))
+    (length-unmapped Bool (s .args .head .taken) 8 (s .good .1 .1 .0 .1 .1 .1 .1 .1 .1 .0 .1 .0 .1))
     (length-unmapped ℕ (s .args .head .issued) 8 (s .good .1 .1 .0 .1 .1 .1 .1 .1 .1 .1 .0 .1 .0 .1))
     (length-unmapped ℕ (s .args .head .ends) 64 (s .good .1 .1 .0 .1 .1 .1 .1 .1 .1 .1 .1 .0 .1 .0 .1))
 
@@ -49,7 +49,11 @@ same-length : tie.Need-same-length
 same-length c = search needs
 
 returns : tie.Need-returns
-returns c = held-not (c .before .before .before .before .before .before .before .args .table .now) (c .before .before .before .before .before .before .before .args .journal .now) (c .before .before .before .before .before .before .before .args .head) (c .before .before .before .before .before .before .before .args .state) (stops _ _ (c .before .before .before .store-check .ensures) (c .before .store .given .1)) (c .before .store .given .1)
+returns c =
+    let c3 = c .before .before .before in
+    let args = c3 .before .before .before .before .args in
+    held-not (args .table .now) (args .journal .now) (args .head) (args .state)
+    (stops _ _ (c3 .store-check .ensures) (c .before .store .given .1)) (c .before .store .given .1)
 
 enum-told : tie.Need-enum-told
 enum-told c = search needs
@@ -65,8 +69,12 @@ same-length-2 c = search needs
 
 returns-2 : tie.Need-returns-2
 returns-2 c =
-    held-not (c .before .before .before .before .before .before .before .before .before .before .args .table .now) (c .before .before .before .before .before .before .before .before .before .before .args .journal .now) (c .before .before .before .before .before .before .before .before .before .before .args .head) (c .before .before .before .before .before .before .before .before .before .before .args .state)
-    ((c .before .before .before .state-check .ensures) ∙ sym (goes-on _ _ (c .before .before .before .before .before .before .store-check .ensures) (c .before .before .before .before .enum-told .given .1))) (c .before .range .given .1)
+    let c3 = c .before .before .before in
+    let c4 = c3 .before in
+    let c6 = c4 .before .before in
+    let args = c6 .before .before .before .before .args in
+    held-not (args .table .now) (args .journal .now) (args .head) (args .state)
+    ((c3 .state-check .ensures) ∙ sym (goes-on _ _ (c6 .store-check .ensures) (c4 .enum-told .given .1))) (c .before .range .given .1)
 
 enum-told-2 : tie.Need-enum-told-2
 enum-told-2 c = search needs
@@ -76,46 +84,57 @@ same-length-3 c = search needs
 
 returns-3 : tie.Need-returns-3
 returns-3 c =
+    let args = c .before .before .before .before .before .before .before .before .before .before .before .args in
     let held = known (c .before .before) in
     let ok = state-facts held in
     let p = shape (c .before .before) in
-    let none = no-words (c .before .before .before .before .before .before .before .before .before .before .before .args .head) (c .before .before .before .before .before .before .before .before .before .before .before .args .state) (omega (arith, ok .low, ok .high, (c .if1 .taken))) in
-    room (c .before .before .before .before .before .before .before .before .before .before .before .args .table .now) (c .before .before .before .before .before .before .before .before .before .before .before .args .journal .now) (c .before .before .before .before .before .before .before .before .before .before .before .args .head) (c .before .before .before .before .before .before .before .before .before .before .before .args .state) held (size-here ok p none) (table-here ok p none) (ok .sound .used-in)
+    let none = no-words (args .head) (args .state) (omega (arith, ok .low, ok .high, (c .if1 .taken))) in
+    room (args .table .now) (args .journal .now) (args .head) (args .state) held (size-here ok p none)
+    (table-here ok p none) (ok .sound .used-in)
 
 same-length-4 : tie.Need-same-length-4
 same-length-4 c = search needs
 
 returns-4 : tie.Need-returns-4
 returns-4 c =
-    let held = known (c .before .before .before .before) in
+    let c4 = c .before .before .before .before in
+    let args = c4 .before .before .before .before .before .before .before .before .before .args in
+    let held = known c4 in
     let ok = state-facts held in
-    let p = shape (c .before .before .before .before) in
-    let none = no-words (c .before .before .before .before .before .before .before .before .before .before .before .before .before .args .head) (c .before .before .before .before .before .before .before .before .before .before .before .before .before .args .state) ((c .if2 .taken)) in
-    room (c .before .before .before .before .before .before .before .before .before .before .before .before .before .args .table .now) (c .before .before .before .before .before .before .before .before .before .before .before .before .before .args .journal .now) (c .before .before .before .before .before .before .before .before .before .before .before .before .before .args .head) (c .before .before .before .before .before .before .before .before .before .before .before .before .before .args .state) held (size-here ok p none) (table-here ok p none) (ok .sound .used-in)
+    let p = shape c4 in
+    let none = no-words (args .head) (args .state) ((c .if2 .taken)) in
+    room (args .table .now) (args .journal .now) (args .head) (args .state) held (size-here ok p none)
+    (table-here ok p none) (ok .sound .used-in)
 
 words-to-requires : tie.Need-words-to-requires
 words-to-requires c κs =
-    let ok = state-facts (known (c .before .before .before .before)) in
-    (ok .sound .low, ok .low, omega (arith, ok .sound .low, ok .sound .few, ok .high), starts-rise ok (shape (c .before .before .before .before)))
+    let c4 = c .before .before .before .before in
+    let ok = state-facts (known c4) in
+    (ok .sound .low, ok .low, omega (arith, ok .sound .low, ok .sound .few, ok .high), starts-rise ok (shape c4))
 
 same-length-5 : tie.Need-same-length-5
 same-length-5 c = search needs
 
 returns-5 : tie.Need-returns-5
 returns-5 c =
-    let held = known (c .before .before .before .before .before .before) in
+    let c6 = c .before .before .before .before .before .before in
+    let args = c6 .before .before .before .before .before .before .before .before .before .args in
+    let held = known c6 in
     let ok = state-facts held in
-    let p = shape (c .before .before .before .before .before .before) in
+    let p = shape c6 in
     let none = sym (c .before .words-to .ensures) ∙ (c .if3 .taken) in
-    room (c .before .before .before .before .before .before .before .before .before .before .before .before .before .before .before .args .table .now) (c .before .before .before .before .before .before .before .before .before .before .before .before .before .before .before .args .journal .now) (c .before .before .before .before .before .before .before .before .before .before .before .before .before .before .before .args .head) (c .before .before .before .before .before .before .before .before .before .before .before .before .before .before .before .args .state) held (size-here ok p none) (table-here ok p none) (ok .sound .used-in)
+    room (args .table .now) (args .journal .now) (args .head) (args .state) held (size-here ok p none)
+    (table-here ok p none) (ok .sound .used-in)
 
 are-few-requires : tie.Need-are-few-requires
 are-few-requires c κs = search needs
 
 move-few-requires : tie.Need-move-few-requires
 move-few-requires c κs =
+    let c4 = c .before .before .before .before in
+    let c9 = c4 .before .before .before .before .before in
     let few = and-both _ _ (sym (c .before .before .are-few .ensures) ∙ (c .before .if4 .taken)) in
-    (known (c .before .before .before .before .before .before .before .before .before), leb-true _ _ (few .0), omega (arith, leb-true (c .before .before .before .before .words-to .result) 512 (few .1), (c .before .before .before .before .words-to .ensures)))
+    (known c9, leb-true _ _ (few .0), omega (arith, leb-true (c4 .words-to .result) 512 (few .1), (c4 .words-to .ensures)))
 
 size-if-room-requires : tie.Need-size-if-room-requires
 size-if-room-requires c κs = search needs
@@ -125,8 +144,11 @@ same-length-6 c = search needs
 
 returns-6 : tie.Need-returns-6
 returns-6 c =
-    sized (c .before .before .before .before .before .before .before .before .before .before .before .before .before .before .before .before .before .before .before .before .before .before .args .table .now) (c .before .before .before .before .before .before .before .before .before .before .before .before .before .before .before .before .before .before .before .before .before .before .args .journal .now) (c .before .before .before .before .before .before .before .before .before .before .before .before .before .before .before .before .before .before .before .before .before .before .args .head) (c .before .before .before .before .before .before .before .before .before .before .before .before .before .before .before .before .before .before .before .before .before .before .args .state) (known (c .before .before .before .before .before .before .before .before .before .before .before .before .before))
-    (c .before .before .before .move-few .ensures .0) (c .before .before .before .move-few .ensures .1) (c .before .before .table .given) (c .size-if-room .ensures)
+    let c3 = c .before .before .before in
+    let c13 = c3 .before .before .before .before .before .before .before .before .before .before in
+    let args = c13 .before .before .before .before .before .before .before .before .before .args in
+    sized (args .table .now) (args .journal .now) (args .head) (args .state) (known c13)
+    (c3 .move-few .ensures .0) (c3 .move-few .ensures .1) (c .before .before .table .given) (c .size-if-room .ensures)
 
 move-many-requires : tie.Need-move-many-requires
 move-many-requires c κs = known (c .before .before .before .before .before .before .before .before .before)
@@ -139,8 +161,11 @@ same-length-7 c = search needs
 
 returns-7 : tie.Need-returns-7
 returns-7 c =
-    sized (c .before .before .before .before .before .before .before .before .before .before .before .before .before .before .before .before .before .before .before .before .before .before .args .table .now) (c .before .before .before .before .before .before .before .before .before .before .before .before .before .before .before .before .before .before .before .before .before .before .args .journal .now) (c .before .before .before .before .before .before .before .before .before .before .before .before .before .before .before .before .before .before .before .before .before .before .args .head) (c .before .before .before .before .before .before .before .before .before .before .before .before .before .before .before .before .before .before .before .before .before .before .args .state) (known (c .before .before .before .before .before .before .before .before .before .before .before .before .before))
-    (c .before .before .before .move-many .ensures .0) (c .before .before .before .move-many .ensures .1) (c .before .before .table2 .given) (c .size-if-room2 .ensures)
+    let c3 = c .before .before .before in
+    let c13 = c3 .before .before .before .before .before .before .before .before .before .before in
+    let args = c13 .before .before .before .before .before .before .before .before .before .args in
+    sized (args .table .now) (args .journal .now) (args .head) (args .state) (known c13)
+    (c3 .move-many .ensures .0) (c3 .move-many .ensures .1) (c .before .before .table2 .given) (c .size-if-room2 .ensures)
 
 pub flush-table-spec : {M : Type 1} → statement M
 flush-table-spec =

@@ -16,7 +16,16 @@ slice-aggregate-move-table-2 : tie.Need-slice-aggregate-move-table-2
 slice-aggregate-move-table-2 c = search needs
 
 move-table-requires : tie.Need-move-table-requires
-move-table-requires c κs = ((c .before .before .before .before .before .pre), most-room (state-facts (c .before .before .before .before .before .pre)) (shaped (c .before .before .before .before .before .args .head) (length-unmapped Bool (c .before .before .before .before .before .args .head .held) 8 (c .before .before .before .before .before .good .1 .1 .0 .1 .1 .1 .1 .1 .1 .0 .1 .0 .1)) (length-unmapped ℕ (c .before .before .before .before .before .args .head .issued) 8 (c .before .before .before .before .before .good .1 .1 .0 .1 .1 .1 .1 .1 .1 .1 .0 .1 .0 .1)) (length-unmapped ℕ (c .before .before .before .before .before .args .head .ends) 64 (c .before .before .before .before .before .good .1 .1 .0 .1 .1 .1 .1 .1 .1 .1 .1 .0 .1 .0 .1))))
+move-table-requires c κs =
+    let c5 = c .before .before .before .before .before in
+    let args = c5 .args in (
+      (c5 .pre),
+      most-room (state-facts (c5 .pre))
+          (shaped (args .head) (length-unmapped Bool (args .head .taken) 8
+          (c5 .good .1 .1 .0 .1 .1 .1 .1 .1 .1 .0 .1 .0 .1))
+          (length-unmapped ℕ (args .head .issued) 8 (c5 .good .1 .1 .0 .1 .1 .1 .1 .1 .1 .1 .0 .1 .0 .1))
+          (length-unmapped ℕ (args .head .ends) 64 (c5 .good .1 .1 .0 .1 .1 .1 .1 .1 .1 .1 .1 .0 .1 .0 .1))),
+    )
 
 same-length : tie.Need-same-length
 same-length c = search needs

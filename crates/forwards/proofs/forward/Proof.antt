@@ -1,6 +1,6 @@
 -- `forward` meets its contract.
 -- Assumes nothing.
-use mathlib.Core.Path.{_≡_, sym, ap, ap₂, subst, _∙_}
+use mathlib.Core.Path.{sym, ap, ap₂, subst, _∙_}
 use mathlib.Core.Bool.{Bool}
 use Prim.Native.Nat.{ℕ, _-_}
 use native.Mathlib.Omega.{arith}
@@ -14,7 +14,7 @@ use borrow.Author.Needs.{needs}
 use Rattle.forwards.proofs.forward.Statement.{statement}
 use Rattle.forwards.proofs.forward.Tie as tie
 
--- what the accepted call knows, from the place where its test is told
+-- what the accepted call knows, from the point where its test is told
 known : (d : tie.After-enum-told)
     → let s = d .before .before .before .before .before .before .before .before in
     Forwarding (s .args .table .now) (s .args .journal .now) (s .args .head) (s .args .reader) (s .args .state)
@@ -22,7 +22,7 @@ known d =
     let s = d .before .before .before .before .before .before .before .before in
     forwarding (s .args .table .now) (s .args .journal .now) (s .args .head) (s .args .reader) (s .args .state) (s .args .reads .now)
     (d .before .before .forward-check .ensures) (d .enum-told .given .1)
-    (length-unmapped Bool (s .args .head .held) 8 (s .good .1 .1 .0 .1 .1 .1 .1 .1 .1 .0 .1 .0 .1))
+    (length-unmapped Bool (s .args .head .taken) 8 (s .good .1 .1 .0 .1 .1 .1 .1 .1 .1 .0 .1 .0 .1))
     (length-unmapped ℕ (s .args .head .issued) 8 (s .good .1 .1 .0 .1 .1 .1 .1 .1 .1 .1 .0 .1 .0 .1))
     (length-unmapped ℕ (s .args .head .ends) 64 (s .good .1 .1 .0 .1 .1 .1 .1 .1 .1 .1 .1 .0 .1 .0 .1))
 
@@ -39,7 +39,11 @@ same-length-2 : tie.Need-same-length-2
 same-length-2 c = search needs
 
 returns : tie.Need-returns
-returns c = forward-refused (c .before .before .before .before .before .before .before .before .before .args .table .now) (c .before .before .before .before .before .before .before .before .before .args .journal .now) (c .before .before .before .before .before .before .before .before .before .args .head) (c .before .before .before .before .before .before .before .before .before .args .reader) (c .before .before .before .before .before .before .before .before .before .args .state) (c .before .before .before .before .before .before .before .before .before .args .reads .now) (c .before .before .before .forward-check .ensures) (c .before .check .given .1)
+returns c =
+    let c3 = c .before .before .before in
+    let args = c3 .before .before .before .before .before .before .args in
+    forward-refused (args .table .now) (args .journal .now) (args .head) (args .reader) (args .state) (args .reads .now)
+    (c3 .forward-check .ensures) (c .before .check .given .1)
 
 enum-told : tie.Need-enum-told
 enum-told c = search needs
@@ -60,13 +64,20 @@ slice-aggregate-bring-forward : tie.Need-slice-aggregate-bring-forward
 slice-aggregate-bring-forward c = search needs
 
 bring-forward-requires : tie.Need-bring-forward-requires
-bring-forward-requires c κs = rw ((c .before .before .before .before .step-index .ensures), (c .before .before .before .step-index2 .ensures)) (known (c .before .before .before .before .before .before .before) .rising)
+bring-forward-requires c κs =
+    let c3 = c .before .before .before in
+    let c4 = c3 .before in
+    let c7 = c4 .before .before .before in
+    rw ((c4 .step-index .ensures), (c3 .step-index2 .ensures)) (known c7 .rising)
 
 close-slot-requires : tie.Need-close-slot-requires
 close-slot-requires c κs = known (c .before .before .before .before .before .before .before .before .before .before .before) .slot-in
 
 trim-requires : tie.Need-trim-requires
-trim-requires c κs = subst (Trimmable (c .before .before .before .before .before .before .before .before .before .before .before .before .before .before .before .before .before .before .before .before .args .journal .now)) (sym (c .close-slot .ensures)) (known (c .before .before .before .before .before .before .before .before .before .before .before .before) .trimmable)
+trim-requires c κs =
+    let c12 = c .before .before .before .before .before .before .before .before .before .before .before .before in
+    let args = c12 .before .before .before .before .before .before .before .before .args in
+    subst (Trimmable (args .journal .now)) (sym (c .close-slot .ensures)) (known c12 .trimmable)
 
 same-length-3 : tie.Need-same-length-3
 same-length-3 c = search needs
@@ -76,11 +87,21 @@ same-length-4 c = search needs
 
 returns-2 : tie.Need-returns-2
 returns-2 c =
-    forward-done (c .before .before .before .before .before .before .before .before .before .before .before .before .before .before .before .before .before .before .before .before .before .before .before .args .table .now) (c .before .before .before .before .before .before .before .before .before .before .before .before .before .before .before .before .before .before .before .before .before .before .before .args .journal .now) (c .before .before .before .before .before .before .before .before .before .before .before .before .before .before .before .before .before .before .before .before .before .before .before .args .head) (c .before .before .before .before .before .before .before .before .before .before .before .before .before .before .before .before .before .before .before .before .before .before .before .args .reader) (c .before .before .before .before .before .before .before .before .before .before .before .before .before .before .before .before .before .before .before .before .before .before .before .args .state) (c .before .before .before .before .before .before .before .before .before .before .before .before .before .before .before .before .before .before .before .before .before .before .before .args .reads .now) (c .before .before .before .before .before .before .before .before .before .before .before .before .before .before .before .before .before .forward-check .ensures) (c .before .before .before .before .before .before .before .before .before .before .before .before .before .before .before .enum-told .given .1)
-    ((c .before .before .trim .ensures .0) ∙ ap trimmedHead (c .before .before .before .close-slot .ensures))
-    ((c .before .before .trim .ensures .1) ∙ ap (λ h. trimmedJournal h (c .before .before .before .before .before .before .before .before .before .before .before .before .before .before .before .before .before .before .before .before .before .before .before .args .journal .now)) (c .before .before .before .close-slot .ensures))
-    ((c .before .before .before .before .before .before .before .bring-forward .ensures)
-    ∙ ap₂ (λ (from to : ℕ). over (c .before .before .before .before .before .before .before .before .before .before .before .before .before .before .before .before .before .before .before .before .before .before .before .args .reads .now) (composeAll (runOf (c .before .before .before .before .before .before .before .before .before .before .before .before .before .before .before .before .before .before .before .before .before .before .before .args .journal .now) ((c .before .before .before .before .before .before .before .before .before .before .before .before .before .before .before .before .before .before .before .before .before .before .before .args .head) .ends) from (to - from)))) (c .before .before .before .before .before .before .before .before .before .before .before .before .step-index .ensures) (c .before .before .before .before .before .before .before .before .before .before .before .step-index2 .ensures))
+    let c3 = c .before .before .before in
+    let c7 = c3 .before .before .before .before in
+    let c11 = c7 .before .before .before .before in
+    let c12 = c11 .before in
+    let c15 = c12 .before .before .before in
+    let c17 = c15 .before .before in
+    let args = c17 .before .before .before .before .before .before .args in
+    forward-done (args .table .now) (args .journal .now) (args .head) (args .reader) (args .state) (args .reads .now)
+    (c17 .forward-check .ensures) (c15 .enum-told .given .1)
+    ((c .before .before .trim .ensures .0) ∙ ap trimmedHead (c3 .close-slot .ensures))
+    ((c .before .before .trim .ensures .1) ∙ ap (λ h. trimmedJournal h (args .journal .now)) (c3 .close-slot .ensures))
+    ((c7 .bring-forward .ensures)
+    ∙ ap₂ (λ (from to : ℕ). over (args .reads .now)
+    (composeAll (runOf (args .journal .now) (args .head .ends) from (to - from)))) (c12 .step-index .ensures)
+    (c11 .step-index2 .ensures))
 
 pub forward-spec : {M : Type 1} → statement M
 forward-spec =

@@ -25,7 +25,11 @@ shared-slice-read-if1 : tie.Need-shared-slice-read-if1 Inv-loop μ-loop
 shared-slice-read-if1 c = search needs
 
 returns : tie.Need-returns Inv-loop μ-loop
-returns c = sym (sym (c .before .before .before .loop .inv) ∙ below-at-stop (c .before .before .before .before .args .bound) (c .before .before .before .before .args .words .now) (c .before .before .before .loop .i) (c .before .before .loop-test .taken) (c .if1 .taken))
+returns c =
+    let c3 = c .before .before .before in
+    let args = c3 .before .args in
+    sym (sym (c3 .loop .inv) ∙ below-at-stop (args .bound) (args .words .now) (c3 .loop .i)
+    (c .before .before .loop-test .taken) (c .if1 .taken))
 
 add-i : tie.Need-add-i Inv-loop μ-loop
 add-i c = search needs
@@ -34,10 +38,15 @@ loop-less : tie.Need-loop-less Inv-loop μ-loop
 loop-less c = search needs
 
 loop-again : tie.Need-loop-again Inv-loop μ-loop
-loop-again c = sym (below-at-on (c .before .before .before .before .args .bound) (c .before .before .before .before .args .words .now) (c .before .before .before .loop .i) (c .before .before .loop-test .taken) (c .if1 .left)) ∙ (c .before .before .before .loop .inv)
+loop-again c =
+    let c3 = c .before .before .before in
+    let args = c3 .before .args in
+    sym (below-at-on (args .bound) (args .words .now) (c3 .loop .i) (c .before .before .loop-test .taken) (c .if1 .left)) ∙ (c3 .loop .inv)
 
 returns-2 : tie.Need-returns-2 Inv-loop μ-loop
-returns-2 c = sym (sym (c .before .loop .inv) ∙ below-at-end (c .before .before .args .bound) (c .before .before .args .words .now) (c .before .loop .i) (c .loop-test .left))
+returns-2 c =
+    sym (sym (c .before .loop .inv)
+    ∙ below-at-end (c .before .before .args .bound) (c .before .before .args .words .now) (c .before .loop .i) (c .loop-test .left))
 
 pub are-below-spec : {M : Type 1} → statement M
 are-below-spec =

@@ -1,12 +1,11 @@
 -- `head_words::flags_of` meets its contract: a flag for each word.
 -- Assumes nothing.
-use mathlib.Core.Path.{_≡_, sym, _∙_}
+use mathlib.Core.Path.{_≡_, sym}
 use Prim.Native.Nat.{_-_}
 use lib.ListN.{length}
 use native.Mathlib.Omega.{arith}
 use Rattle.head_words.specs.HeadWords.{flagOf}
 use Rattle.head_words.proofs.Arrays.{Filling, filling, filled-one, filled-all}
-use borrow.Author.Needs.{needs}
 use Rattle.head_words.proofs.flags_of.Statement.{statement}
 use Rattle.head_words.proofs.flags_of.Tie as tie
 

@@ -1,6 +1,6 @@
 -- `head_words::is_head` meets its contract.
 -- Assumes nothing.
-use mathlib.Core.Path.{_≡_, _∙_, sym}
+use mathlib.Core.Path.{_∙_, sym}
 use borrow.Author.Tests.{eq-eqb, ne-eqb, not-true, not-false}
 use lib.ListN.{length}
 use Rattle.layout.proofs.Holds.{first-fails, first-holds, last-test}
@@ -24,7 +24,11 @@ are-below-requires : tie.Need-are-below-requires
 are-below-requires c κs = search needs
 
 returns-2 : tie.Need-returns-2
-returns-2 c = sym (first-holds _ _ (eq-eqb (length ((c .before .before .before .before .before .args .words .now))) 84 (c .before .before .before .if1 .left)) ∙ first-fails _ _ (sym (c .before .are-below .ensures) ∙ not-true _ (c .if2 .taken)))
+returns-2 c =
+    let c3 = c .before .before .before in
+    let args = c3 .before .before .args in
+    sym (first-holds _ _ (eq-eqb (length (args .words .now)) 84 (c3 .if1 .left))
+    ∙ first-fails _ _ (sym (c .before .are-below .ensures) ∙ not-true _ (c .if2 .taken)))
 
 sub-are-below-2 : tie.Need-sub-are-below-2
 sub-are-below-2 c = search needs
@@ -39,7 +43,14 @@ are-below-requires-2 : tie.Need-are-below-requires-2
 are-below-requires-2 c κs = search needs
 
 returns-3 : tie.Need-returns-3
-returns-3 c = sym (first-holds _ _ (eq-eqb (length ((c .before .before .before .before .before .before .before .before .args .words .now))) 84 (c .before .before .before .before .before .before .if1 .left)) ∙ first-holds _ _ (sym (c .before .before .before .before .are-below .ensures) ∙ not-false _ (c .before .before .before .if2 .left)) ∙ first-fails _ _ (sym (c .before .are-below2 .ensures) ∙ not-true _ (c .if3 .taken)))
+returns-3 c =
+    let c3 = c .before .before .before in
+    let c4 = c3 .before in
+    let c6 = c4 .before .before in
+    let args = c6 .before .before .args in
+    sym (first-holds _ _ (eq-eqb (length (args .words .now)) 84 (c6 .if1 .left))
+    ∙ first-holds _ _ (sym (c4 .are-below .ensures) ∙ not-false _ (c3 .if2 .left))
+    ∙ first-fails _ _ (sym (c .before .are-below2 .ensures) ∙ not-true _ (c .if3 .taken)))
 
 sub-are-below-3 : tie.Need-sub-are-below-3
 sub-are-below-3 c = search needs
@@ -54,7 +65,16 @@ are-below-requires-3 : tie.Need-are-below-requires-3
 are-below-requires-3 c κs = search needs
 
 returns-4 : tie.Need-returns-4
-returns-4 c = (c .are-below3 .ensures) ∙ sym (first-holds _ _ (eq-eqb (length ((c .before .before .before .before .before .before .before .before .before .before .args .words .now))) 84 (c .before .before .before .before .before .before .before .before .if1 .left)) ∙ first-holds _ _ (sym (c .before .before .before .before .before .before .are-below .ensures) ∙ not-false _ (c .before .before .before .before .before .if2 .left)) ∙ first-holds _ _ (sym (c .before .before .before .are-below2 .ensures) ∙ not-false _ (c .before .before .if3 .left)) ∙ last-test _)
+returns-4 c =
+    let c3 = c .before .before .before in
+    let c5 = c3 .before .before in
+    let c6 = c5 .before in
+    let c8 = c6 .before .before in
+    let args = c8 .before .before .args in
+    (c .are-below3 .ensures) ∙ sym
+    (first-holds _ _ (eq-eqb (length (args .words .now)) 84 (c8 .if1 .left))
+    ∙ first-holds _ _ (sym (c6 .are-below .ensures) ∙ not-false _ (c5 .if2 .left))
+    ∙ first-holds _ _ (sym (c3 .are-below2 .ensures) ∙ not-false _ (c .before .before .if3 .left)) ∙ last-test _)
 
 pub is-head-spec : {M : Type 1} → statement M
 is-head-spec =

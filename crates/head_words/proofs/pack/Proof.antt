@@ -12,19 +12,45 @@ put-first-requires : tie.Need-put-first-requires
 put-first-requires c κs = search needs
 
 put-flags-requires : tie.Need-put-flags-requires
-put-flags-requires c κs = (search needs, room 12 ((c .before .before .before .before .before .words .given) ∙ (c .before .before .before .before .before .before .before .before .before .pre)) (search needs))
+put-flags-requires c κs =
+    let c5 = c .before .before .before .before .before in
+    let c9 = c5 .before .before .before .before in
+    (search needs, room 12 ((c5 .words .given) ∙ (c9 .pre)) (search needs))
 
 put-numbers-requires : tie.Need-put-numbers-requires
-put-numbers-requires c κs = (search needs, room 20 ((c .before .before .before .before .before .words2 .given) ∙ (c .before .before .before .before .before .before .before .before .before .before .before .before .words .given) ∙ (c .before .before .before .before .before .before .before .before .before .before .before .before .before .before .before .before .pre)) (search needs))
+put-numbers-requires c κs =
+    let c5 = c .before .before .before .before .before in
+    let c12 = c5 .before .before .before .before .before .before .before in
+    let c16 = c12 .before .before .before .before in
+    (search needs, room 20 ((c5 .words2 .given) ∙ (c12 .words .given) ∙ (c16 .pre)) (search needs))
 
 put-ends-requires : tie.Need-put-ends-requires
-put-ends-requires c κs = (search needs, room 84 ((c .before .before .before .before .before .words3 .given) ∙ (c .before .before .before .before .before .before .before .before .before .before .before .before .words2 .given) ∙ (c .before .before .before .before .before .before .before .before .before .before .before .before .before .before .before .before .before .before .before .words .given) ∙ (c .before .before .before .before .before .before .before .before .before .before .before .before .before .before .before .before .before .before .before .before .before .before .before .pre)) (search needs))
+put-ends-requires c κs =
+    let c5 = c .before .before .before .before .before in
+    let c12 = c5 .before .before .before .before .before .before .before in
+    let c19 = c12 .before .before .before .before .before .before .before in
+    let c23 = c19 .before .before .before .before in
+    (search needs, room 84 ((c5 .words3 .given) ∙ (c12 .words2 .given) ∙ (c19 .words .given) ∙ (c23 .pre)) (search needs))
 
 same-length : tie.Need-same-length
-same-length c = (c .before .words4 .given) ∙ (c .before .before .before .before .before .before .before .before .words3 .given) ∙ (c .before .before .before .before .before .before .before .before .before .before .before .before .before .before .before .words2 .given) ∙ (c .before .before .before .before .before .before .before .before .before .before .before .before .before .before .before .before .before .before .before .before .before .before .words .given)
+same-length c =
+    let c8 = c .before .before .before .before .before .before .before .before in
+    let c15 = c8 .before .before .before .before .before .before .before in
+    let c22 = c15 .before .before .before .before .before .before .before in
+    (c .before .words4 .given) ∙ (c8 .words3 .given) ∙ (c15 .words2 .given) ∙ (c22 .words .given)
 
 returns : tie.Need-returns
-returns c = packed (c .before .before .before .before .before .before .before .before .before .before .before .before .before .before .before .before .before .before .before .before .before .before .before .before .before .before .args .words .now) (c .before .before .before .before .before .before .before .before .before .before .before .before .before .before .before .before .before .before .before .before .before .before .before .before .before .before .args .t1) (c .before .before .before .before .before .before .before .before .before .before .before .before .before .before .before .before .before .before .before .before .before .before .before .before .before .before .pre) (length-unmapped Bool (c .before .before .before .before .before .before .before .before .before .before .before .before .before .before .before .before .before .before .before .before .before .before .before .before .before .before .args .t1 .held) 8 ((c .before .before .before .before .before .before .before .before .before .before .before .before .before .before .before .before .before .before .before .before .before .before .before .before .before .before .good .0 .1 .1 .1 .1 .1 .1 .0 .1 .0 .1))) (length-unmapped ℕ (c .before .before .before .before .before .before .before .before .before .before .before .before .before .before .before .before .before .before .before .before .before .before .before .before .before .before .args .t1 .issued) 8 ((c .before .before .before .before .before .before .before .before .before .before .before .before .before .before .before .before .before .before .before .before .before .before .before .before .before .before .good .0 .1 .1 .1 .1 .1 .1 .1 .0 .1 .0 .1))) (length-unmapped ℕ (c .before .before .before .before .before .before .before .before .before .before .before .before .before .before .before .before .before .before .before .before .before .before .before .before .before .before .args .t1 .ends) 64 ((c .before .before .before .before .before .before .before .before .before .before .before .before .before .before .before .before .before .before .before .before .before .before .before .before .before .before .good .0 .1 .1 .1 .1 .1 .1 .1 .1 .0 .1 .0 .1))) (c .before .before .before .before .before .before .before .before .before .before .before .before .before .before .before .before .before .before .before .before .before .before .before .put-first .ensures) (c .before .before .before .before .before .before .before .before .before .before .before .before .before .before .before .before .put-flags .ensures) (c .before .before .before .before .before .before .before .before .before .put-numbers .ensures) (c .before .before .put-ends .ensures)
+returns c =
+    let c9 = c .before .before .before .before .before .before .before .before .before in
+    let c16 = c9 .before .before .before .before .before .before .before in
+    let c23 = c16 .before .before .before .before .before .before .before in
+    let c26 = c23 .before .before .before in
+    let args = c26 .args in
+    packed (args .words .now) (args .t1) (c26 .pre)
+    (length-unmapped Bool (args .t1 .taken) 8 ((c26 .good .0 .1 .1 .1 .1 .1 .1 .0 .1 .0 .1)))
+    (length-unmapped ℕ (args .t1 .issued) 8 ((c26 .good .0 .1 .1 .1 .1 .1 .1 .1 .0 .1 .0 .1)))
+    (length-unmapped ℕ (args .t1 .ends) 64 ((c26 .good .0 .1 .1 .1 .1 .1 .1 .1 .1 .0 .1 .0 .1)))
+    (c23 .put-first .ensures) (c16 .put-flags .ensures) (c9 .put-numbers .ensures) (c .before .before .put-ends .ensures)
 
 pub pack-spec : {M : Type 1} → statement M
 pack-spec =

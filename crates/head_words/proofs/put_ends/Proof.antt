@@ -39,7 +39,10 @@ loop-less : tie.Need-loop-less Inv-loop μ-loop
 loop-less c = omega arith
 
 loop-again : tie.Need-loop-again Inv-loop μ-loop
-loop-again c = put-one (c .before .before .loop .inv) 0 refl (omega (arith, (c .before .before .before .pre .0))) (omega (arith, (c .before .before .before .pre .1), (c .before .before .loop .inv .writing .same)))
+loop-again c =
+    let c3 = c .before .before .before in
+    put-one (c .before .before .loop .inv) 0 refl (omega (arith, (c3 .pre .0)))
+    (omega (arith, (c3 .pre .1), (c .before .before .loop .inv .writing .same)))
 
 same-length : tie.Need-same-length Inv-loop μ-loop
 same-length c = (c .before .loop .inv .writing .same)

@@ -41,7 +41,12 @@ loop-less : tie.Need-loop-less Inv-loop μ-loop
 loop-less c = omega arith
 
 loop-again : tie.Need-loop-again Inv-loop μ-loop
-loop-again c = put-one (c .before .before .loop .inv) false (as-number (getD (c .before .before .before .args .flags .now) (c .before .before .loop .k) false)) (omega (arith, (c .before .before .before .pre .0))) (omega (arith, (c .before .before .before .pre .1), (c .before .before .loop .inv .writing .same)))
+loop-again c =
+    let c3 = c .before .before .before in
+    let args = c3 .args in
+    put-one (c .before .before .loop .inv) false
+    (as-number (getD (args .flags .now) (c .before .before .loop .k) false)) (omega (arith, (c3 .pre .0)))
+    (omega (arith, (c3 .pre .1), (c .before .before .loop .inv .writing .same)))
 
 same-length : tie.Need-same-length Inv-loop μ-loop
 same-length c = (c .before .loop .inv .writing .same)

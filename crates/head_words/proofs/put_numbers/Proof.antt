@@ -29,10 +29,16 @@ add-words : tie.Need-add-words Inv-loop μ-loop
 add-words c = omega (arith, (c .before .before .before .before .before .before .pre .1))
 
 mul-words : tie.Need-mul-words Inv-loop μ-loop
-mul-words c = omega (arith, (c .before .before .before .before .before .before .pre .1), (c .before .before .before .loop .inv .writing .same))
+mul-words c =
+    let c3 = c .before .before .before in
+    let c6 = c3 .before .before .before in
+    omega (arith, (c6 .pre .1), (c3 .loop .inv .writing .same))
 
 slice-write-words : tie.Need-slice-write-words Inv-loop μ-loop
-slice-write-words c = omega (arith, (c .before .before .before .before .before .before .pre .1), (c .before .before .before .loop .inv .writing .same))
+slice-write-words c =
+    let c3 = c .before .before .before in
+    let c6 = c3 .before .before .before in
+    omega (arith, (c6 .pre .1), (c3 .loop .inv .writing .same))
 
 add-k : tie.Need-add-k Inv-loop μ-loop
 add-k c = omega arith
@@ -41,7 +47,10 @@ loop-less : tie.Need-loop-less Inv-loop μ-loop
 loop-less c = omega arith
 
 loop-again : tie.Need-loop-again Inv-loop μ-loop
-loop-again c = put-one (c .before .before .before .loop .inv) 0 (c .wide .ensures) (omega (arith, (c .before .before .before .before .before .before .pre .0))) (omega (arith, (c .before .before .before .before .before .before .pre .1), (c .before .before .before .loop .inv .writing .same)))
+loop-again c =
+    let c3 = c .before .before .before in
+    let c6 = c3 .before .before .before in
+    put-one (c3 .loop .inv) 0 (c .wide .ensures) (omega (arith, (c6 .pre .0))) (omega (arith, (c6 .pre .1), (c3 .loop .inv .writing .same)))
 
 same-length : tie.Need-same-length Inv-loop μ-loop
 same-length c = (c .before .loop .inv .writing .same)

@@ -1,7 +1,5 @@
 -- `head_words::unpack` meets its contract: a field after another.
 -- Assumes nothing.
-use mathlib.Core.Path.{_≡_, refl}
-use lib.ListN.{getD}
 use Rattle.layout.specs.Heads.{withSteps, withSlots}
 use Rattle.head_words.specs.HeadWords.{headOf}
 use borrow.Author.Needs.{needs}

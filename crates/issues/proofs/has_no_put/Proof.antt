@@ -28,7 +28,12 @@ kind-of-requires : tie.Need-kind-of-requires Inv-loop μ-loop
 kind-of-requires c κs = search needs
 
 returns : tie.Need-returns Inv-loop μ-loop
-returns c = sym (sym (c .before .before .before .before .loop .inv) ∙ at-stop ((c .before .before .before .before .before .before .args .words .now)) (c .before .before .before .before .loop .i) (c .before .before .before .loop-test .taken) (sym (c .before .kind-of .ensures) ∙ (c .if1 .taken)))
+returns c =
+    let c3 = c .before .before .before in
+    let c4 = c3 .before in
+    let args = c4 .before .before .args in
+    sym (sym (c4 .loop .inv) ∙ at-stop (args .words .now) (c4 .loop .i) (c3 .loop-test .taken)
+    (sym (c .before .kind-of .ensures) ∙ (c .if1 .taken)))
 
 add-i : tie.Need-add-i Inv-loop μ-loop
 add-i c = search needs
@@ -37,10 +42,17 @@ loop-less : tie.Need-loop-less Inv-loop μ-loop
 loop-less c = search needs
 
 loop-again : tie.Need-loop-again Inv-loop μ-loop
-loop-again c = sym (at-next ((c .before .before .before .before .before .before .args .words .now)) (c .before .before .before .before .loop .i) (c .before .before .before .loop-test .taken) (λ p. (c .if1 .left) ((c .before .kind-of .ensures) ∙ p))) ∙ (c .before .before .before .before .loop .inv)
+loop-again c =
+    let c3 = c .before .before .before in
+    let c4 = c3 .before in
+    let args = c4 .before .before .args in
+    sym (at-next (args .words .now) (c4 .loop .i) (c3 .loop-test .taken)
+    (λ p. (c .if1 .left) ((c .before .kind-of .ensures) ∙ p))) ∙ (c4 .loop .inv)
 
 returns-2 : tie.Need-returns-2 Inv-loop μ-loop
-returns-2 c = sym (sym (c .before .loop .inv) ∙ at-end ((c .before .before .before .args .words .now)) (c .before .loop .i) (c .loop-test .left))
+returns-2 c =
+    let args = c .before .before .before .args in
+    sym (sym (c .before .loop .inv) ∙ at-end (args .words .now) (c .before .loop .i) (c .loop-test .left))
 
 pub has-no-put-spec : {M : Type 1} → statement M
 has-no-put-spec =

@@ -1,6 +1,6 @@
 -- `last_changes::bring_forward` meets its contract: the filter has the words of all steps noted.
 -- Assumes nothing.
-use mathlib.Core.Bool.{Bool, false}
+use mathlib.Core.Bool.{false}
 use lib.ListN.{replicate, length-replicate}
 use borrow.Author.Needs.{needs}
 use native.Mathlib.Omega.{arith}
@@ -15,16 +15,52 @@ end-of-requires-2 : tie.Need-end-of-requires-2
 end-of-requires-2 c κs = search needs
 
 mul-note-offers : tie.Need-mul-note-offers
-mul-note-offers c = omega (arith, (c .before .before .before .before .before .pre .marked .rises) (c .before .before .before .before .before .args .from) (c .before .before .before .before .before .args .to) (c .before .before .before .before .before .pre .order) (omega arith), (c .before .before .before .before .before .pre .marked .inside), (c .before .end-of .ensures), (c .end-of2 .ensures))
+mul-note-offers c =
+    let c5 = c .before .before .before .before .before in
+    let args = c5 .args in
+    omega (
+      arith,
+      (c5 .pre .marked .rises) (args .from) (args .to) (c5 .pre .order) (omega arith),
+      (c5 .pre .marked .inside),
+      (c .before .end-of .ensures),
+      (c .end-of2 .ensures),
+    )
 
 sub-note-offers : tie.Need-sub-note-offers
-sub-note-offers c = omega (arith, (c .before .before .before .before .before .pre .marked .rises) (c .before .before .before .before .before .args .from) (c .before .before .before .before .before .args .to) (c .before .before .before .before .before .pre .order) (omega arith), (c .before .before .before .before .before .pre .marked .inside), (c .before .end-of .ensures), (c .end-of2 .ensures))
+sub-note-offers c =
+    let c5 = c .before .before .before .before .before in
+    let args = c5 .args in
+    omega (
+      arith,
+      (c5 .pre .marked .rises) (args .from) (args .to) (c5 .pre .order) (omega arith),
+      (c5 .pre .marked .inside),
+      (c .before .end-of .ensures),
+      (c .end-of2 .ensures),
+    )
 
 part-note-offers-start : tie.Need-part-note-offers-start
-part-note-offers-start c = omega (arith, (c .before .before .before .before .before .pre .marked .rises) (c .before .before .before .before .before .args .from) (c .before .before .before .before .before .args .to) (c .before .before .before .before .before .pre .order) (omega arith), (c .before .before .before .before .before .pre .marked .inside), (c .before .end-of .ensures), (c .end-of2 .ensures))
+part-note-offers-start c =
+    let c5 = c .before .before .before .before .before in
+    let args = c5 .args in
+    omega (
+      arith,
+      (c5 .pre .marked .rises) (args .from) (args .to) (c5 .pre .order) (omega arith),
+      (c5 .pre .marked .inside),
+      (c .before .end-of .ensures),
+      (c .end-of2 .ensures),
+    )
 
 part-note-offers-end : tie.Need-part-note-offers-end
-part-note-offers-end c = omega (arith, (c .before .before .before .before .before .pre .marked .rises) (c .before .before .before .before .before .args .from) (c .before .before .before .before .before .args .to) (c .before .before .before .before .before .pre .order) (omega arith), (c .before .before .before .before .before .pre .marked .inside), (c .before .end-of .ensures), (c .end-of2 .ensures))
+part-note-offers-end c =
+    let c5 = c .before .before .before .before .before in
+    let args = c5 .args in
+    omega (
+      arith,
+      (c5 .pre .marked .rises) (args .from) (args .to) (c5 .pre .order) (omega arith),
+      (c5 .pre .marked .inside),
+      (c .before .end-of .ensures),
+      (c .end-of2 .ensures),
+    )
 
 slice-aggregate-note-offers : tie.Need-slice-aggregate-note-offers
 slice-aggregate-note-offers c = search needs
@@ -36,7 +72,15 @@ slice-aggregate-words-after : tie.Need-slice-aggregate-words-after
 slice-aggregate-words-after c = search needs
 
 words-after-requires : tie.Need-words-after-requires
-words-after-requires c κs = ((c .before .before .before .before .before .before .before .before .before .before .before .pre), part-noted (c .before .before .before .before .before .before .before .before .before .before .before .pre) (replicate 16384 false) _ (length-replicate 16384 false) (c .before .before .before .before .before .before .before .end-of .result) (c .before .before .before .before .before .before .end-of2 .result) (c .before .before .before .before .before .before .before .end-of .ensures) (c .before .before .before .before .before .before .end-of2 .ensures) (c .before .before .before .note-offers .ensures))
+words-after-requires c κs =
+    let c3 = c .before .before .before in
+    let c6 = c3 .before .before .before in
+    let c7 = c6 .before in
+    let c11 = c7 .before .before .before .before in (
+      (c11 .pre),
+      part-noted (c11 .pre) (replicate 16384 false) _ (length-replicate 16384 false) (c7 .end-of .result)
+          (c6 .end-of2 .result) (c7 .end-of .ensures) (c6 .end-of2 .ensures) (c3 .note-offers .ensures),
+    )
 
 same-length : tie.Need-same-length
 same-length c = search needs

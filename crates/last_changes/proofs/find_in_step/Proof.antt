@@ -20,22 +20,59 @@ end-of-requires-2 : tie.Need-end-of-requires-2
 end-of-requires-2 c κs = search needs
 
 mul-find : tie.Need-mul-find
-mul-find c = omega (arith, (c .before .before .before .before .pre .0 .rises) (c .before .before .before .before .args .step) ((c .before .before .before .before .args .step) + 1) (omega arith) (omega arith), (c .before .before .before .before .pre .0 .inside), (c .before .end-of .ensures), (c .end-of2 .ensures))
+mul-find c =
+    let c4 = c .before .before .before .before in
+    let args = c4 .args in
+    omega (
+      arith,
+      (c4 .pre .0 .rises) (args .step) ((args .step) + 1) (omega arith) (omega arith),
+      (c4 .pre .0 .inside),
+      (c .before .end-of .ensures),
+      (c .end-of2 .ensures),
+    )
 
 sub-find : tie.Need-sub-find
-sub-find c = omega (arith, (c .before .before .before .before .pre .0 .rises) (c .before .before .before .before .args .step) ((c .before .before .before .before .args .step) + 1) (omega arith) (omega arith), (c .before .before .before .before .pre .0 .inside), (c .before .end-of .ensures), (c .end-of2 .ensures))
+sub-find c =
+    let c4 = c .before .before .before .before in
+    let args = c4 .args in
+    omega (
+      arith,
+      (c4 .pre .0 .rises) (args .step) ((args .step) + 1) (omega arith) (omega arith),
+      (c4 .pre .0 .inside),
+      (c .before .end-of .ensures),
+      (c .end-of2 .ensures),
+    )
 
 part-find-start : tie.Need-part-find-start
-part-find-start c = omega (arith, (c .before .before .before .before .pre .0 .rises) (c .before .before .before .before .args .step) ((c .before .before .before .before .args .step) + 1) (omega arith) (omega arith), (c .before .before .before .before .pre .0 .inside), (c .before .end-of .ensures), (c .end-of2 .ensures))
+part-find-start c =
+    let c4 = c .before .before .before .before in
+    let args = c4 .args in
+    omega (
+      arith,
+      (c4 .pre .0 .rises) (args .step) ((args .step) + 1) (omega arith) (omega arith),
+      (c4 .pre .0 .inside),
+      (c .before .end-of .ensures),
+      (c .end-of2 .ensures),
+    )
 
 part-find-end : tie.Need-part-find-end
 part-find-end c = search needs
 
 find-requires : tie.Need-find-requires
-find-requires c κs = subst (From 0) (sym (step-part ((c .before .before .before .before .before .args .journal .now)) ((c .before .before .before .before .before .args .ends .now)) (c .before .before .before .before .before .args .step) (c .before .before .end-of .result) (c .before .end-of2 .result) (c .before .before .end-of .ensures) (c .before .end-of2 .ensures))) (c .before .before .before .before .before .pre .1)
+find-requires c κs =
+    let c5 = c .before .before .before .before .before in
+    let args = c5 .args in
+    subst (From 0) (sym (step-part (args .journal .now) (args .ends .now) (args .step)
+    (c .before .before .end-of .result) (c .before .end-of2 .result) (c .before .before .end-of .ensures)
+    (c .before .end-of2 .ensures))) (c5 .pre .1)
 
 returns : tie.Need-returns
-returns c = (c .find .ensures) ∙ ap (find (c .before .before .before .before .before .before .args .offer)) (step-part ((c .before .before .before .before .before .before .args .journal .now)) ((c .before .before .before .before .before .before .args .ends .now)) (c .before .before .before .before .before .before .args .step) (c .before .before .before .end-of .result) (c .before .before .end-of2 .result) (c .before .before .before .end-of .ensures) (c .before .before .end-of2 .ensures))
+returns c =
+    let c3 = c .before .before .before in
+    let args = c3 .before .before .before .args in
+    (c .find .ensures) ∙ ap (find (args .offer))
+    (step-part (args .journal .now) (args .ends .now) (args .step) (c3 .end-of .result)
+    (c .before .before .end-of2 .result) (c3 .end-of .ensures) (c .before .before .end-of2 .ensures))
 
 pub find-in-step-spec : {M : Type 1} → statement M
 find-in-step-spec =

@@ -1,6 +1,5 @@
 -- `last_changes::last_change` meets its contract: the steps that were searched have no word at the offer.
 -- Assumes nothing.
-use mathlib.Core.Path.{_∙_, sym}
 use Prim.Native.Nat.{_-_}
 use Rattle.last_changes.proofs.Seeking.{Seeking, seeking, sought, newest-marked, newest-rises, found-there, not-there}
 use borrow.Author.Needs.{needs}
@@ -21,7 +20,8 @@ sub-step : tie.Need-sub-step Inv-loop μ-loop
 sub-step c = omega arith
 
 find-in-step-requires : tie.Need-find-in-step-requires Inv-loop μ-loop
-find-in-step-requires c κs = (newest-marked (c .before .loop .inv) (c .loop-test .taken), newest-rises (c .before .loop .inv) (c .loop-test .taken))
+find-in-step-requires c κs =
+    (newest-marked (c .before .loop .inv) (c .loop-test .taken), newest-rises (c .before .loop .inv) (c .loop-test .taken))
 
 enum-told : tie.Need-enum-told Inv-loop μ-loop
 enum-told c = search needs
@@ -30,13 +30,19 @@ enum-told-2 : tie.Need-enum-told-2 Inv-loop μ-loop
 enum-told-2 c = search needs
 
 returns : tie.Need-returns Inv-loop μ-loop
-returns c = found-there (c .before .before .before .before .loop .inv) (c .before .before .before .loop-test .taken) _ (c .before .before .find-in-step .ensures) _ ((c .enum-told2 .given .1))
+returns c =
+    let c3 = c .before .before .before in
+    let c4 = c3 .before in
+    found-there (c4 .loop .inv) (c3 .loop-test .taken) _ (c .before .before .find-in-step .ensures) _ ((c .enum-told2 .given .1))
 
 loop-less : tie.Need-loop-less Inv-loop μ-loop
 loop-less c = omega arith
 
 loop-again : tie.Need-loop-again Inv-loop μ-loop
-loop-again c = not-there (c .before .before .before .before .loop .inv) (c .before .before .before .loop-test .taken) _ (c .before .before .find-in-step .ensures) ((c .enum-told .given .1))
+loop-again c =
+    let c3 = c .before .before .before in
+    let c4 = c3 .before in
+    not-there (c4 .loop .inv) (c3 .loop-test .taken) _ (c .before .before .find-in-step .ensures) ((c .enum-told .given .1))
 
 returns-2 : tie.Need-returns-2 Inv-loop μ-loop
 returns-2 c = sought (c .before .loop .inv) (omega arith)

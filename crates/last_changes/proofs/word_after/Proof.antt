@@ -14,14 +14,19 @@ use Rattle.last_changes.proofs.Filtering.{not-noted}
 use Rattle.last_changes.proofs.word_after.Statement.{statement}
 use Rattle.last_changes.proofs.word_after.Tie as tie
 
-filter-place-requires : tie.Need-filter-place-requires
-filter-place-requires c κs = search needs
+filter-cell-requires : tie.Need-filter-cell-requires
+filter-cell-requires c κs = search needs
 
 shared-slice-read-if1 : tie.Need-shared-slice-read-if1
-shared-slice-read-if1 c = omega (arith, (c .before .before .before .before .before .pre .1 .long), (c .before .filter-place .ensures))
+shared-slice-read-if1 c = omega (arith, (c .before .before .before .before .before .pre .1 .long), (c .before .filter-cell .ensures))
 
 returns : tie.Need-returns
-returns c = ap (λ f. foundOr f (c .before .before .before .before .before .before .args .word)) (sym (not-noted (c .before .before .before .before .before .before .pre .0) (c .before .before .before .before .before .before .pre .1) (c .before .before .before .before .before .before .args .word) (ap (λ (p : ℕ). getD (c .before .before .before .before .before .before .args .filter .now) p false) (sym (c .before .before .filter-place .ensures)) ∙ not-true _ (c .if1 .taken))))
+returns c =
+    let c6 = c .before .before .before .before .before .before in
+    let args = c6 .args in
+    ap (λ f. foundOr f (args .word))
+    (sym (not-noted (c6 .pre .0) (c6 .pre .1) (args .word)
+    (ap (λ (p : ℕ). getD (args .filter .now) p false) (sym (c .before .before .filter-cell .ensures)) ∙ not-true _ (c .if1 .taken))))
 
 offer-of-requires : tie.Need-offer-of-requires
 offer-of-requires c κs = search needs
@@ -36,16 +41,29 @@ enum-told : tie.Need-enum-told
 enum-told c = search needs
 
 returns-2 : tie.Need-returns-2
-returns-2 c = ap (λ f. foundOr f (c .before .before .before .before .before .before .before .before .before .before .before .args .word)) (sym (c .before .later .given .1) ∙ (c .before .before .before .last-change .ensures) ∙ ap (λ n. find n (composeAll (runOf (c .before .before .before .before .before .before .before .before .before .before .before .args .journal .now) (c .before .before .before .before .before .before .before .before .before .before .before .args .ends .now) (c .before .before .before .before .before .before .before .before .before .before .before .args .from) ((c .before .before .before .before .before .before .before .before .before .before .before .args .to) - (c .before .before .before .before .before .before .before .before .before .before .before .args .from))))) (c .before .before .before .before .offer-of .ensures))
+returns-2 c =
+    let c3 = c .before .before .before in
+    let c4 = c3 .before in
+    let args = c4 .before .before .before .before .before .before .before .args in
+    ap (λ f. foundOr f (args .word))
+    (sym (c .before .later .given .1) ∙ (c3 .last-change .ensures)
+    ∙ ap (λ n. find n (composeAll (runOf (args .journal .now) (args .ends .now) (args .from)
+    ((args .to) - (args .from))))) (c4 .offer-of .ensures))
 
 returns-3 : tie.Need-returns-3
-returns-3 c = ap (λ f. foundOr f (c .before .before .before .before .before .before .before .before .before .before .args .word)) (sym (c .enum-told .given .1) ∙ (c .before .before .last-change .ensures) ∙ ap (λ n. find n (composeAll (runOf (c .before .before .before .before .before .before .before .before .before .before .args .journal .now) (c .before .before .before .before .before .before .before .before .before .before .args .ends .now) (c .before .before .before .before .before .before .before .before .before .before .args .from) ((c .before .before .before .before .before .before .before .before .before .before .args .to) - (c .before .before .before .before .before .before .before .before .before .before .args .from))))) (c .before .before .before .offer-of .ensures))
+returns-3 c =
+    let c3 = c .before .before .before in
+    let args = c3 .before .before .before .before .before .before .before .args in
+    ap (λ f. foundOr f (args .word))
+    (sym (c .enum-told .given .1) ∙ (c .before .before .last-change .ensures)
+    ∙ ap (λ n. find n (composeAll (runOf (args .journal .now) (args .ends .now) (args .from)
+    ((args .to) - (args .from))))) (c3 .offer-of .ensures))
 
 pub word-after-spec : {M : Type 1} → statement M
 word-after-spec =
     tie.close
     (tie.spec
-    filter-place-requires
+    filter-cell-requires
     shared-slice-read-if1
     returns
     offer-of-requires

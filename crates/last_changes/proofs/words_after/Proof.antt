@@ -1,6 +1,6 @@
 -- `last_changes::words_after` meets its contract: the words changed so far and the change of those left make the change of all.
 -- Assumes nothing.
-use mathlib.Core.Path.{_≡_, _∙_, sym, ap}
+use mathlib.Core.Path.{_∙_, sym, ap}
 use mathlib.Core.List.{_∷_}
 use Prim.Native.Nat.{_+_, _-_, _≤_}
 use lib.ListN.{length, drop}
@@ -16,7 +16,10 @@ use Rattle.last_changes.proofs.words_after.Statement.{statement}
 use Rattle.last_changes.proofs.words_after.Tie as tie
 
 abbrev Inv-loop : tie.InvT-loop
-Inv-loop words₀ filter journal ends from to i₀ words i = (i ≤ length words₀) × Writing words words₀ i (over (drop i words₀) (composeAll (runOf journal ends from (to - from)))) (over words₀ (composeAll (runOf journal ends from (to - from))))
+Inv-loop words₀ filter journal ends from to i₀ words i =
+    (i ≤ length words₀) × Writing words words₀ i
+    (over (drop i words₀) (composeAll (runOf journal ends from (to - from))))
+    (over words₀ (composeAll (runOf journal ends from (to - from))))
 
 abbrev μ-loop : tie.MeasureT-loop
 μ-loop words₀ filter journal ends from to i₀ words i = length words₀ - i
@@ -47,10 +50,12 @@ loop-less c = search needs
 
 loop-again : tie.Need-loop-again Inv-loop μ-loop
 loop-again c =
-    let w = (c .before .before .before .loop .inv .1) in
-    let i = (c .before .before .before .loop .i) in
-    let rs = (c .before .before .before .before .before .before .before .before .args .words .now) in
-    let d = (composeAll (runOf (c .before .before .before .before .before .before .before .before .args .journal .now) (c .before .before .before .before .before .before .before .before .args .ends .now) (c .before .before .before .before .before .before .before .before .args .from) ((c .before .before .before .before .before .before .before .before .args .to) - (c .before .before .before .before .before .before .before .before .args .from)))) in
+    let c3 = c .before .before .before in
+    let args = c3 .before .before .before .before .before .args in
+    let w = (c3 .loop .inv .1) in
+    let i = (c3 .loop .i) in
+    let rs = (args .words .now) in
+    let d = (composeAll (runOf (args .journal .now) (args .ends .now) (args .from) ((args .to) - (args .from)))) in
     let here = word-behind w i (omega arith) in
     let first = (c .word-after .ensures) ∙ ap (λ v. foundOr (find (offerOf v) d) v) here in
     (omega arith, stored w (over-at rs d i (omega arith) ∙ ap (λ v. v ∷ over (drop (i + 1) rs) d) (sym first)) (omega arith))
@@ -59,7 +64,13 @@ same-length : tie.Need-same-length Inv-loop μ-loop
 same-length c = search needs
 
 returns : tie.Need-returns Inv-loop μ-loop
-returns c = filled (c .before .loop .inv .1) (over-end (c .before .before .before .before .before .before .args .words .now) (composeAll (runOf (c .before .before .before .before .before .before .args .journal .now) (c .before .before .before .before .before .before .args .ends .now) (c .before .before .before .before .before .before .args .from) ((c .before .before .before .before .before .before .args .to) - (c .before .before .before .before .before .before .args .from)))) (c .before .loop .i) (omega arith)) (over-length (c .before .before .before .before .before .before .args .words .now) (composeAll (runOf (c .before .before .before .before .before .before .args .journal .now) (c .before .before .before .before .before .before .args .ends .now) (c .before .before .before .before .before .before .args .from) ((c .before .before .before .before .before .before .args .to) - (c .before .before .before .before .before .before .args .from)))))
+returns c =
+    let args = c .before .before .before .before .before .before .args in
+    filled (c .before .loop .inv .1)
+    (over-end (args .words .now) (composeAll
+    (runOf (args .journal .now) (args .ends .now) (args .from) ((args .to) - (args .from)))) (c .before .loop .i)
+    (omega arith)) (over-length (args .words .now)
+    (composeAll (runOf (args .journal .now) (args .ends .now) (args .from) ((args .to) - (args .from)))))
 
 pub words-after-spec : {M : Type 1} → statement M
 words-after-spec =

@@ -35,7 +35,9 @@ array-share-prefix-text : tie.Need-array-share-prefix-text
 array-share-prefix-text c = rendered-in (c .before .before .before .report .ensures .0)
 
 slice-aggregate-write-all : tie.Need-slice-aggregate-write-all
-slice-aggregate-write-all c = sym (length-take-le (c .before .before .before .before .report .result) (c .before .before .before .before .report .last .1 .1 .1 .0) (rendered-in (c .before .before .before .before .report .ensures .0)))
+slice-aggregate-write-all c =
+    let c4 = c .before .before .before .before in
+    sym (length-take-le (c4 .report .result) (c4 .report .last .1 .1 .1 .0) (rendered-in (c4 .report .ensures .0)))
 
 write-all-requires : tie.Need-write-all-requires
 write-all-requires c κs = search needs

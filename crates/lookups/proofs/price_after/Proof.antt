@@ -24,7 +24,14 @@ quote-of-requires : tie.Need-quote-of-requires
 quote-of-requires c κs = search needs
 
 returns : tie.Need-returns
-returns c = (c .quote-of .ensures) ∙ ap (λ f. quoteOf (ifPut f)) (c .before .before .before .last-change .ensures) ∙ ap quoteOf (by-change (c .before .before .before .before .before .before .before .args .offer) ((c .before .before .before .before .before .before .before .args .base .now)) (composeAll (runOf ((c .before .before .before .before .before .before .before .args .journal .now)) ((c .before .before .before .before .before .before .before .args .ends .now)) (c .before .before .before .before .before .before .before .args .from) ((c .before .before .before .before .before .before .before .args .to) - (c .before .before .before .before .before .before .before .args .from)))) (c .before .before .before .before .before .before .before .pre .0) (between-rises (c .before .before .before .before .before .before .before .pre .1)) _ (sym (c .before .before .before .last-change .ensures) ∙ (c .before .enum-told2 .given .1)))
+returns c =
+    let c3 = c .before .before .before in
+    let c7 = c3 .before .before .before .before in
+    let args = c7 .args in
+    (c .quote-of .ensures) ∙ ap (λ f. quoteOf (ifPut f)) (c3 .last-change .ensures)
+    ∙ ap quoteOf (by-change (args .offer) (args .base .now)
+    (composeAll (runOf (args .journal .now) (args .ends .now) (args .from) ((args .to) - (args .from)))) (c7 .pre .0)
+    (between-rises (c7 .pre .1)) _ (sym (c3 .last-change .ensures) ∙ (c .before .enum-told2 .given .1)))
 
 find-requires : tie.Need-find-requires
 find-requires c κs = (c .before .before .before .before .before .before .pre .0 .rises)
@@ -33,7 +40,14 @@ quote-of-requires-2 : tie.Need-quote-of-requires-2
 quote-of-requires-2 c κs = search needs
 
 returns-2 : tie.Need-returns-2
-returns-2 c = (c .quote-of2 .ensures) ∙ ap (λ f. quoteOf (ifPut f)) (c .before .find .ensures) ∙ ap quoteOf (by-map (c .before .before .before .before .before .before .before .before .args .offer) ((c .before .before .before .before .before .before .before .before .args .base .now)) (composeAll (runOf ((c .before .before .before .before .before .before .before .before .args .journal .now)) ((c .before .before .before .before .before .before .before .before .args .ends .now)) (c .before .before .before .before .before .before .before .before .args .from) ((c .before .before .before .before .before .before .before .before .args .to) - (c .before .before .before .before .before .before .before .before .args .from)))) (c .before .before .before .before .before .before .before .before .pre .0) (between-rises (c .before .before .before .before .before .before .before .before .pre .1)) (sym (c .before .before .before .before .last-change .ensures) ∙ (c .before .before .enum-told .given .1)))
+returns-2 c =
+    let c4 = c .before .before .before .before in
+    let c8 = c4 .before .before .before .before in
+    let args = c8 .args in
+    (c .quote-of2 .ensures) ∙ ap (λ f. quoteOf (ifPut f)) (c .before .find .ensures)
+    ∙ ap quoteOf (by-map (args .offer) (args .base .now)
+    (composeAll (runOf (args .journal .now) (args .ends .now) (args .from) ((args .to) - (args .from)))) (c8 .pre .0)
+    (between-rises (c8 .pre .1)) (sym (c4 .last-change .ensures) ∙ (c .before .before .enum-told .given .1)))
 
 pub price-after-spec : {M : Type 1} → statement M
 price-after-spec =

@@ -29,23 +29,35 @@ enum-told-4 : tie.Need-enum-told-4
 enum-told-4 c = search needs
 
 returns-2 : tie.Need-returns-2
-returns-2 c = stops _ _ (c .before .before .slot-check .ensures) (c .enum-told4 .given .1) ∙ sym (goes-on _ _ (c .before .before .before .before .before .store-check .ensures) (c .before .before .before .enum-told .given .1))
+returns-2 c =
+    let c3 = c .before .before .before in
+    let c5 = c3 .before .before in
+    stops _ _ (c .before .before .slot-check .ensures) (c .enum-told4 .given .1)
+    ∙ sym (goes-on _ _ (c5 .store-check .ensures) (c3 .enum-told .given .1))
 
 array-read-if1 : tie.Need-array-read-if1
-array-read-if1 c = slot-ok (c .before .before .before .before .before .before .before .before .before .args .reader) (c .before .before .slot-check .ensures) (c .enum-told3 .given .1)
+array-read-if1 c =
+    let args = c .before .before .before .before .before .before .before .before .before .args in
+    slot-ok (args .reader) (c .before .before .slot-check .ensures) (c .enum-told3 .given .1)
 
 returns-3 : tie.Need-returns-3
 returns-3 c =
+    let c3 = c .before .before .before in
+    let c4 = c3 .before in
+    let c6 = c4 .before .before in
     sym
-    (goes-on _ _ (c .before .before .before .before .before .before .store-check .ensures) (c .before .before .before .before .enum-told .given .1)
-    ∙ goes-on _ _ (c .before .before .before .slot-check .ensures) (c .before .enum-told3 .given .1)
+    (goes-on _ _ (c6 .store-check .ensures) (c4 .enum-told .given .1)
+    ∙ goes-on _ _ (c3 .slot-check .ensures) (c .before .enum-told3 .given .1)
     ∙ first-met _ _ _ (c .if1 .taken))
 
 returns-4 : tie.Need-returns-4
 returns-4 c =
+    let c3 = c .before .before .before in
+    let c4 = c3 .before in
+    let c6 = c4 .before .before in
     sym
-    (goes-on _ _ (c .before .before .before .before .before .before .store-check .ensures) (c .before .before .before .before .enum-told .given .1)
-    ∙ goes-on _ _ (c .before .before .before .slot-check .ensures) (c .before .enum-told3 .given .1)
+    (goes-on _ _ (c6 .store-check .ensures) (c4 .enum-told .given .1)
+    ∙ goes-on _ _ (c3 .slot-check .ensures) (c .before .enum-told3 .given .1)
     ∙ first-not _ _ _ (c .if1 .left)
     ∙ none-met)
 

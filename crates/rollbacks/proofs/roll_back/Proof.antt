@@ -3,7 +3,7 @@
 use mathlib.Core.Path.{_∙_, ap}
 use native.Mathlib.Omega.{arith}
 use Rattle.changes.specs.Runs.{startOf}
-use Rattle.rollbacks.proofs.Accepted.{roll-known, roll-refused, roll-done, kept-inside, cut-at}
+use Rattle.rollbacks.proofs.RollBackAccepted.{roll-known, roll-refused, roll-done, kept-inside, cut-at}
 use borrow.Author.Needs.{needs}
 use Rattle.rollbacks.proofs.roll_back.Statement.{statement}
 use Rattle.rollbacks.proofs.roll_back.Tie as tie
@@ -18,36 +18,62 @@ same-length : tie.Need-same-length
 same-length c = search needs
 
 returns : tie.Need-returns
-returns c = roll-refused (c .before .before .before .before .before .before .before .args .table .now) (c .before .before .before .before .before .before .before .args .journal .now) (c .before .before .before .before .before .before .before .args .t3) (c .before .before .before .before .before .before .before .args .state) (c .before .before .before .roll-back-check .ensures) (c .before .check .given .1)
+returns c =
+    let c3 = c .before .before .before in
+    let args = c3 .before .before .before .before .args in
+    roll-refused (args .table .now) (args .journal .now) (args .t3) (args .state) (c3 .roll-back-check .ensures)
+    (c .before .check .given .1)
 
 enum-told : tie.Need-enum-told
 enum-told c = search needs
 
 step-index-requires : tie.Need-step-index-requires
 step-index-requires c κs =
-    let ok = roll-known (c .before .before .before .before .before .before .args .table .now) (c .before .before .before .before .before .before .args .journal .now) (c .before .before .before .before .before .before .args .t3) (c .before .before .before .before .before .before .args .state) (c .before .before .roll-back-check .ensures) (c .enum-told .given .1) in
+    let args = c .before .before .before .before .before .before .args in
+    let ok = roll-known (args .table .now) (args .journal .now) (args .t3) (args .state)
+    (c .before .before .roll-back-check .ensures) (c .enum-told .given .1) in
     omega (arith, ok .low, ok .sound .low)
 
 end-of-requires : tie.Need-end-of-requires
 end-of-requires c κs =
-    let ok = roll-known (c .before .before .before .before .before .before .before .before .before .before .args .table .now) (c .before .before .before .before .before .before .before .before .before .before .args .journal .now) (c .before .before .before .before .before .before .before .before .before .before .args .t3) (c .before .before .before .before .before .before .before .before .before .before .args .state) (c .before .before .before .before .before .before .roll-back-check .ensures) (c .before .before .before .before .enum-told .given .1) in
-    omega (arith, ok .low, ok .high, ok .sound .low, ok .sound .few, (c .before .before .before .step-index .ensures))
+    let c3 = c .before .before .before in
+    let c4 = c3 .before in
+    let c6 = c4 .before .before in
+    let args = c6 .before .before .before .before .args in
+    let ok = roll-known (args .table .now) (args .journal .now) (args .t3) (args .state) (c6 .roll-back-check .ensures)
+    (c4 .enum-told .given .1) in
+    omega (arith, ok .low, ok .high, ok .sound .low, ok .sound .few, (c3 .step-index .ensures))
 
 mul-clear : tie.Need-mul-clear
 mul-clear c =
-    let ok = roll-known (c .before .before .before .before .before .before .before .before .before .before .before .args .table .now) (c .before .before .before .before .before .before .before .before .before .before .before .args .journal .now) (c .before .before .before .before .before .before .before .before .before .before .before .args .t3) (c .before .before .before .before .before .before .before .before .before .before .before .args .state) (c .before .before .before .before .before .before .before .roll-back-check .ensures) (c .before .before .before .before .before .enum-told .given .1) in
-    let end = (c .end-of .ensures) ∙ ap (startOf ((c .before .before .before .before .before .before .before .before .before .before .before .args .t3) .ends)) (c .before .before .before .before .step-index .ensures) in
+    let c4 = c .before .before .before .before in
+    let c5 = c4 .before in
+    let c7 = c5 .before .before in
+    let args = c7 .before .before .before .before .args in
+    let ok = roll-known (args .table .now) (args .journal .now) (args .t3) (args .state) (c7 .roll-back-check .ensures)
+    (c5 .enum-told .given .1) in
+    let end = (c .end-of .ensures) ∙ ap (startOf (args .t3 .ends)) (c4 .step-index .ensures) in
     omega (arith, kept-inside ok (c .end-of .result) end, ok .range .journal-most)
 
 sub-clear : tie.Need-sub-clear
 sub-clear c =
-    let ok = roll-known (c .before .before .before .before .before .before .before .before .before .before .before .args .table .now) (c .before .before .before .before .before .before .before .before .before .before .before .args .journal .now) (c .before .before .before .before .before .before .before .before .before .before .before .args .t3) (c .before .before .before .before .before .before .before .before .before .before .before .args .state) (c .before .before .before .before .before .before .before .roll-back-check .ensures) (c .before .before .before .before .before .enum-told .given .1) in
-    kept-inside ok (c .end-of .result) ((c .end-of .ensures) ∙ ap (startOf ((c .before .before .before .before .before .before .before .before .before .before .before .args .t3) .ends)) (c .before .before .before .before .step-index .ensures))
+    let c4 = c .before .before .before .before in
+    let c5 = c4 .before in
+    let c7 = c5 .before .before in
+    let args = c7 .before .before .before .before .args in
+    let ok = roll-known (args .table .now) (args .journal .now) (args .t3) (args .state) (c7 .roll-back-check .ensures)
+    (c5 .enum-told .given .1) in
+    kept-inside ok (c .end-of .result) ((c .end-of .ensures) ∙ ap (startOf (args .t3 .ends)) (c4 .step-index .ensures))
 
 part-clear-start : tie.Need-part-clear-start
 part-clear-start c =
-    let ok = roll-known (c .before .before .before .before .before .before .before .before .before .before .before .args .table .now) (c .before .before .before .before .before .before .before .before .before .before .before .args .journal .now) (c .before .before .before .before .before .before .before .before .before .before .before .args .t3) (c .before .before .before .before .before .before .before .before .before .before .before .args .state) (c .before .before .before .before .before .before .before .roll-back-check .ensures) (c .before .before .before .before .before .enum-told .given .1) in
-    kept-inside ok (c .end-of .result) ((c .end-of .ensures) ∙ ap (startOf ((c .before .before .before .before .before .before .before .before .before .before .before .args .t3) .ends)) (c .before .before .before .before .step-index .ensures))
+    let c4 = c .before .before .before .before in
+    let c5 = c4 .before in
+    let c7 = c5 .before .before in
+    let args = c7 .before .before .before .before .args in
+    let ok = roll-known (args .table .now) (args .journal .now) (args .t3) (args .state) (c7 .roll-back-check .ensures)
+    (c5 .enum-told .given .1) in
+    kept-inside ok (c .end-of .result) ((c .end-of .ensures) ∙ ap (startOf (args .t3 .ends)) (c4 .step-index .ensures))
 
 part-clear-end : tie.Need-part-clear-end
 part-clear-end c = search needs
@@ -57,19 +83,31 @@ clear-requires c κs = search needs
 
 cut-to-requires : tie.Need-cut-to-requires
 cut-to-requires c κs =
-    let ok = roll-known (c .before .before .before .before .before .before .before .before .before .before .before .before .before .before .before .args .table .now) (c .before .before .before .before .before .before .before .before .before .before .before .before .before .before .before .args .journal .now) (c .before .before .before .before .before .before .before .before .before .before .before .before .before .before .before .args .t3) (c .before .before .before .before .before .before .before .before .before .before .before .before .before .before .before .args .state) (c .before .before .before .before .before .before .before .before .before .before .before .roll-back-check .ensures) (c .before .before .before .before .before .before .before .before .before .enum-told .given .1) in
-    omega (arith, ok .low, ok .high, ok .sound .low, ok .sound .few, (c .before .before .before .before .before .before .before .before .step-index .ensures))
+    let c8 = c .before .before .before .before .before .before .before .before in
+    let c9 = c8 .before in
+    let c11 = c9 .before .before in
+    let args = c11 .before .before .before .before .args in
+    let ok = roll-known (args .table .now) (args .journal .now) (args .t3) (args .state) (c11 .roll-back-check .ensures)
+    (c9 .enum-told .given .1) in
+    omega (arith, ok .low, ok .high, ok .sound .low, ok .sound .few, (c8 .step-index .ensures))
 
 same-length-2 : tie.Need-same-length-2
 same-length-2 c = search needs
 
 returns-2 : tie.Need-returns-2
 returns-2 c =
-    let ok = roll-known (c .before .before .before .before .before .before .before .before .before .before .before .before .before .before .before .before .args .table .now) (c .before .before .before .before .before .before .before .before .before .before .before .before .before .before .before .before .args .journal .now) (c .before .before .before .before .before .before .before .before .before .before .before .before .before .before .before .before .args .t3) (c .before .before .before .before .before .before .before .before .before .before .before .before .before .before .before .before .args .state) (c .before .before .before .before .before .before .before .before .before .before .before .before .roll-back-check .ensures) (c .before .before .before .before .before .before .before .before .before .before .enum-told .given .1) in
-    let end = (c .before .before .before .before .before .end-of .ensures) ∙ ap (startOf ((c .before .before .before .before .before .before .before .before .before .before .before .before .before .before .before .before .args .t3) .ends)) (c .before .before .before .before .before .before .before .before .before .step-index .ensures) in
-    roll-done (c .before .before .before .before .before .before .before .before .before .before .before .before .before .before .before .before .args .table .now) (c .before .before .before .before .before .before .before .before .before .before .before .before .before .before .before .before .args .journal .now) (c .before .before .before .before .before .before .before .before .before .before .before .before .before .before .before .before .args .t3) (c .before .before .before .before .before .before .before .before .before .before .before .before .before .before .before .before .args .state) (c .before .before .before .before .before .before .before .before .before .before .before .before .roll-back-check .ensures) (c .before .before .before .before .before .before .before .before .before .before .enum-told .given .1)
-    (c .before .before .before .before .before .before .before .before .before .step-index .result) (c .before .before .before .before .before .end-of .result) (c .before .before .before .before .before .before .before .before .before .step-index .ensures) (c .before .before .before .before .before .end-of .ensures) (c .cut-to .ensures)
-    (cut-at (c .before .before .before .before .before .before .before .before .before .before .before .before .before .before .before .before .args .journal .now) (c .before .before .before .clear .last .0) (c .before .before .before .before .before .end-of .result) (kept-inside ok (c .before .before .before .before .before .end-of .result) end) (c .before .before .before .clear .ensures))
+    let c3 = c .before .before .before in
+    let c5 = c3 .before .before in
+    let c9 = c5 .before .before .before .before in
+    let c10 = c9 .before in
+    let c12 = c10 .before .before in
+    let args = c12 .before .before .before .before .args in
+    let ok = roll-known (args .table .now) (args .journal .now) (args .t3) (args .state) (c12 .roll-back-check .ensures)
+    (c10 .enum-told .given .1) in
+    let end = (c5 .end-of .ensures) ∙ ap (startOf (args .t3 .ends)) (c9 .step-index .ensures) in
+    roll-done (args .table .now) (args .journal .now) (args .t3) (args .state) (c12 .roll-back-check .ensures) (c10 .enum-told .given .1)
+    (c9 .step-index .result) (c5 .end-of .result) (c9 .step-index .ensures) (c5 .end-of .ensures) (c .cut-to .ensures)
+    (cut-at (args .journal .now) (c3 .clear .last .0) (c5 .end-of .result) (kept-inside ok (c5 .end-of .result) end) (c3 .clear .ensures))
 
 pub roll-back-spec : {M : Type 1} → statement M
 roll-back-spec =

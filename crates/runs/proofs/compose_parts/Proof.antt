@@ -12,7 +12,9 @@ use Rattle.runs.proofs.compose_parts.Statement.{statement}
 use Rattle.runs.proofs.compose_parts.Tie as tie
 
 slice-aggregate-compose : tie.Need-slice-aggregate-compose
-slice-aggregate-compose c = sym (length-take-le (c .before .before .before .args .middle) ((c .before .before .before .args .words .now)) (omega arith))
+slice-aggregate-compose c =
+    let args = c .before .before .before .args in
+    sym (length-take-le (args .middle) (args .words .now) (omega arith))
 
 mul-compose : tie.Need-mul-compose
 mul-compose c = search needs
@@ -27,15 +29,27 @@ part-compose-end : tie.Need-part-compose-end
 part-compose-end c = search needs
 
 compose-requires : tie.Need-compose-requires
-compose-requires c κs = omega (arith, length-take-le (c .before .before .before .before .before .args .middle) ((c .before .before .before .before .before .args .words .now)) (omega arith), length-drop (c .before .before .before .before .before .args .middle) ((c .before .before .before .before .before .args .words .now)), ap length (part ((c .before .before .before .before .before .args .words .now)) (c .before .before .before .before .before .args .middle)))
+compose-requires c κs =
+    let args = c .before .before .before .before .before .args in
+    omega (
+      arith,
+      length-take-le (args .middle) (args .words .now) (omega arith),
+      length-drop (args .middle)
+          (args .words .now),
+      ap length (part (args .words .now) (args .middle)),
+    )
 
 same-length : tie.Need-same-length
 same-length c = search needs
 
 returns : tie.Need-returns
 returns c =
-    let both = ap (compose (take (c .before .before .before .before .before .before .before .before .args .middle) ((c .before .before .before .before .before .before .before .before .args .words .now)))) (part ((c .before .before .before .before .before .before .before .before .args .words .now)) (c .before .before .before .before .before .before .before .before .args .middle)) in
-    ((c .before .before .compose .ensures .0) ∙ ap length both, (c .before .before .compose .ensures .1) ∙ ap (λ l. l ++ drop (c .before .before .compose .result) ((c .before .before .before .before .before .before .before .before .args .out .now))) both)
+    let args = c .before .before .before .before .before .before .before .before .args in
+    let both = ap (compose (take (args .middle) (args .words .now))) (part (args .words .now) (args .middle)) in (
+      (c .before .before .compose .ensures .0) ∙ ap length both,
+      (c .before .before .compose .ensures .1)
+          ∙ ap (λ l. l ++ drop (c .before .before .compose .result) (args .out .now)) both,
+    )
 
 pub compose-parts-spec : {M : Type 1} → statement M
 compose-parts-spec =

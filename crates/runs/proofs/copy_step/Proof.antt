@@ -17,13 +17,22 @@ start-of-requires-2 : tie.Need-start-of-requires-2
 start-of-requires-2 c κs = search needs
 
 mul-copy : tie.Need-mul-copy
-mul-copy c = omega (arith, (c .before .before .before .before .before .pre .0 .rises) (c .before .before .before .before .before .args .step) ((c .before .before .before .before .before .args .step) + 1) (omega arith) (omega arith))
+mul-copy c =
+    let c5 = c .before .before .before .before .before in
+    let args = c5 .args in
+    omega (arith, (c5 .pre .0 .rises) (args .step) ((args .step) + 1) (omega arith) (omega arith))
 
 sub-copy : tie.Need-sub-copy
-sub-copy c = omega (arith, (c .before .before .before .before .before .pre .0 .rises) (c .before .before .before .before .before .args .step) ((c .before .before .before .before .before .args .step) + 1) (omega arith) (omega arith))
+sub-copy c =
+    let c5 = c .before .before .before .before .before in
+    let args = c5 .args in
+    omega (arith, (c5 .pre .0 .rises) (args .step) ((args .step) + 1) (omega arith) (omega arith))
 
 part-copy-start : tie.Need-part-copy-start
-part-copy-start c = omega (arith, (c .before .before .before .before .before .pre .0 .rises) (c .before .before .before .before .before .args .step) ((c .before .before .before .before .before .args .step) + 1) (omega arith) (omega arith))
+part-copy-start c =
+    let c5 = c .before .before .before .before .before in
+    let args = c5 .args in
+    omega (arith, (c5 .pre .0 .rises) (args .step) ((args .step) + 1) (omega arith) (omega arith))
 
 part-copy-end : tie.Need-part-copy-end
 part-copy-end c = search needs
@@ -32,13 +41,25 @@ copy-requires : tie.Need-copy-requires
 copy-requires c κs = search needs
 
 sub-result : tie.Need-sub-result
-sub-result c = omega (arith, (c .before .before .before .before .before .before .before .before .before .before .pre .0 .rises) (c .before .before .before .before .before .before .before .before .before .before .args .step) ((c .before .before .before .before .before .before .before .before .before .before .args .step) + 1) (omega arith) (omega arith))
+sub-result c =
+    let c10 = c .before .before .before .before .before .before .before .before .before .before in
+    let args = c10 .args in
+    omega (arith, (c10 .pre .0 .rises) (args .step) ((args .step) + 1) (omega arith) (omega arith))
 
 same-length : tie.Need-same-length
 same-length c = search needs
 
 returns : tie.Need-returns
-returns c = (omega arith, copied-step ((c .before .before .before .before .before .before .before .before .before .before .args .words .now)) ((c .before .before .before .before .before .before .before .before .before .before .args .ends .now)) (c .before .before .before .before .before .before .before .before .before .before .args .step) (c .before .before .before .before .before .before .before .before .before .before .pre .0) (c .before .before .before .before .before .before .start-of .result) (c .before .before .before .before .before .start-of2 .result) (c .before .before .before .before .before .before .start-of .ensures) (c .before .before .before .before .before .start-of2 .ensures) (c .before .before .copy .last .1 .0) ((c .before .before .before .before .before .before .before .before .before .before .args .out .now)) (c .before .before .copy .ensures))
+returns c =
+    let c5 = c .before .before .before .before .before in
+    let c6 = c5 .before in
+    let c10 = c6 .before .before .before .before in
+    let args = c10 .args in (
+      omega arith,
+      copied-step (args .words .now) (args .ends .now) (args .step) (c10 .pre .0) (c6 .start-of .result)
+          (c5 .start-of2 .result) (c6 .start-of .ensures) (c5 .start-of2 .ensures) (c .before .before .copy .last .1 .0)
+          (args .out .now) (c .before .before .copy .ensures),
+    )
 
 pub copy-step-spec : {M : Type 1} → statement M
 copy-step-spec =

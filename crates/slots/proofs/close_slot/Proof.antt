@@ -1,7 +1,7 @@
 -- `slots::close_slot` meets its contract.
 -- Assumes nothing.
 use mathlib.Core.Path.{refl}
-use Rattle.slots.specs.Slots.{shut}
+use Rattle.slots.specs.Slots.{closedAt}
 use borrow.Author.Needs.{needs}
 use Rattle.slots.proofs.close_slot.Statement.{statement}
 use Rattle.slots.proofs.close_slot.Tie as tie
@@ -16,7 +16,7 @@ element-write-next-2 : tie.Need-element-write-next-2
 element-write-next-2 c = search needs
 
 returns : tie.Need-returns
-unfolding shut
+unfolding closedAt
 returns c = refl
 
 pub close-slot-spec : {M : Type 1} → statement M

@@ -31,20 +31,43 @@ returns-2 c =
     ∙ first-fails _ _ (sym (c .before .numbers-fit .ensures) ∙ not-true _ (c .if2 .taken)))
 
 held-count-requires : tie.Need-held-count-requires
-held-count-requires c κs = omega (arith, numbers-facts ((c .before .before .before .before .before .before .before .before .args .t3) .oldest) ((c .before .before .before .before .before .before .before .before .args .t3) .checkpoint) ((c .before .before .before .before .before .before .before .before .args .t3) .tip) (sym (c .before .numbers-fit .ensures) ∙ not-false _ (c .if2 .left)))
+held-count-requires c κs =
+    let args = c .before .before .before .before .before .before .before .before .args in
+    omega (
+      arith,
+      numbers-facts (args .t3 .oldest) (args .t3 .checkpoint) (args .t3 .tip)
+          (sym (c .before .numbers-fit .ensures) ∙ not-false _ (c .if2 .left)),
+    )
 
 is-journal-requires : tie.Need-is-journal-requires
 is-journal-requires c κs =
-    let long : length ((c .before .before .before .before .before .before .before .before .before .before .before .before .args .t3) .ends) ≡ 64 = search needs in
-    omega (arith, long, (c .before .before .before .held-count .ensures), numbers-facts ((c .before .before .before .before .before .before .before .before .before .before .before .before .args .t3) .oldest) ((c .before .before .before .before .before .before .before .before .before .before .before .before .args .t3) .checkpoint) ((c .before .before .before .before .before .before .before .before .before .before .before .before .args .t3) .tip) (sym (c .before .before .before .before .before .numbers-fit .ensures) ∙ not-false _ (c .before .before .before .before .if2 .left)))
+    let c3 = c .before .before .before in
+    let c4 = c3 .before in
+    let c5 = c4 .before in
+    let args = c5 .before .before .before .before .before .before .before .args in
+    let long : length (args .t3 .ends) ≡ 64 = search needs in
+    omega (
+      arith,
+      long,
+      (c3 .held-count .ensures),
+      numbers-facts (args .t3 .oldest) (args .t3 .checkpoint)
+          (args .t3 .tip) (sym (c5 .numbers-fit .ensures) ∙ not-false _ (c4 .if2 .left)),
+    )
 
 returns-3 : tie.Need-returns-3
 unfolding soundB
 returns-3 c =
+    let c5 = c .before .before .before .before .before in
+    let c6 = c5 .before in
+    let c7 = c6 .before in
+    let c8 = c7 .before in
+    let c9 = c8 .before in
+    let args = c9 .before .before .before .before .before .args in
     sym
-    (first-holds _ _ (sym (c .before .before .before .before .before .before .before .before .before .is-table .ensures) ∙ not-false _ (c .before .before .before .before .before .before .before .before .if1 .left))
-    ∙ first-holds _ _ (sym (c .before .before .before .before .before .before .before .numbers-fit .ensures) ∙ not-false _ (c .before .before .before .before .before .before .if2 .left))
-    ∙ first-fails _ _ (ap (journalB (c .before .before .before .before .before .before .before .before .before .before .before .before .before .before .args .journal .now) ((c .before .before .before .before .before .before .before .before .before .before .before .before .before .before .args .t3) .ends)) (sym (c .before .before .before .before .before .held-count .ensures)) ∙ sym (c .before .is-journal .ensures) ∙ not-true _ (c .if3 .taken)))
+    (first-holds _ _ (sym (c9 .is-table .ensures) ∙ not-false _ (c8 .if1 .left))
+    ∙ first-holds _ _ (sym (c7 .numbers-fit .ensures) ∙ not-false _ (c6 .if2 .left))
+    ∙ first-fails _ _ (ap (journalB (args .journal .now) (args .t3 .ends)) (sym (c5 .held-count .ensures))
+    ∙ sym (c .before .is-journal .ensures) ∙ not-true _ (c .if3 .taken)))
 
 slots-fit-requires : tie.Need-slots-fit-requires
 slots-fit-requires c κs = search needs
@@ -52,10 +75,18 @@ slots-fit-requires c κs = search needs
 returns-4 : tie.Need-returns-4
 unfolding soundB
 returns-4 c =
+    let c3 = c .before .before .before in
+    let c7 = c3 .before .before .before .before in
+    let c8 = c7 .before in
+    let c9 = c8 .before in
+    let c10 = c9 .before in
+    let c11 = c10 .before in
+    let args = c11 .before .before .before .before .before .args in
     sym
-    (first-holds _ _ (sym (c .before .before .before .before .before .before .before .before .before .before .before .is-table .ensures) ∙ not-false _ (c .before .before .before .before .before .before .before .before .before .before .if1 .left))
-    ∙ first-holds _ _ (sym (c .before .before .before .before .before .before .before .before .before .numbers-fit .ensures) ∙ not-false _ (c .before .before .before .before .before .before .before .before .if2 .left))
-    ∙ first-holds _ _ (ap (journalB (c .before .before .before .before .before .before .before .before .before .before .before .before .before .before .before .before .args .journal .now) ((c .before .before .before .before .before .before .before .before .before .before .before .before .before .before .before .before .args .t3) .ends)) (sym (c .before .before .before .before .before .before .before .held-count .ensures)) ∙ sym (c .before .before .before .is-journal .ensures) ∙ not-false _ (c .before .before .if3 .left))
+    (first-holds _ _ (sym (c11 .is-table .ensures) ∙ not-false _ (c10 .if1 .left))
+    ∙ first-holds _ _ (sym (c9 .numbers-fit .ensures) ∙ not-false _ (c8 .if2 .left))
+    ∙ first-holds _ _ (ap (journalB (args .journal .now) (args .t3 .ends)) (sym (c7 .held-count .ensures))
+    ∙ sym (c3 .is-journal .ensures) ∙ not-false _ (c .before .before .if3 .left))
     ∙ first-fails _ _ (sym (c .before .slots-fit .ensures) ∙ not-true _ (c .if4 .taken)))
 
 least-of-requires : tie.Need-least-of-requires
@@ -64,11 +95,20 @@ least-of-requires c κs = search needs
 returns-5 : tie.Need-returns-5
 unfolding soundB
 returns-5 c =
-    ap (eqb ((c .before .before .before .before .before .before .before .before .before .before .before .before .before .before .before .before .before .args .t3) .oldest)) (c .least-of .ensures)
+    let c3 = c .before .before .before in
+    let c4 = c3 .before in
+    let c8 = c4 .before .before .before .before in
+    let c9 = c8 .before in
+    let c10 = c9 .before in
+    let c11 = c10 .before in
+    let c12 = c11 .before in
+    let args = c12 .before .before .before .before .before .args in
+    ap (eqb (args .t3 .oldest)) (c .least-of .ensures)
     ∙ sym
-    (first-holds _ _ (sym (c .before .before .before .before .before .before .before .before .before .before .before .before .is-table .ensures) ∙ not-false _ (c .before .before .before .before .before .before .before .before .before .before .before .if1 .left))
-    ∙ first-holds _ _ (sym (c .before .before .before .before .before .before .before .before .before .before .numbers-fit .ensures) ∙ not-false _ (c .before .before .before .before .before .before .before .before .before .if2 .left))
-    ∙ first-holds _ _ (ap (journalB (c .before .before .before .before .before .before .before .before .before .before .before .before .before .before .before .before .before .args .journal .now) ((c .before .before .before .before .before .before .before .before .before .before .before .before .before .before .before .before .before .args .t3) .ends)) (sym (c .before .before .before .before .before .before .before .before .held-count .ensures)) ∙ sym (c .before .before .before .before .is-journal .ensures) ∙ not-false _ (c .before .before .before .if3 .left))
+    (first-holds _ _ (sym (c12 .is-table .ensures) ∙ not-false _ (c11 .if1 .left))
+    ∙ first-holds _ _ (sym (c10 .numbers-fit .ensures) ∙ not-false _ (c9 .if2 .left))
+    ∙ first-holds _ _ (ap (journalB (args .journal .now) (args .t3 .ends)) (sym (c8 .held-count .ensures))
+    ∙ sym (c4 .is-journal .ensures) ∙ not-false _ (c3 .if3 .left))
     ∙ first-holds _ _ (sym (c .before .before .slots-fit .ensures) ∙ not-false _ (c .before .if4 .left))
     ∙ last-test _)
 

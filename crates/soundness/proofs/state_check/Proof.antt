@@ -10,10 +10,16 @@ returns : tie.Need-returns
 returns c = sym (first-met _ _ _ (lt-ltb (c .before .before .args .state) ((c .before .before .args .head) .checkpoint) (c .if1 .taken)))
 
 returns-2 : tie.Need-returns-2
-returns-2 c = sym (first-not _ _ _ (le-ltb (c .before .before .before .before .args .state) ((c .before .before .before .before .args .head) .checkpoint) (c .before .before .if1 .left)) ∙ first-met _ _ _ (lt-ltb ((c .before .before .before .before .args .head) .tip) (c .before .before .before .before .args .state) (c .if2 .taken)))
+returns-2 c =
+    let args = c .before .before .before .before .args in
+    sym (first-not _ _ _ (le-ltb (args .state) (args .head .checkpoint) (c .before .before .if1 .left))
+    ∙ first-met _ _ _ (lt-ltb (args .head .tip) (args .state) (c .if2 .taken)))
 
 returns-3 : tie.Need-returns-3
-returns-3 c = sym (first-not _ _ _ (le-ltb (c .before .before .before .before .args .state) ((c .before .before .before .before .args .head) .checkpoint) (c .before .before .if1 .left)) ∙ first-not _ _ _ (le-ltb ((c .before .before .before .before .args .head) .tip) (c .before .before .before .before .args .state) (c .if2 .left)) ∙ none-met)
+returns-3 c =
+    let args = c .before .before .before .before .args in
+    sym (first-not _ _ _ (le-ltb (args .state) (args .head .checkpoint) (c .before .before .if1 .left))
+    ∙ first-not _ _ _ (le-ltb (args .head .tip) (args .state) (c .if2 .left)) ∙ none-met)
 
 pub state-check-spec : {M : Type 1} → statement M
 state-check-spec = tie.close (tie.spec returns returns-2 returns-3)

@@ -9,7 +9,7 @@ use Rattle.state_maps.proofs.map_at.Tie as tie
 
 -- the shape of the head that is lent
 shape : (d : tie.After-slice-known) → Shaped (d .before .before .before .args .t3)
-shape d = record { held-8 = search needs; issued-8 = search needs; ends-64 = search needs }
+shape d = record { taken-8 = search needs; issued-8 = search needs; ends-64 = search needs }
 
 step-index-requires : tie.Need-step-index-requires
 step-index-requires c κs = omega (arith, state-facts (c .before .before .before .before .pre .0) .sound .low)

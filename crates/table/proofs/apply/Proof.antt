@@ -31,7 +31,10 @@ mul-out : tie.Need-mul-out Inv-loop μ-loop
 mul-out c = search needs
 
 shared-slice-read-out : tie.Need-shared-slice-read-out Inv-loop μ-loop
-shared-slice-read-out c = there (c .before .before .before .before .before .loop .inv) (c .before .before .before .before .loop-test .taken) (c .before .before .is-below .ensures) (c .before .if1 .taken) .0
+shared-slice-read-out c =
+    let c4 = c .before .before .before .before in
+    let c5 = c4 .before in
+    there (c5 .loop .inv) (c4 .loop-test .taken) (c .before .before .is-below .ensures) (c .before .if1 .taken) .0
 
 mul-out-2 : tie.Need-mul-out-2 Inv-loop μ-loop
 mul-out-2 c = search needs
@@ -46,16 +49,30 @@ add-i : tie.Need-add-i Inv-loop μ-loop
 add-i c = search needs
 
 loop-less : tie.Need-loop-less Inv-loop μ-loop
-loop-less c = omega (arith, there (c .before .before .before .before .before .loop .inv) (c .before .before .before .before .loop-test .taken) (c .before .before .is-below .ensures) (c .before .if1 .taken) .0)
+loop-less c =
+    let c4 = c .before .before .before .before in
+    let c5 = c4 .before in
+    omega (arith, there (c5 .loop .inv) (c4 .loop-test .taken) (c .before .before .is-below .ensures) (c .before .if1 .taken) .0)
 
 loop-again : tie.Need-loop-again Inv-loop μ-loop
-loop-again c = kept (c .before .before .before .before .before .loop .inv) (c .before .before .before .before .loop-test .taken) (c .before .before .is-below .ensures) (c .before .if1 .taken)
+loop-again c =
+    let c4 = c .before .before .before .before in
+    let c5 = c4 .before in
+    kept (c5 .loop .inv) (c4 .loop-test .taken) (c .before .before .is-below .ensures) (c .before .if1 .taken)
 
 found-at-requires : tie.Need-found-at-requires Inv-loop μ-loop
 found-at-requires c κs = search needs
 
 add-i-2 : tie.Need-add-i-2 Inv-loop μ-loop
-add-i-2 c = omega (arith, f-most (c .before .before .before .before .before .loop .inv) (c .before .before .before .before .loop-test .taken) (c .before .before .is-below .ensures) (c .before .if1 .left) (c .found-at .ensures), (c .before .before .before .before .before .loop .inv .i-in))
+add-i-2 c =
+    let c4 = c .before .before .before .before in
+    let c5 = c4 .before in
+    omega (
+      arith,
+      f-most (c5 .loop .inv) (c4 .loop-test .taken) (c .before .before .is-below .ensures)
+          (c .before .if1 .left) (c .found-at .ensures),
+      (c5 .loop .inv .i-in),
+    )
 
 add-j : tie.Need-add-j Inv-loop μ-loop
 add-j c = search needs
@@ -76,13 +93,25 @@ loop-less-2 : tie.Need-loop-less-2 Inv-loop μ-loop
 loop-less-2 c = search needs
 
 loop-again-2 : tie.Need-loop-again-2 Inv-loop μ-loop
-loop-again-2 c = put-change (c .before .before .before .before .before .before .before .loop .inv) (c .before .before .before .before .before .before .loop-test .taken) (c .before .before .before .before .is-below .ensures) (c .before .before .before .if1 .left) (c .before .before .found-at .ensures) (omega arith)
+loop-again-2 c =
+    let c3 = c .before .before .before in
+    let c4 = c3 .before in
+    let c6 = c4 .before .before in
+    let c7 = c6 .before in
+    put-change (c7 .loop .inv) (c6 .loop-test .taken) (c4 .is-below .ensures) (c3 .if1 .left)
+    (c .before .before .found-at .ensures) (omega arith)
 
 loop-less-3 : tie.Need-loop-less-3 Inv-loop μ-loop
 loop-less-3 c = search needs
 
 loop-again-3 : tie.Need-loop-again-3 Inv-loop μ-loop
-loop-again-3 c = removed-change (c .before .before .before .before .before .before .before .loop .inv) (c .before .before .before .before .before .before .loop-test .taken) (c .before .before .before .before .is-below .ensures) (c .before .before .before .if1 .left) (c .before .before .found-at .ensures) (λ p. (c .if2 .left) (omega arith))
+loop-again-3 c =
+    let c3 = c .before .before .before in
+    let c4 = c3 .before in
+    let c6 = c4 .before .before in
+    let c7 = c6 .before in
+    removed-change (c7 .loop .inv) (c6 .loop-test .taken) (c4 .is-below .ensures) (c3 .if1 .left)
+    (c .before .before .found-at .ensures) (λ p. (c .if2 .left) (omega arith))
 
 mul-copy : tie.Need-mul-copy Inv-loop μ-loop
 mul-copy c = search needs
@@ -122,8 +151,14 @@ same-length c = search needs
 
 returns : tie.Need-returns Inv-loop μ-loop
 returns c =
-    let rest = left (c .before .before .before .before .before .before .loop .inv) (c .before .before .before .before .before .loop-test .left) in
-    (copied-size ((c .before .before .before .before .before .before .loop .inv .writing)) (c .before .before .before .before .before .before .before .before .before .before .args .map .now) (c .before .before .before .before .before .before .loop .i) rest, copied ((c .before .before .before .before .before .before .loop .inv .writing)) (c .before .before .before .before .before .before .before .before .before .before .args .map .now) (c .before .before .before .before .before .before .loop .i) rest (c .before .before .copy .last .1 .0) (c .before .before .copy .ensures))
+    let c5 = c .before .before .before .before .before in
+    let c6 = c5 .before in
+    let args = c6 .before .before .before .before .args in
+    let rest = left (c6 .loop .inv) (c5 .loop-test .left) in (
+      copied-size ((c6 .loop .inv .writing)) (args .map .now) (c6 .loop .i) rest,
+      copied ((c6 .loop .inv .writing))
+          (args .map .now) (c6 .loop .i) rest (c .before .before .copy .last .1 .0) (c .before .before .copy .ensures),
+    )
 
 pub apply-spec : {M : Type 1} → statement M
 apply-spec =

@@ -8,7 +8,8 @@ use Rattle.table.proofs.found_at.Statement.{statement}
 use Rattle.table.proofs.found_at.Tie as tie
 
 returns : tie.Need-returns
-returns c = sym (none-past (c .before .before .args .words .now) (c .before .before .args .at) (c .before .before .args .word) (c .if1 .taken))
+returns c =
+    sym (none-past (c .before .before .args .words .now) (c .before .before .args .at) (c .before .before .args .word) (c .if1 .taken))
 
 mul-offer-field : tie.Need-mul-offer-field
 mul-offer-field c = search needs
@@ -23,10 +24,16 @@ offer-field-requires-2 : tie.Need-offer-field-requires-2
 offer-field-requires-2 c κs = search needs
 
 returns-2 : tie.Need-returns-2
-returns-2 c = sym (found-here (c .before .before .before .before .before .before .args .words .now) (c .before .before .before .before .before .before .args .at) (c .before .before .before .before .before .before .args .word) (c .before .before .before .before .if1 .left) (omega arith))
+returns-2 c =
+    let c4 = c .before .before .before .before in
+    let args = c4 .before .before .args in
+    sym (found-here (args .words .now) (args .at) (args .word) (c4 .if1 .left) (omega arith))
 
 returns-3 : tie.Need-returns-3
-returns-3 c = sym (other-here (c .before .before .before .before .before .before .args .words .now) (c .before .before .before .before .before .before .args .at) (c .before .before .before .before .before .before .args .word) (c .before .before .before .before .if1 .left) (λ e. (c .if2 .left) (omega arith)))
+returns-3 c =
+    let c4 = c .before .before .before .before in
+    let args = c4 .before .before .args in
+    sym (other-here (args .words .now) (args .at) (args .word) (c4 .if1 .left) (λ e. (c .if2 .left) (omega arith)))
 
 pub found-at-spec : {M : Type 1} → statement M
 found-at-spec =

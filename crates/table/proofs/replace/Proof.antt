@@ -12,7 +12,10 @@ same-length : tie.Need-same-length
 same-length c = search needs
 
 returns : tie.Need-returns
-returns c = grown (c .before .before .before .before .before .before .before .args .table .now) (c .before .before .before .before .before .before .before .args .map .now) (c .before .before .before .before .before .before .before .args .used) (c .before .before .before .copy .last .1 .0) (c .before .before .before .copy .ensures) (c .if1 .taken)
+returns c =
+    let c3 = c .before .before .before in
+    let args = c3 .before .before .before .before .args in
+    grown (args .table .now) (args .map .now) (args .used) (c3 .copy .last .1 .0) (c3 .copy .ensures) (c .if1 .taken)
 
 mul-clear : tie.Need-mul-clear
 mul-clear c = search needs
@@ -33,7 +36,13 @@ same-length-2 : tie.Need-same-length-2
 same-length-2 c = search needs
 
 returns-2 : tie.Need-returns-2
-returns-2 c = shrunk (c .before .before .before .before .before .before .before .before .before .before .before .args .table .now) (c .before .before .before .before .before .before .before .before .before .before .before .args .map .now) (c .before .before .before .before .before .before .before .before .before .before .before .args .used) _ (c .before .before .before .before .before .before .before .copy .ensures) (c .before .before .before .before .if1 .left) (c .before .before .before .before .before .before .before .before .before .before .before .pre .0) (c .before .before .clear .last .0) (c .before .before .clear .ensures)
+returns-2 c =
+    let c4 = c .before .before .before .before in
+    let c7 = c4 .before .before .before in
+    let c11 = c7 .before .before .before .before in
+    let args = c11 .args in
+    shrunk (args .table .now) (args .map .now) (args .used) _ (c7 .copy .ensures) (c4 .if1 .left) (c11 .pre .0)
+    (c .before .before .clear .last .0) (c .before .before .clear .ensures)
 
 pub replace-spec : {M : Type 1} → statement M
 replace-spec =

@@ -32,13 +32,17 @@ loop-less : tie.Need-loop-less Inv-loop μ-loop
 loop-less c = search needs
 
 loop-again : tie.Need-loop-again Inv-loop μ-loop
-loop-again c = stored (c .before .loop .inv) (zeros-next (length ((c .before .before .args .words .now))) (c .before .loop .i) (omega arith)) (omega arith)
+loop-again c =
+    stored (c .before .loop .inv) (zeros-next (length ((c .before .before .args .words .now))) (c .before .loop .i)
+    (omega arith)) (omega arith)
 
 same-length : tie.Need-same-length Inv-loop μ-loop
 same-length c = search needs
 
 returns : tie.Need-returns Inv-loop μ-loop
-returns c = filled (c .before .loop .inv) (zeros-end (length ((c .before .before .args .words .now))) (c .before .loop .i) (omega arith)) (length-replicate (length ((c .before .before .args .words .now))) 0)
+returns c =
+    filled (c .before .loop .inv) (zeros-end (length ((c .before .before .args .words .now))) (c .before .loop .i)
+    (omega arith)) (length-replicate (length ((c .before .before .args .words .now))) 0)
 
 pub clear-spec : {M : Type 1} → statement M
 clear-spec =

@@ -12,7 +12,8 @@ use Rattle.words.proofs.shift.Statement.{statement}
 use Rattle.words.proofs.shift.Tie as tie
 
 abbrev Inv-loop : tie.InvT-loop
-Inv-loop words₀ from to i₀ k₀ words i k = (k + (from - to) ≡ i) × (i ≤ length words₀) × Writing words words₀ k (drop i words₀) (take to words₀ ++ drop from words₀)
+Inv-loop words₀ from to i₀ k₀ words i k =
+    (k + (from - to) ≡ i) × (i ≤ length words₀) × Writing words words₀ k (drop i words₀) (take to words₀ ++ drop from words₀)
 
 abbrev μ-loop : tie.MeasureT-loop
 μ-loop words₀ from to i₀ k₀ words i k = length words₀ - i
@@ -46,19 +47,25 @@ loop-less c = search needs
 
 loop-again : tie.Need-loop-again Inv-loop μ-loop
 loop-again c =
+    let args = c .before .before .before .before .args in
     let w = (c .before .before .loop .inv .2) in
     let i = (c .before .before .loop .i) in
-    let here = next ((c .before .before .before .before .args .words .now)) i (omega arith) in
-    (omega arith, omega arith, stored w (here ∙ ap (λ x. x ∷ drop (i + 1) ((c .before .before .before .before .args .words .now))) (sym (word-behind w i (omega arith)))) (omega arith))
+    let here = next (args .words .now) i (omega arith) in (
+      omega arith,
+      omega arith,
+      stored w
+          (here ∙ ap (λ x. x ∷ drop (i + 1) (args .words .now)) (sym (word-behind w i (omega arith)))) (omega arith),
+    )
 
 same-length : tie.Need-same-length Inv-loop μ-loop
 same-length c = search needs
 
 returns-2 : tie.Need-returns-2 Inv-loop μ-loop
 returns-2 c =
-    let l = (c .before .before .before .args .words .now) in
+    let args = c .before .before .before .args in
+    let l = (args .words .now) in
     done (c .before .loop .inv .2) (drop-of-length-le l {i = (c .before .loop .i)} (omega arith))
-    ∙ ap (λ n. (take (c .before .before .before .args .to) l ++ drop (c .before .before .before .args .from) l) ++ drop n l) (moved-length l (c .before .before .before .args .from) (c .before .before .before .args .to) (omega arith) (omega arith))
+    ∙ ap (λ n. (take (args .to) l ++ drop (args .from) l) ++ drop n l) (moved-length l (args .from) (args .to) (omega arith) (omega arith))
 
 pub shift-spec : {M : Type 1} → statement M
 shift-spec =

@@ -12,25 +12,51 @@ is-accepted-requires : tie.Need-is-accepted-requires
 is-accepted-requires c κs = search needs
 
 returns : tie.Need-returns
-returns c = sym (count-refused (c .before .before .args .answer) (c .before .before .args .call) (c .before .before .args .count) (c .before .before .args .more) (sym ((c .before .is-accepted .ensures)) ∙ not-true _ (c .if1 .taken)))
+returns c =
+    sym (count-refused (c .before .before .args .answer) (c .before .before .args .call)
+    (c .before .before .args .count) (c .before .before .args .more)
+    (sym ((c .before .is-accepted .ensures)) ∙ not-true _ (c .if1 .taken)))
 
 resets-requires : tie.Need-resets-requires
 resets-requires c κs = search needs
 
 returns-2 : tie.Need-returns-2
-returns-2 c = sym (count-anew (c .before .before .before .before .args .answer) (c .before .before .before .before .args .call) (c .before .before .before .before .args .count) (c .before .before .before .before .args .more) (sym ((c .before .before .before .is-accepted .ensures)) ∙ not-false _ (c .before .before .if1 .left)) (sym ((c .before .resets .ensures)) ∙ (c .if2 .taken)))
+returns-2 c =
+    let c3 = c .before .before .before in
+    let args = c3 .before .args in
+    sym (count-anew (args .answer) (args .call) (args .count) (args .more)
+    (sym ((c3 .is-accepted .ensures)) ∙ not-false _ (c .before .before .if1 .left))
+    (sym ((c .before .resets .ensures)) ∙ (c .if2 .taken)))
 
 sub-if3 : tie.Need-sub-if3
 sub-if3 c = search needs
 
 returns-3 : tie.Need-returns-3
-returns-3 c = omega (arith, count-added (c .before .before .before .before .before .args .answer) (c .before .before .before .before .before .args .call) (c .before .before .before .before .before .args .count) (c .before .before .before .before .before .args .more) (sym ((c .before .before .before .before .is-accepted .ensures)) ∙ not-false _ (c .before .before .before .if1 .left)) (sym ((c .before .before .resets .ensures)) ∙ (c .before .if2 .left)))
+returns-3 c =
+    let c3 = c .before .before .before in
+    let c4 = c3 .before in
+    let args = c4 .before .args in
+    omega (
+      arith,
+      count-added (args .answer) (args .call) (args .count) (args .more)
+          (sym ((c4 .is-accepted .ensures)) ∙ not-false _ (c3 .if1 .left))
+          (sym ((c .before .before .resets .ensures)) ∙ (c .before .if2 .left)),
+    )
 
 add-result : tie.Need-add-result
 add-result c = search needs
 
 returns-4 : tie.Need-returns-4
-returns-4 c = omega (arith, count-added (c .before .before .before .before .before .args .answer) (c .before .before .before .before .before .args .call) (c .before .before .before .before .before .args .count) (c .before .before .before .before .before .args .more) (sym ((c .before .before .before .before .is-accepted .ensures)) ∙ not-false _ (c .before .before .before .if1 .left)) (sym ((c .before .before .resets .ensures)) ∙ (c .before .if2 .left)))
+returns-4 c =
+    let c3 = c .before .before .before in
+    let c4 = c3 .before in
+    let args = c4 .before .args in
+    omega (
+      arith,
+      count-added (args .answer) (args .call) (args .count) (args .more)
+          (sym ((c4 .is-accepted .ensures)) ∙ not-false _ (c3 .if1 .left))
+          (sym ((c .before .before .resets .ensures)) ∙ (c .before .if2 .left)),
+    )
 
 pub count-after-spec : {M : Type 1} → statement M
 count-after-spec =

@@ -19,7 +19,10 @@ count-after-requires-3 c κs = search needs
 
 returns : tie.Need-returns
 returns c =
-    tally-is (c .before .before .before .before .args .tally) (c .before .before .before .before .args .checkpoint) (c .before .before .before .before .args .tip) (c .before .before .before .before .args .call) (c .before .before .before .before .args .answer) (c .before .before .before .counts-of .ensures) (c .before .before .count-after .ensures) (c .before .count-after2 .ensures) (c .count-after3 .ensures)
+    let c3 = c .before .before .before in
+    let args = c3 .before .args in
+    tally-is (args .tally) (args .checkpoint) (args .tip) (args .call) (args .answer) (c3 .counts-of .ensures)
+    (c .before .before .count-after .ensures) (c .before .count-after2 .ensures) (c .count-after3 .ensures)
 
 pub tally-after-spec : {M : Type 1} → statement M
 tally-after-spec =

@@ -6,7 +6,7 @@ use borrow.Author.Needs.{needs}
 use native.Mathlib.Omega.{arith}
 use lib.ListN.{length}
 use Rattle.orders.specs.Orders.{allowedB}
-use Rattle.order_runs.proofs.AllOrders.{Joined, joined-none, joined-end, joined-next}
+use Rattle.execution.proofs.AllOrders.{Joined, joined-none, joined-end, joined-next}
 use Rattle.batch.proofs.checking.all_allowed.Statement.{statement}
 use Rattle.batch.proofs.checking.all_allowed.Tie as tie
 

@@ -6,9 +6,9 @@ use Prim.Native.Nat.{ℕ}
 use native.Mathlib.Omega.{arith}
 use lib.ListN.{length, drop}
 use lib.Seq.{length-take-le}
-use Rattle.order_runs.specs.Working.{marked}
+use Rattle.execution.specs.Working.{flagged}
 use Rattle.batch.proofs.BatchChecks.{fits, too-short, tell-fails, tell-done}
-use Rattle.order_runs.proofs.Gathering.{marked-count}
+use Rattle.execution.proofs.Gathering.{flagged-count}
 use borrow.Author.Needs.{needs}
 use Rattle.batch.proofs.pricing.write.Statement.{statement}
 use Rattle.batch.proofs.pricing.write.Tie as tie
@@ -17,7 +17,11 @@ count-requires : tie.Need-count-requires
 count-requires c κs = search needs
 
 returns : tie.Need-returns
-returns c = tell-fails _ (sym (too-short (length (c .before .before .before .before .before .args .out .now)) (marked (c .before .before .before .before .before .args .words .now) (c .before .before .before .before .before .args .marks .now)) (omega (arith, (c .before .count .ensures), marked-count (c .before .before .before .before .before .args .words .now) (c .before .before .before .before .before .args .marks .now) (c .before .before .before .before .before .pre)))))
+returns c =
+    let c5 = c .before .before .before .before .before in
+    let args = c5 .args in
+    tell-fails _ (sym (too-short (length (args .out .now)) (flagged (args .words .now) (args .flags .now))
+    (omega (arith, (c .before .count .ensures), flagged-count (args .words .now) (args .flags .now) (c5 .pre)))))
 
 slice-relend-prefix-gather : tie.Need-slice-relend-prefix-gather
 slice-relend-prefix-gather c = search needs
@@ -26,13 +30,22 @@ slice-aggregate-gather : tie.Need-slice-aggregate-gather
 slice-aggregate-gather c = sym (length-take-le _ _ (omega arith))
 
 gather-requires : tie.Need-gather-requires
-gather-requires c κs = ((c .before .before .before .before .before .before .pre), length-take-le _ _ (omega arith) ∙ (c .before .before .count .ensures) ∙ marked-count _ _ (c .before .before .before .before .before .before .pre))
+gather-requires c κs =
+    let c6 = c .before .before .before .before .before .before in
+    ((c6 .pre), length-take-le _ _ (omega arith) ∙ (c .before .before .count .ensures) ∙ flagged-count _ _ (c6 .pre))
 
 same-length : tie.Need-same-length
 same-length c = search needs
 
 returns-2 : tie.Need-returns-2
-returns-2 c = tell-done _ (sym (fits (length (c .before .before .before .before .before .before .before .before .before .args .out .now)) (marked (c .before .before .before .before .before .before .before .before .before .args .words .now) (c .before .before .before .before .before .before .before .before .before .args .marks .now)) (omega (arith, (c .before .before .before .before .before .count .ensures), marked-count (c .before .before .before .before .before .before .before .before .before .args .words .now) (c .before .before .before .before .before .before .before .before .before .args .marks .now) (c .before .before .before .before .before .before .before .before .before .pre))))) ((c .before .before .before .before .before .count .ensures) ∙ marked-count _ _ (c .before .before .before .before .before .before .before .before .before .pre)) (ap (λ (l : List ℕ). l ++ drop (c .before .before .before .before .before .count .result) (c .before .before .before .before .before .before .before .before .before .args .out .now)) (c .before .before .gather .ensures))
+returns-2 c =
+    let c5 = c .before .before .before .before .before in
+    let c9 = c5 .before .before .before .before in
+    let args = c9 .args in
+    tell-done _ (sym (fits (length (args .out .now)) (flagged (args .words .now) (args .flags .now))
+    (omega (arith, (c5 .count .ensures), flagged-count (args .words .now) (args .flags .now) (c9 .pre)))))
+    ((c5 .count .ensures) ∙ flagged-count _ _ (c9 .pre))
+    (ap (λ (l : List ℕ). l ++ drop (c5 .count .result) (args .out .now)) (c .before .before .gather .ensures))
 
 pub write-spec : {M : Type 1} → statement M
 write-spec =

@@ -23,20 +23,25 @@ write-image-requires c κs = search needs
 
 returns : tie.Need-returns
 returns c =
-    let l = lent (c .before .before .before .before .before .before .before .before .args .table .now) (c .before .before .before .before .before .before .before .before .args .journal .now) (c .before .before .before .before .before .before .before .before .args .words .now) (c .before .before .before .before .before .before .before .before .args .bytes .now) (c .before .before .before .before .before .before .before .before .args .head) in
+    let args = c .before .before .before .before .before .before .before .before .args in
+    let l = lent (args .table .now) (args .journal .now) (args .words .now) (args .bytes .now) (args .head) in
     let m = asks l (queryOf l (LookUp ((c .before .before .query .given .0 .0)))) in
     rw ((c .before .before .query .given .1))
-    (settles m l (c .look-up .ensures) (kept (m .check) (l .table)) (kept (m .check) (l .journal)) (kept (m .check) (l .words)) (kept (m .check) (l .bytes)) (kept (m .check) (l .head)))
+    (settles m l (c .look-up .ensures) (kept (m .check) (l .table)) (kept (m .check) (l .journal))
+    (kept (m .check) (l .words)) (kept (m .check) (l .bytes)) (kept (m .check) (l .head)))
 
 same-length : tie.Need-same-length
 same-length c = search needs
 
 returns-2 : tie.Need-returns-2
 returns-2 c =
-    let l = lent (c .before .before .before .before .before .before .before .before .before .before .args .table .now) (c .before .before .before .before .before .before .before .before .before .before .args .journal .now) (c .before .before .before .before .before .before .before .before .before .before .args .words .now) (c .before .before .before .before .before .before .before .before .before .before .args .bytes .now) (c .before .before .before .before .before .before .before .before .before .before .args .head) in
+    let c4 = c .before .before .before .before in
+    let args = c4 .before .before .before .before .before .before .args in
+    let l = lent (args .table .now) (args .journal .now) (args .words .now) (args .bytes .now) (args .head) in
     let m = asks l (queryOf l WriteImage) in
-    rw ((c .before .before .before .before .enum-told .given .1))
-    (settles m l (c .before .before .write-image .ensures .0) (kept (m .check) (l .table)) (kept (m .check) (l .journal)) (kept (m .check) (l .words)) (c .before .before .write-image .ensures .1) (kept (m .check) (l .head)))
+    rw ((c4 .enum-told .given .1))
+    (settles m l (c .before .before .write-image .ensures .0) (kept (m .check) (l .table))
+    (kept (m .check) (l .journal)) (kept (m .check) (l .words)) (c .before .before .write-image .ensures .1) (kept (m .check) (l .head)))
 
 pub ask-spec : {M : Type 1} → statement M
 ask-spec =

@@ -41,7 +41,10 @@ same-length-4 : tie.Need-same-length-4
 same-length-4 c = search needs
 
 returns : tie.Need-returns
-returns c = rw ((c .before .before .before .before .before .before .before .before .before .before .before .before .before .before .call .given .1)) ((c .before .before .before .before .before .before .before .before .reset .ensures))
+returns c =
+    let c8 = c .before .before .before .before .before .before .before .before in
+    let c14 = c8 .before .before .before .before .before .before in
+    rw ((c14 .call .given .1)) ((c8 .reset .ensures))
 
 same-length-5 : tie.Need-same-length-5
 same-length-5 c = search needs
@@ -56,7 +59,10 @@ same-length-8 : tie.Need-same-length-8
 same-length-8 c = search needs
 
 returns-2 : tie.Need-returns-2
-returns-2 c = rw ((c .before .before .before .before .before .before .before .before .before .before .before .before .before .before .call2 .given .1)) ((c .before .before .before .before .before .before .before .before .step .ensures))
+returns-2 c =
+    let c8 = c .before .before .before .before .before .before .before .before in
+    let c14 = c8 .before .before .before .before .before .before in
+    rw ((c14 .call2 .given .1)) ((c8 .step .ensures))
 
 same-length-9 : tie.Need-same-length-9
 same-length-9 c = search needs
@@ -71,7 +77,10 @@ same-length-12 : tie.Need-same-length-12
 same-length-12 c = search needs
 
 returns-3 : tie.Need-returns-3
-returns-3 c = rw ((c .before .before .before .before .before .before .before .before .before .before .before .before .before .before .call3 .given .1)) ((c .before .before .before .before .before .before .before .before .read .ensures))
+returns-3 c =
+    let c8 = c .before .before .before .before .before .before .before .before in
+    let c14 = c8 .before .before .before .before .before .before in
+    rw ((c14 .call3 .given .1)) ((c8 .read .ensures))
 
 same-length-13 : tie.Need-same-length-13
 same-length-13 c = search needs
@@ -86,7 +95,10 @@ same-length-16 : tie.Need-same-length-16
 same-length-16 c = search needs
 
 returns-4 : tie.Need-returns-4
-returns-4 c = rw ((c .before .before .before .before .before .before .before .before .before .before .call4 .given .1)) ((c .before .before .before .before .ask .ensures))
+returns-4 c =
+    let c4 = c .before .before .before .before in
+    let c10 = c4 .before .before .before .before .before .before in
+    rw ((c10 .call4 .given .1)) ((c4 .ask .ensures))
 
 pub perform-spec : {M : Type 1} → statement M
 perform-spec =

@@ -37,10 +37,13 @@ same-length-3 c = search needs
 
 returns : tie.Need-returns
 returns c =
-    let l = lent (c .before .before .before .before .before .before .before .before .before .before .before .before .before .args .table .now) (c .before .before .before .before .before .before .before .before .before .before .before .before .before .args .journal .now) (c .before .before .before .before .before .before .before .before .before .before .before .before .before .args .words .now) (c .before .before .before .before .before .before .before .before .before .before .before .before .before .args .bytes .now) (c .before .before .before .before .before .before .before .before .before .before .before .before .before .args .head) in
-    let m = readCallOf l (Issue ((c .before .before .before .before .before .before .before .call .given .0 .0))) in
-    rw ((c .before .before .before .before .before .before .before .call .given .1))
-    (settles m l (c .before .before .issue .ensures .0) (kept (m .check) (l .table)) (kept (m .check) (l .journal)) (c .before .before .issue .ensures .2) (kept (m .check) (l .bytes)) (c .before .before .issue .ensures .1))
+    let c7 = c .before .before .before .before .before .before .before in
+    let args = c7 .before .before .before .before .before .before .args in
+    let l = lent (args .table .now) (args .journal .now) (args .words .now) (args .bytes .now) (args .head) in
+    let m = readCallOf l (Issue ((c7 .call .given .0 .0))) in
+    rw ((c7 .call .given .1))
+    (settles m l (c .before .before .issue .ensures .0) (kept (m .check) (l .table)) (kept (m .check) (l .journal))
+    (c .before .before .issue .ensures .2) (kept (m .check) (l .bytes)) (c .before .before .issue .ensures .1))
 
 same-length-4 : tie.Need-same-length-4
 same-length-4 c = search needs
@@ -53,10 +56,14 @@ same-length-6 c = search needs
 
 returns-2 : tie.Need-returns-2
 returns-2 c =
-    let l = lent (c .before .before .before .before .before .before .before .before .before .before .before .before .before .before .before .args .table .now) (c .before .before .before .before .before .before .before .before .before .before .before .before .before .before .before .args .journal .now) (c .before .before .before .before .before .before .before .before .before .before .before .before .before .before .before .args .words .now) (c .before .before .before .before .before .before .before .before .before .before .before .before .before .before .before .args .bytes .now) (c .before .before .before .before .before .before .before .before .before .before .before .before .before .before .before .args .head) in
-    let m = readCallOf l (Forward ((c .before .before .before .before .before .before .before .before .before .call2 .given .0 .0)) ((c .before .before .before .before .before .before .before .before .before .call2 .given .0 .1 .0))) in
-    rw ((c .before .before .before .before .before .before .before .before .before .call2 .given .1))
-    (settles m l (c .before .before .before .before .forward .ensures .0) (kept (m .check) (l .table)) (c .before .before .before .before .forward .ensures .2) (c .before .before .before .before .forward .ensures .3) (kept (m .check) (l .bytes)) (c .before .before .before .before .forward .ensures .1))
+    let c4 = c .before .before .before .before in
+    let c9 = c4 .before .before .before .before .before in
+    let args = c9 .before .before .before .before .before .before .args in
+    let l = lent (args .table .now) (args .journal .now) (args .words .now) (args .bytes .now) (args .head) in
+    let m = readCallOf l (Forward ((c9 .call2 .given .0 .0)) ((c9 .call2 .given .0 .1 .0))) in
+    rw ((c9 .call2 .given .1))
+    (settles m l (c4 .forward .ensures .0) (kept (m .check) (l .table)) (c4 .forward .ensures .2)
+    (c4 .forward .ensures .3) (kept (m .check) (l .bytes)) (c4 .forward .ensures .1))
 
 same-length-7 : tie.Need-same-length-7
 same-length-7 c = search needs
@@ -66,10 +73,14 @@ same-length-8 c = search needs
 
 returns-3 : tie.Need-returns-3
 returns-3 c =
-    let l = lent (c .before .before .before .before .before .before .before .before .before .before .before .before .args .table .now) (c .before .before .before .before .before .before .before .before .before .before .before .before .args .journal .now) (c .before .before .before .before .before .before .before .before .before .before .before .before .args .words .now) (c .before .before .before .before .before .before .before .before .before .before .before .before .args .bytes .now) (c .before .before .before .before .before .before .before .before .before .before .before .before .args .head) in
-    let m = readCallOf l (Release ((c .before .before .before .before .before .before .call3 .given .0 .0))) in
-    rw ((c .before .before .before .before .before .before .call3 .given .1))
-    (settles m l (c .before .before .release .ensures .0) (kept (m .check) (l .table)) (c .before .before .release .ensures .2) (kept (m .check) (l .words)) (kept (m .check) (l .bytes)) (c .before .before .release .ensures .1))
+    let c6 = c .before .before .before .before .before .before in
+    let args = c6 .before .before .before .before .before .before .args in
+    let l = lent (args .table .now) (args .journal .now) (args .words .now) (args .bytes .now) (args .head) in
+    let m = readCallOf l (Release ((c6 .call3 .given .0 .0))) in
+    rw ((c6 .call3 .given .1))
+    (settles m l (c .before .before .release .ensures .0) (kept (m .check) (l .table))
+    (c .before .before .release .ensures .2) (kept (m .check) (l .words)) (kept (m .check) (l .bytes))
+    (c .before .before .release .ensures .1))
 
 pub read-spec : {M : Type 1} → statement M
 read-spec =

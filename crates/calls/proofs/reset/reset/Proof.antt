@@ -34,10 +34,14 @@ same-length-2 c = search needs
 
 returns : tie.Need-returns
 returns c =
-    let l = lent (c .before .before .before .before .before .before .before .before .before .before .before .before .before .args .table .now) (c .before .before .before .before .before .before .before .before .before .before .before .before .before .args .journal .now) (c .before .before .before .before .before .before .before .before .before .before .before .before .before .args .words .now) (c .before .before .before .before .before .before .before .before .before .before .before .before .before .args .bytes .now) (c .before .before .before .before .before .before .before .before .before .before .before .before .before .args .head) in
+    let c4 = c .before .before .before .before in
+    let c7 = c4 .before .before .before in
+    let args = c7 .before .before .before .before .before .before .args in
+    let l = lent (args .table .now) (args .journal .now) (args .words .now) (args .bytes .now) (args .head) in
     let m = resetOf l Clear in
-    rw ((c .before .before .before .before .before .before .before .enum-told .given .1))
-    (settles m l (c .before .before .before .before .clear .ensures .0) (c .before .before .before .before .clear .ensures .2) (c .before .before .before .before .clear .ensures .3) (kept (m .check) (l .words)) (kept (m .check) (l .bytes)) (c .before .before .before .before .clear .ensures .1))
+    rw ((c7 .enum-told .given .1))
+    (settles m l (c4 .clear .ensures .0) (c4 .clear .ensures .2) (c4 .clear .ensures .3) (kept (m .check) (l .words))
+    (kept (m .check) (l .bytes)) (c4 .clear .ensures .1))
 
 same-length-3 : tie.Need-same-length-3
 same-length-3 c = search needs
@@ -50,10 +54,14 @@ same-length-5 c = search needs
 
 returns-2 : tie.Need-returns-2
 returns-2 c =
-    let l = lent (c .before .before .before .before .before .before .before .before .before .before .before .before .before .before .args .table .now) (c .before .before .before .before .before .before .before .before .before .before .before .before .before .before .args .journal .now) (c .before .before .before .before .before .before .before .before .before .before .before .before .before .before .args .words .now) (c .before .before .before .before .before .before .before .before .before .before .before .before .before .before .args .bytes .now) (c .before .before .before .before .before .before .before .before .before .before .before .before .before .before .args .head) in
+    let c4 = c .before .before .before .before in
+    let c8 = c4 .before .before .before .before in
+    let args = c8 .before .before .before .before .before .before .args in
+    let l = lent (args .table .now) (args .journal .now) (args .words .now) (args .bytes .now) (args .head) in
     let m = resetOf l Load in
-    rw ((c .before .before .before .before .before .before .before .before .enum-told2 .given .1))
-    (settles m l (c .before .before .before .before .load .ensures .0) (c .before .before .before .before .load .ensures .2) (c .before .before .before .before .load .ensures .3) (kept (m .check) (l .words)) (kept (m .check) (l .bytes)) (c .before .before .before .before .load .ensures .1))
+    rw ((c8 .enum-told2 .given .1))
+    (settles m l (c4 .load .ensures .0) (c4 .load .ensures .2) (c4 .load .ensures .3) (kept (m .check) (l .words))
+    (kept (m .check) (l .bytes)) (c4 .load .ensures .1))
 
 same-length-6 : tie.Need-same-length-6
 same-length-6 c = search needs
@@ -66,10 +74,14 @@ same-length-8 c = search needs
 
 returns-3 : tie.Need-returns-3
 returns-3 c =
-    let l = lent (c .before .before .before .before .before .before .before .before .before .before .before .before .before .before .before .before .args .table .now) (c .before .before .before .before .before .before .before .before .before .before .before .before .before .before .before .before .args .journal .now) (c .before .before .before .before .before .before .before .before .before .before .before .before .before .before .before .before .args .words .now) (c .before .before .before .before .before .before .before .before .before .before .before .before .before .before .before .before .args .bytes .now) (c .before .before .before .before .before .before .before .before .before .before .before .before .before .before .before .before .args .head) in
+    let c6 = c .before .before .before .before .before .before in
+    let c10 = c6 .before .before .before .before in
+    let args = c10 .before .before .before .before .before .before .args in
+    let l = lent (args .table .now) (args .journal .now) (args .words .now) (args .bytes .now) (args .head) in
     let m = resetOf l Restart in
-    rw ((c .before .before .before .before .before .before .before .before .before .before .enum-told3 .given .1))
-    (settles m l (c .before .before .before .before .before .before .restart .ensures .0) (c .before .before .before .before .before .before .restart .ensures .2) (c .before .before .before .before .before .before .restart .ensures .3) (kept (m .check) (l .words)) (c .before .before .before .before .before .before .restart .ensures .4) (c .before .before .before .before .before .before .restart .ensures .1))
+    rw ((c10 .enum-told3 .given .1))
+    (settles m l (c6 .restart .ensures .0) (c6 .restart .ensures .2) (c6 .restart .ensures .3)
+    (kept (m .check) (l .words)) (c6 .restart .ensures .4) (c6 .restart .ensures .1))
 
 pub reset-spec : {M : Type 1} → statement M
 reset-spec =

@@ -37,10 +37,14 @@ same-length-3 c = search needs
 
 returns : tie.Need-returns
 returns c =
-    let l = lent (c .before .before .before .before .before .before .before .before .before .before .before .before .args .table .now) (c .before .before .before .before .before .before .before .before .before .before .before .before .args .journal .now) (c .before .before .before .before .before .before .before .before .before .before .before .before .args .words .now) (c .before .before .before .before .before .before .before .before .before .before .before .before .args .bytes .now) (c .before .before .before .before .before .before .before .before .before .before .before .before .args .head) in
+    let c6 = c .before .before .before .before .before .before in
+    let args = c6 .before .before .before .before .before .before .args in
+    let l = lent (args .table .now) (args .journal .now) (args .words .now) (args .bytes .now) (args .head) in
     let m = stepOf l Commit in
-    rw ((c .before .before .before .before .before .before .enum-told .given .1))
-    (settles m l (c .before .before .commit .ensures .0) (kept (m .check) (l .table)) (c .before .before .commit .ensures .2) (kept (m .check) (l .words)) (kept (m .check) (l .bytes)) (c .before .before .commit .ensures .1))
+    rw ((c6 .enum-told .given .1))
+    (settles m l (c .before .before .commit .ensures .0) (kept (m .check) (l .table))
+    (c .before .before .commit .ensures .2) (kept (m .check) (l .words)) (kept (m .check) (l .bytes))
+    (c .before .before .commit .ensures .1))
 
 same-length-4 : tie.Need-same-length-4
 same-length-4 c = search needs
@@ -50,10 +54,14 @@ same-length-5 c = search needs
 
 returns-2 : tie.Need-returns-2
 returns-2 c =
-    let l = lent (c .before .before .before .before .before .before .before .before .before .before .before .before .args .table .now) (c .before .before .before .before .before .before .before .before .before .before .before .before .args .journal .now) (c .before .before .before .before .before .before .before .before .before .before .before .before .args .words .now) (c .before .before .before .before .before .before .before .before .before .before .before .before .args .bytes .now) (c .before .before .before .before .before .before .before .before .before .before .before .before .args .head) in
-    let m = stepOf l (RollBack ((c .before .before .before .before .before .before .call .given .0 .0))) in
-    rw ((c .before .before .before .before .before .before .call .given .1))
-    (settles m l (c .before .before .roll-back .ensures .0) (kept (m .check) (l .table)) (c .before .before .roll-back .ensures .2) (kept (m .check) (l .words)) (kept (m .check) (l .bytes)) (c .before .before .roll-back .ensures .1))
+    let c6 = c .before .before .before .before .before .before in
+    let args = c6 .before .before .before .before .before .before .args in
+    let l = lent (args .table .now) (args .journal .now) (args .words .now) (args .bytes .now) (args .head) in
+    let m = stepOf l (RollBack ((c6 .call .given .0 .0))) in
+    rw ((c6 .call .given .1))
+    (settles m l (c .before .before .roll-back .ensures .0) (kept (m .check) (l .table))
+    (c .before .before .roll-back .ensures .2) (kept (m .check) (l .words)) (kept (m .check) (l .bytes))
+    (c .before .before .roll-back .ensures .1))
 
 same-length-6 : tie.Need-same-length-6
 same-length-6 c = search needs
@@ -63,10 +71,14 @@ same-length-7 c = search needs
 
 returns-3 : tie.Need-returns-3
 returns-3 c =
-    let l = lent (c .before .before .before .before .before .before .before .before .before .before .before .before .before .before .args .table .now) (c .before .before .before .before .before .before .before .before .before .before .before .before .before .before .args .journal .now) (c .before .before .before .before .before .before .before .before .before .before .before .before .before .before .args .words .now) (c .before .before .before .before .before .before .before .before .before .before .before .before .before .before .args .bytes .now) (c .before .before .before .before .before .before .before .before .before .before .before .before .before .before .args .head) in
-    let m = stepOf l (Flush ((c .before .before .before .before .before .before .before .before .call2 .given .0 .0))) in
-    rw ((c .before .before .before .before .before .before .before .before .call2 .given .1))
-    (settles m l (c .before .before .before .before .flush .ensures .0) (c .before .before .before .before .flush .ensures .2) (c .before .before .before .before .flush .ensures .3) (kept (m .check) (l .words)) (kept (m .check) (l .bytes)) (c .before .before .before .before .flush .ensures .1))
+    let c4 = c .before .before .before .before in
+    let c8 = c4 .before .before .before .before in
+    let args = c8 .before .before .before .before .before .before .args in
+    let l = lent (args .table .now) (args .journal .now) (args .words .now) (args .bytes .now) (args .head) in
+    let m = stepOf l (Flush ((c8 .call2 .given .0 .0))) in
+    rw ((c8 .call2 .given .1))
+    (settles m l (c4 .flush .ensures .0) (c4 .flush .ensures .2) (c4 .flush .ensures .3) (kept (m .check) (l .words))
+    (kept (m .check) (l .bytes)) (c4 .flush .ensures .1))
 
 pub step-spec : {M : Type 1} → statement M
 step-spec =

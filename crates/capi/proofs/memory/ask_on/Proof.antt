@@ -14,10 +14,16 @@ unfit-answer-requires : tie.Need-unfit-answer-requires
 unfit-answer-requires c κs = search needs
 
 returns : tie.Need-returns
-returns c = not-asked (c .before .before .before .before .before .before .before .before .args .table .now) (c .before .before .before .before .before .before .before .before .args .journal .now) (c .before .before .before .before .before .before .before .before .args .words .now) (c .before .before .before .before .before .before .before .before .args .bytes .now) (c .before .before .before .before .before .before .before .before .args .head .now) (c .before .before .before .before .before .before .before .before .args .query) (sym (c .before .before .is-head .ensures) ∙ not-true _ (c .before .if1 .taken)) (c .unfit-answer .ensures)
+returns c =
+    let args = c .before .before .before .before .before .before .before .before .args in
+    not-asked (args .table .now) (args .journal .now) (args .words .now) (args .bytes .now) (args .head .now)
+    (args .query) (sym (c .before .before .is-head .ensures) ∙ not-true _ (c .before .if1 .taken)) (c .unfit-answer .ensures)
 
 unpack-requires : tie.Need-unpack-requires
-unpack-requires c κs = head-fits (c .before .before .before .before .before .before .before .before .before .args .head .now) (sym (c .before .before .before .is-head .ensures) ∙ not-false _ (c .before .before .if1 .left))
+unpack-requires c κs =
+    let c3 = c .before .before .before in
+    let args = c3 .before .before .before .before .before .before .args in
+    head-fits (args .head .now) (sym (c3 .is-head .ensures) ∙ not-false _ (c .before .before .if1 .left))
 
 ask-requires : tie.Need-ask-requires
 ask-requires c κs = search needs
@@ -30,8 +36,13 @@ same-length-2 c = search needs
 
 returns-2 : tie.Need-returns-2
 returns-2 c =
-    was-asked (c .before .before .before .before .before .before .before .before .before .before .before .before .before .before .before .args .table .now) (c .before .before .before .before .before .before .before .before .before .before .before .before .before .before .before .args .journal .now) (c .before .before .before .before .before .before .before .before .before .before .before .before .before .before .before .args .words .now) (c .before .before .before .before .before .before .before .before .before .before .before .before .before .before .before .args .bytes .now) (c .before .before .before .before .before .before .before .before .before .before .before .before .before .before .before .args .head .now) (c .before .before .before .before .before .before .before .before .before .before .before .before .before .before .before .args .query)
-    (sym (c .before .before .before .before .before .before .before .before .before .is-head .ensures) ∙ not-false _ (c .before .before .before .before .before .before .before .before .if1 .left)) (c .before .before .before .before .before .unpack .ensures) (c .before .before .before .before .ask .ensures)
+    let c4 = c .before .before .before .before in
+    let c5 = c4 .before in
+    let c8 = c5 .before .before .before in
+    let c9 = c8 .before in
+    let args = c9 .before .before .before .before .before .before .args in
+    was-asked (args .table .now) (args .journal .now) (args .words .now) (args .bytes .now) (args .head .now) (args .query)
+    (sym (c9 .is-head .ensures) ∙ not-false _ (c8 .if1 .left)) (c5 .unpack .ensures) (c4 .ask .ensures)
 
 pub ask-on-spec : {M : Type 1} → statement M
 ask-on-spec =

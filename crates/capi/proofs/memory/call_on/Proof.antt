@@ -21,22 +21,35 @@ same-length-2 c = search needs
 
 returns : tie.Need-returns
 returns c =
-    not-served (c .before .before .before .before .before .before .before .before .before .before .before .args .table .now) (c .before .before .before .before .before .before .before .before .before .before .before .args .journal .now) (c .before .before .before .before .before .before .before .before .before .before .before .args .words .now) (c .before .before .before .before .before .before .before .before .before .before .before .args .bytes .now) (c .before .before .before .before .before .before .before .before .before .before .before .args .head .now) (c .before .before .before .before .before .before .before .before .before .before .before .args .tally .now) (c .before .before .before .before .before .before .before .before .before .before .before .args .call)
+    let args = c .before .before .before .before .before .before .before .before .before .before .before .args in
+    not-served (args .table .now) (args .journal .now) (args .words .now) (args .bytes .now) (args .head .now)
+    (args .tally .now) (args .call)
     (sym (c .before .before .is-lent .ensures) ∙ not-true _ (c .before .if1 .taken)) (c .unfit-answer .ensures)
 
 tally-in-requires : tie.Need-tally-in-requires
-tally-in-requires c κs = tally-long (c .before .before .before .before .before .before .before .before .before .before .before .args .head .now) (c .before .before .before .before .before .before .before .before .before .before .before .args .tally .now) (c .before .before .before .before .before .before .before .before .before .before .before .args .call) (sym (c .before .before .is-lent .ensures) ∙ not-false _ (c .before .if1 .left))
+tally-in-requires c κs =
+    let args = c .before .before .before .before .before .before .before .before .before .before .before .args in
+    tally-long (args .head .now) (args .tally .now) (args .call)
+    (sym (c .before .before .is-lent .ensures) ∙ not-false _ (c .before .if1 .left))
 
 unpack-requires : tie.Need-unpack-requires
-unpack-requires c κs = head-long (c .before .before .before .before .before .before .before .before .before .before .before .before .before .before .before .before .before .args .head .now) (c .before .before .before .before .before .before .before .before .before .before .before .before .before .before .before .before .before .args .tally .now) (c .before .before .before .before .before .before .before .before .before .before .before .before .before .before .before .before .before .args .call) (sym (c .before .before .before .before .before .before .before .before .is-lent .ensures) ∙ not-false _ (c .before .before .before .before .before .before .before .if1 .left))
+unpack-requires c κs =
+    let c7 = c .before .before .before .before .before .before .before in
+    let c8 = c7 .before in
+    let args = c8 .before .before .before .before .before .before .before .before .before .args in
+    head-long (args .head .now) (args .tally .now) (args .call) (sym (c8 .is-lent .ensures) ∙ not-false _ (c7 .if1 .left))
 
 serve-core-requires : tie.Need-serve-core-requires
 serve-core-requires c κs = search needs
 
 put-served-requires : tie.Need-put-served-requires
 put-served-requires c κs =
-    let fits = sym (c .before .before .before .before .before .before .before .before .before .before .before .before .before .before .before .before .before .before .before .before .is-lent .ensures) ∙ not-false _ (c .before .before .before .before .before .before .before .before .before .before .before .before .before .before .before .before .before .before .before .if1 .left) in
-    (head-long (c .before .before .before .before .before .before .before .before .before .before .before .before .before .before .before .before .before .before .before .before .before .before .before .before .before .before .before .before .before .args .head .now) (c .before .before .before .before .before .before .before .before .before .before .before .before .before .before .before .before .before .before .before .before .before .before .before .before .before .before .before .before .before .args .tally .now) (c .before .before .before .before .before .before .before .before .before .before .before .before .before .before .before .before .before .before .before .before .before .before .before .before .before .before .before .before .before .args .call) fits, tally-long (c .before .before .before .before .before .before .before .before .before .before .before .before .before .before .before .before .before .before .before .before .before .before .before .before .before .before .before .before .before .args .head .now) (c .before .before .before .before .before .before .before .before .before .before .before .before .before .before .before .before .before .before .before .before .before .before .before .before .before .before .before .before .before .args .tally .now) (c .before .before .before .before .before .before .before .before .before .before .before .before .before .before .before .before .before .before .before .before .before .before .before .before .before .before .before .before .before .args .call) fits)
+    let c10 = c .before .before .before .before .before .before .before .before .before .before in
+    let c19 = c10 .before .before .before .before .before .before .before .before .before in
+    let c20 = c19 .before in
+    let args = c20 .before .before .before .before .before .before .before .before .before .args in
+    let fits = sym (c20 .is-lent .ensures) ∙ not-false _ (c19 .if1 .left) in
+    (head-long (args .head .now) (args .tally .now) (args .call) fits, tally-long (args .head .now) (args .tally .now) (args .call) fits)
 
 same-length-3 : tie.Need-same-length-3
 same-length-3 c = search needs
@@ -58,9 +71,17 @@ same-length-8 c = search needs
 
 returns-2 : tie.Need-returns-2
 returns-2 c =
-    was-served (c .before .before .before .before .before .before .before .before .before .before .before .before .before .before .before .before .before .before .before .before .before .before .before .before .before .before .before .before .before .before .before .before .before .before .args .table .now) (c .before .before .before .before .before .before .before .before .before .before .before .before .before .before .before .before .before .before .before .before .before .before .before .before .before .before .before .before .before .before .before .before .before .before .args .journal .now) (c .before .before .before .before .before .before .before .before .before .before .before .before .before .before .before .before .before .before .before .before .before .before .before .before .before .before .before .before .before .before .before .before .before .before .args .words .now) (c .before .before .before .before .before .before .before .before .before .before .before .before .before .before .before .before .before .before .before .before .before .before .before .before .before .before .before .before .before .before .before .before .before .before .args .bytes .now) (c .before .before .before .before .before .before .before .before .before .before .before .before .before .before .before .before .before .before .before .before .before .before .before .before .before .before .before .before .before .before .before .before .before .before .args .head .now) (c .before .before .before .before .before .before .before .before .before .before .before .before .before .before .before .before .before .before .before .before .before .before .before .before .before .before .before .before .before .before .before .before .before .before .args .tally .now) (c .before .before .before .before .before .before .before .before .before .before .before .before .before .before .before .before .before .before .before .before .before .before .before .before .before .before .before .before .before .before .before .before .before .before .args .call)
-    (sym (c .before .before .before .before .before .before .before .before .before .before .before .before .before .before .before .before .before .before .before .before .before .before .before .before .before .is-lent .ensures) ∙ not-false _ (c .before .before .before .before .before .before .before .before .before .before .before .before .before .before .before .before .before .before .before .before .before .before .before .before .if1 .left)) (c .before .before .before .before .before .before .before .before .before .before .before .before .before .before .before .before .unpack .ensures) (c .before .before .before .before .before .before .before .before .before .before .before .before .before .before .before .before .before .before .before .before .before .before .tally-in .ensures) (c .before .before .before .before .before .before .before .before .before .before .before .before .before .before .before .serve-core .ensures)
-    (c .before .before .before .before .put-served .ensures .0) (c .before .before .before .before .put-served .ensures .1) (c .before .before .before .before .put-served .ensures .2)
+    let c4 = c .before .before .before .before in
+    let c15 = c4 .before .before .before .before .before .before .before .before .before .before .before in
+    let c16 = c15 .before in
+    let c22 = c16 .before .before .before .before .before .before in
+    let c24 = c22 .before .before in
+    let c25 = c24 .before in
+    let args = c25 .before .before .before .before .before .before .before .before .before .args in
+    was-served (args .table .now) (args .journal .now) (args .words .now) (args .bytes .now) (args .head .now)
+    (args .tally .now) (args .call)
+    (sym (c25 .is-lent .ensures) ∙ not-false _ (c24 .if1 .left)) (c16 .unpack .ensures) (c22 .tally-in .ensures) (c15 .serve-core .ensures)
+    (c4 .put-served .ensures .0) (c4 .put-served .ensures .1) (c4 .put-served .ensures .2)
 
 pub call-on-spec : {M : Type 1} → statement M
 call-on-spec =

@@ -20,11 +20,13 @@ same-length : tie.Need-same-length
 same-length c = search needs
 
 returns : tie.Need-returns
-returns c = (
-  (c .code-of .ensures) ∙ ap codeOf (c .before .before .before .before .before .price-batch .ensures .0),
-  (c .before .before .before .before .before .price-batch .ensures .1),
-  (c .before .value-of .ensures) ∙ ap (λ (a : Said). valueOf a (c .before .before .before .before .before .before .before .before .before .before .args .count .now)) (c .before .before .before .before .before .price-batch .ensures .0),
-)
+returns c =
+    let c5 = c .before .before .before .before .before in
+    let args = c5 .before .before .before .before .before .args in (
+      (c .code-of .ensures) ∙ ap codeOf (c5 .price-batch .ensures .0),
+      (c5 .price-batch .ensures .1),
+      (c .before .value-of .ensures) ∙ ap (λ (a : Said). valueOf a (args .count .now)) (c5 .price-batch .ensures .0),
+    )
 
 pub cechnuol-price-batch-spec : {M : Type 1} → statement M
 cechnuol-price-batch-spec =

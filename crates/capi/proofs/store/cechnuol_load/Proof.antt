@@ -32,10 +32,13 @@ same-length-5 : tie.Need-same-length-5
 same-length-5 c = search needs
 
 returns : tie.Need-returns
-returns c = (
-  serves (c .before .before .before .before .before .before .before .before .before .before .before .before .before .before .before .before .before .before .before .before .before .before .before .before .args .table .now) (c .before .before .before .before .before .before .before .before .before .before .before .before .before .before .before .before .before .before .before .before .before .before .before .before .args .journal .now) [] (c .before .before .before .before .before .before .before .before .before .before .before .before .before .before .before .before .before .before .before .before .before .before .before .before .args .bytes .now) (c .before .before .before .before .before .before .before .before .before .before .before .before .before .before .before .before .before .before .before .before .before .before .before .before .args .head .now) (c .before .before .before .before .before .before .before .before .before .before .before .before .before .before .before .before .before .before .before .before .before .before .before .before .args .tally .now) load (c .code-of .ensures) (c .before .before .before .before .before .before .before .before .before .before .before .before .call-on .ensures),
-  (c .before .before .before .before .before .before .before .before .before .before .before .before .call-on .ensures .4),
-)
+returns c =
+    let c12 = c .before .before .before .before .before .before .before .before .before .before .before .before in
+    let args = c12 .before .before .before .before .before .before .before .before .before .before .before .before .args in (
+      serves (args .table .now) (args .journal .now) [] (args .bytes .now) (args .head .now) (args .tally .now) load
+          (c .code-of .ensures) (c12 .call-on .ensures),
+      (c12 .call-on .ensures .4),
+    )
 
 pub cechnuol-load-spec : {M : Type 1} → statement M
 cechnuol-load-spec =

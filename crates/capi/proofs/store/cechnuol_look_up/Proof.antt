@@ -24,8 +24,10 @@ code-of-requires c κs = search needs
 
 returns : tie.Need-returns
 returns c =
-    tells (c .before .before .before .before .before .before .before .before .before .before .before .args .table .now) (c .before .before .before .before .before .before .before .before .before .before .before .args .journal .now) [] [] (c .before .before .before .before .before .before .before .before .before .before .before .args .head .now) (lookUp (c .before .before .before .before .before .before .before .before .before .before .before .args .offer) (c .before .before .before .before .before .before .before .before .before .before .before .args .state)) (c .before .before .before .before .before .before .before .before .before .before .before .args .price .now)
-    (c .code-of .ensures) (c .before .value-of .ensures) (c .before .before .before .before .before .ask-on .ensures)
+    let c5 = c .before .before .before .before .before in
+    let args = c5 .before .before .before .before .before .before .args in
+    tells (args .table .now) (args .journal .now) [] [] (args .head .now) (lookUp (args .offer) (args .state)) (args .price .now)
+    (c .code-of .ensures) (c .before .value-of .ensures) (c5 .ask-on .ensures)
 
 pub cechnuol-look-up-spec : {M : Type 1} → statement M
 cechnuol-look-up-spec =

@@ -2,7 +2,7 @@
 -- Assumes nothing.
 use borrow.Author.Needs.{needs}
 use native.Mathlib.Omega.{arith}
-use Rattle.entry.proofs.Marks.{climb-mark}
+use Rattle.entry.proofs.Flags.{climb-flag}
 use Rattle.entry.proofs.Entry.climbs.Statement.{statement}
 use Rattle.entry.proofs.Entry.climbs.Tie as tie
 
@@ -20,8 +20,10 @@ wrapping-sub-u32-requires c κs = search needs
 
 returns : tie.Need-returns
 returns c put =
-    rw (c .before .before .before .upper-of .ensures)
-    (climb-mark (c .wrapping-sub-u32 .result) (c .before .before .before .before .args .before) (c .before .before .before .before .args .word)
+    let c3 = c .before .before .before in
+    let args = c3 .before .args in
+    rw (c3 .upper-of .ensures)
+    (climb-flag (c .wrapping-sub-u32 .result) (args .before) (args .word)
     (omega arith) (omega arith) (omega arith) put)
 
 pub climbs-spec : {M : Type 1} → statement M

@@ -1,6 +1,6 @@
 -- `Entry::offer_field` meets its contract: the mask takes the offer in its place.
 -- Assumes nothing.
-use Rattle.entry.proofs.Marks.{offer-field}
+use Rattle.entry.proofs.Flags.{offer-field}
 use Rattle.entry.proofs.Entry.offer_field.Statement.{statement}
 use Rattle.entry.proofs.Entry.offer_field.Tie as tie
 

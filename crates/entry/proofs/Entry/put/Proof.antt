@@ -20,7 +20,8 @@ shl-result : tie.Need-shl-result
 shl-result c = search needs
 
 returns : tie.Need-returns
-returns c = put-joined (c .none .result) (c .before .args .offer % 2 ^ 31) (c .before .args .price) (c .none .ensures) (omega arith) (omega arith)
+returns c =
+    put-joined (c .none .result) (c .before .args .offer % 2 ^ 31) (c .before .args .price) (c .none .ensures) (omega arith) (omega arith)
 
 pub put-spec : {M : Type 1} → statement M
 put-spec = tie.close (tie.spec none-requires cast-result cast-result-2 shl-result returns)

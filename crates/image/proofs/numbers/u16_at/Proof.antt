@@ -28,7 +28,10 @@ add-result : tie.Need-add-result
 add-result c = search needs
 
 returns : tie.Need-returns
-returns c = (omega (arith, two-at (c .before .before .before .before .before .args .bytes .now) (c .before .before .before .before .before .args .at) (c .before .before .before .before .before .pre)), omega arith)
+returns c =
+    let c5 = c .before .before .before .before .before in
+    let args = c5 .args in
+    (omega (arith, two-at (args .bytes .now) (args .at) (c5 .pre)), omega arith)
 
 pub u16-at-spec : {M : Type 1} → statement M
 u16-at-spec =

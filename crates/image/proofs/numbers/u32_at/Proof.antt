@@ -58,7 +58,10 @@ add-result-3 : tie.Need-add-result-3
 add-result-3 c = search needs
 
 returns : tie.Need-returns
-returns c = omega (arith, four-at (c .before .before .before .before .before .before .before .before .before .args .bytes .now) (c .before .before .before .before .before .before .before .before .before .args .at) (c .before .before .before .before .before .before .before .before .before .pre))
+returns c =
+    let c9 = c .before .before .before .before .before .before .before .before .before in
+    let args = c9 .args in
+    omega (arith, four-at (args .bytes .now) (args .at) (c9 .pre))
 
 pub u32-at-spec : {M : Type 1} → statement M
 u32-at-spec =

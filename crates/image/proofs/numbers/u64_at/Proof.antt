@@ -28,7 +28,10 @@ add-result : tie.Need-add-result
 add-result c = search needs
 
 returns : tie.Need-returns
-returns c = omega (arith, eight-at (c .before .before .before .args .bytes .now) (c .before .before .before .args .at) (c .before .before .before .pre))
+returns c =
+    let c3 = c .before .before .before in
+    let args = c3 .args in
+    omega (arith, eight-at (args .bytes .now) (args .at) (c3 .pre))
 
 pub u64-at-spec : {M : Type 1} → statement M
 u64-at-spec =

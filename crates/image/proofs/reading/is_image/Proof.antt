@@ -47,7 +47,10 @@ key-of-requires : tie.Need-key-of-requires Inv-loop μ-loop
 key-of-requires c κs = search needs
 
 returns-3 : tie.Need-returns-3 Inv-loop μ-loop
-returns-3 c = sym (key-falls (c .before .before .before .before .loop .inv) (omega arith) (c .before .before .u64-at .result) (omega arith) (c .before .before .u64-at .ensures) (omega arith))
+returns-3 c =
+    let c4 = c .before .before .before .before in
+    sym (key-falls (c4 .loop .inv) (omega arith) (c .before .before .u64-at .result) (omega arith)
+    (c .before .before .u64-at .ensures) (omega arith))
 
 add-i : tie.Need-add-i Inv-loop μ-loop
 add-i c = search needs
@@ -56,7 +59,11 @@ loop-less : tie.Need-loop-less Inv-loop μ-loop
 loop-less c = search needs
 
 loop-again : tie.Need-loop-again Inv-loop μ-loop
-loop-again c = rw (c .before .key-of .ensures .0) (key-rises (c .before .before .before .before .loop .inv) (omega arith) (c .before .before .u64-at .result) (omega arith) (c .before .before .u64-at .ensures) (omega arith))
+loop-again c =
+    let c4 = c .before .before .before .before in
+    rw (c .before .key-of .ensures .0)
+    (key-rises (c4 .loop .inv) (omega arith) (c .before .before .u64-at .result) (omega arith)
+    (c .before .before .u64-at .ensures) (omega arith))
 
 returns-4 : tie.Need-returns-4 Inv-loop μ-loop
 returns-4 c = sym (tested (c .before .loop .inv .tested) (omega arith))

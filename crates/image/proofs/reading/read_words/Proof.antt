@@ -13,7 +13,8 @@ use Rattle.image.proofs.reading.read_words.Statement.{statement}
 use Rattle.image.proofs.reading.read_words.Tie as tie
 
 abbrev Inv-loop : tie.InvT-loop
-Inv-loop bytes table₀ count i₀ table i = (i ≤ countIn bytes) × Writing table table₀ i (wordsOf (countIn bytes - i) (drop (6 + 8 * i) bytes)) (wordsIn bytes)
+Inv-loop bytes table₀ count i₀ table i =
+    (i ≤ countIn bytes) × Writing table table₀ i (wordsOf (countIn bytes - i) (drop (6 + 8 * i) bytes)) (wordsIn bytes)
 
 abbrev μ-loop : tie.MeasureT-loop
 μ-loop bytes table₀ count i₀ table i = countIn bytes - i
@@ -47,14 +48,23 @@ loop-less c = search needs
 
 loop-again : tie.Need-loop-again Inv-loop μ-loop
 loop-again c =
-    let here : (c .before .before .loop .i) < countIn (c .before .before .before .before .before .before .args .bytes .now) = omega arith in
-    (omega arith, rw (c .u64-at .ensures) (stored (c .before .before .loop .inv .1) (words-next (countIn (c .before .before .before .before .before .before .args .bytes .now)) (c .before .before .before .before .before .before .args .bytes .now) (c .before .before .loop .i) here) (omega arith)))
+    let args = c .before .before .before .before .before .before .args in
+    let here : (c .before .before .loop .i) < countIn (args .bytes .now) = omega arith in (
+      omega arith,
+      rw (c .u64-at .ensures)
+          (stored (c .before .before .loop .inv .1)
+          (words-next (countIn (args .bytes .now)) (args .bytes .now) (c .before .before .loop .i) here) (omega arith)),
+    )
 
 same-length : tie.Need-same-length Inv-loop μ-loop
 same-length c = search needs
 
 returns : tie.Need-returns Inv-loop μ-loop
-returns c = done (c .before .loop .inv .1) (words-end (countIn (c .before .before .before .before .before .args .bytes .now)) (c .before .before .before .before .before .args .bytes .now) (c .before .loop .i) (omega arith)) ∙ ap (λ (n : ℕ). wordsIn (c .before .before .before .before .before .args .bytes .now) ++ drop n (c .before .before .before .before .before .args .table .now)) (words-in-length (c .before .before .before .before .before .args .bytes .now))
+returns c =
+    let args = c .before .before .before .before .before .args in
+    done (c .before .loop .inv .1)
+    (words-end (countIn (args .bytes .now)) (args .bytes .now) (c .before .loop .i) (omega arith))
+    ∙ ap (λ (n : ℕ). wordsIn (args .bytes .now) ++ drop n (args .table .now)) (words-in-length (args .bytes .now))
 
 pub read-words-spec : {M : Type 1} → statement M
 read-words-spec =

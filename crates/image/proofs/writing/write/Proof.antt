@@ -18,7 +18,8 @@ use Rattle.image.proofs.writing.write.Statement.{statement}
 use Rattle.image.proofs.writing.write.Tie as tie
 
 abbrev Inv-loop : tie.InvT-loop
-Inv-loop state words out₀ at₀ i₀ out at i = (i ≤ length words) × (at ≡ 6 + 8 * i) × Writing out out₀ at (wordBytes (drop i words)) (take 6 out₀ ++ wordBytes words)
+Inv-loop state words out₀ at₀ i₀ out at i =
+    (i ≤ length words) × (at ≡ 6 + 8 * i) × Writing out out₀ at (wordBytes (drop i words)) (take 6 out₀ ++ wordBytes words)
 
 abbrev μ-loop : tie.MeasureT-loop
 μ-loop state words out₀ at₀ i₀ out at i = length words - i
@@ -54,15 +55,29 @@ loop-less : tie.Need-loop-less Inv-loop μ-loop
 loop-less c = search needs
 
 loop-again : tie.Need-loop-again Inv-loop μ-loop
-loop-again c = (omega arith, omega arith, wrote-piece (c .before .before .before .before .before .before .loop .inv .2) (bytesOf 8 (getD (c .before .before .before .before .before .before .before .before .before .before .before .before .before .before .before .before .before .args .words .now) (c .before .before .before .before .before .before .loop .i) 0)) (wordBytes (drop ((c .before .before .before .before .before .before .loop .i) + 1) (c .before .before .before .before .before .before .before .before .before .before .before .before .before .before .before .before .before .args .words .now))) (word-bytes-next (c .before .before .before .before .before .before .before .before .before .before .before .before .before .before .before .before .before .args .words .now) (c .before .before .before .before .before .before .loop .i) (c .before .before .before .before .before .loop-test .taken)) ((c .before .before .before .before .before .before .loop .at) + 8) (omega (arith, length-bytes 8 (getD (c .before .before .before .before .before .before .before .before .before .before .before .before .before .before .before .before .before .args .words .now) (c .before .before .before .before .before .before .loop .i) 0))) (omega arith) (c .before .before .put-u64 .ensures))
+loop-again c =
+    let c5 = c .before .before .before .before .before in
+    let c6 = c5 .before in
+    let args = c6 .before .before .before .before .before .before .before .before .before .before .before .args in (
+      omega arith,
+      omega arith,
+      wrote-piece (c6 .loop .inv .2) (bytesOf 8 (getD (args .words .now) (c6 .loop .i) 0))
+          (wordBytes (drop ((c6 .loop .i) + 1) (args .words .now)))
+          (word-bytes-next (args .words .now) (c6 .loop .i) (c5 .loop-test .taken)) ((c6 .loop .at) + 8)
+          (omega (arith, length-bytes 8 (getD (args .words .now) (c6 .loop .i) 0))) (omega arith) (c .before .before .put-u64 .ensures),
+    )
 
 same-length : tie.Need-same-length Inv-loop μ-loop
 same-length c = search needs
 
 returns : tie.Need-returns Inv-loop μ-loop
 returns c =
-    let header = header-stored (c .before .before .before .before .before .before .before .before .before .before .before .before .args .out .now) (c .before .before .before .before .before .before .before .before .before .before .before .before .args .state) (c .before .before .before .before .before .before .before .before .before .before .before .before .args .words .now) (omega arith) _ _ (c .before .before .before .before .before .before .before .before .put-u32 .ensures) (c .before .before .before .before .put-u16 .ensures) in
-    let words = unwritten (c .before .loop .inv .2) (word-bytes-end (c .before .before .before .before .before .before .before .before .before .before .before .before .args .words .now) (c .before .loop .i) (c .loop-test .left)) in
+    let c4 = c .before .before .before .before in
+    let c8 = c4 .before .before .before .before in
+    let args = c8 .before .before .before .before .args in
+    let header = header-stored (args .out .now) (args .state) (args .words .now) (omega arith) _ _
+    (c8 .put-u32 .ensures) (c4 .put-u16 .ensures) in
+    let words = unwritten (c .before .loop .inv .2) (word-bytes-end (args .words .now) (c .before .loop .i) (c .loop-test .left)) in
     (omega arith, completed (continued header words (omega arith)))
 
 pub write-spec : {M : Type 1} → statement M

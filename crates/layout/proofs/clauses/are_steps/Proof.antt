@@ -1,4 +1,4 @@
--- `clauses::are_steps` meets its contract: each step before the place passes, and the next starts where it ends.
+-- `clauses::are_steps` meets its contract: each step before the position passes, and the next starts where it ends.
 -- Assumes nothing.
 use mathlib.Core.Path.{_≡_, _∙_, sym, refl}
 use mathlib.Core.Bool.{true}
@@ -33,7 +33,13 @@ is-step-requires : tie.Need-is-step-requires Inv-loop μ-loop
 is-step-requires c κs = search needs
 
 returns : tie.Need-returns Inv-loop μ-loop
-returns c = sym (stops (stepB ((c .before .before .before .before .before .before .before .args .journal .now)) ((c .before .before .before .before .before .before .before .args .ends .now))) (c .before .before .before .before .before .before .before .args .n) (c .before .before .before .before .loop .k) (c .before .before .before .loop-test .taken) (sym (step-test ((c .before .before .before .before .before .before .before .args .journal .now)) ((c .before .before .before .before .before .before .before .args .ends .now)) (c .before .before .before .before .loop .k) (c .before .before .before .before .loop .start) (c .before .before .before .before .loop .inv .1)) ∙ sym (c .before .is-step .ensures) ∙ not-true _ (c .if1 .taken)))
+returns c =
+    let c3 = c .before .before .before in
+    let c4 = c3 .before in
+    let args = c4 .before .before .before .args in
+    sym (stops (stepB (args .journal .now) (args .ends .now)) (args .n) (c4 .loop .k) (c3 .loop-test .taken)
+    (sym (step-test (args .journal .now) (args .ends .now) (c4 .loop .k) (c4 .loop .start) (c4 .loop .inv .1))
+    ∙ sym (c .before .is-step .ensures) ∙ not-true _ (c .if1 .taken)))
 
 add-k : tie.Need-add-k Inv-loop μ-loop
 add-k c = search needs
@@ -42,10 +48,22 @@ loop-less : tie.Need-loop-less Inv-loop μ-loop
 loop-less c = search needs
 
 loop-again : tie.Need-loop-again Inv-loop μ-loop
-loop-again c = (omega arith, sym (start-next ((c .before .before .before .before .before .before .before .args .ends .now)) (c .before .before .before .before .loop .k)), goes-on (stepB ((c .before .before .before .before .before .before .before .args .journal .now)) ((c .before .before .before .before .before .before .before .args .ends .now))) (c .before .before .before .before .loop .k) (c .before .before .before .before .loop .inv .2) (sym (step-test ((c .before .before .before .before .before .before .before .args .journal .now)) ((c .before .before .before .before .before .before .before .args .ends .now)) (c .before .before .before .before .loop .k) (c .before .before .before .before .loop .start) (c .before .before .before .before .loop .inv .1)) ∙ sym (c .before .is-step .ensures) ∙ not-false _ (c .if1 .left)))
+loop-again c =
+    let c4 = c .before .before .before .before in
+    let args = c4 .before .before .before .args in (
+      omega arith,
+      sym (start-next (args .ends .now) (c4 .loop .k)),
+      goes-on
+          (stepB (args .journal .now) (args .ends .now)) (c4 .loop .k) (c4 .loop .inv .2)
+          (sym (step-test (args .journal .now) (args .ends .now) (c4 .loop .k) (c4 .loop .start) (c4 .loop .inv .1))
+          ∙ sym (c .before .is-step .ensures) ∙ not-false _ (c .if1 .left)),
+    )
 
 returns-2 : tie.Need-returns-2 Inv-loop μ-loop
-returns-2 c = sym (ends (stepB ((c .before .before .before .before .args .journal .now)) ((c .before .before .before .before .args .ends .now))) (c .before .before .before .before .args .n) (c .before .loop .k) (c .before .loop .inv .2) (omega arith) (omega arith))
+returns-2 c =
+    let args = c .before .before .before .before .args in
+    sym (ends (stepB (args .journal .now) (args .ends .now)) (args .n) (c .before .loop .k) (c .before .loop .inv .2)
+    (omega arith) (omega arith))
 
 pub are-steps-spec : {M : Type 1} → statement M
 are-steps-spec =

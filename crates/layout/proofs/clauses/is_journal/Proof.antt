@@ -22,13 +22,31 @@ end-of-requires : tie.Need-end-of-requires
 end-of-requires c κs = search needs
 
 mul-is-zero : tie.Need-mul-is-zero
-mul-is-zero c = omega (arith, steps-inside ((c .before .before .before .before .before .args .journal .now)) ((c .before .before .before .before .before .args .ends .now)) (c .before .before .before .before .before .args .n) (sym (c .before .before .are-steps .ensures) ∙ not-false _ (c .before .if1 .left)))
+mul-is-zero c =
+    let args = c .before .before .before .before .before .args in
+    omega (
+      arith,
+      steps-inside (args .journal .now) (args .ends .now) (args .n)
+          (sym (c .before .before .are-steps .ensures) ∙ not-false _ (c .before .if1 .left)),
+    )
 
 sub-is-zero : tie.Need-sub-is-zero
-sub-is-zero c = omega (arith, steps-inside ((c .before .before .before .before .before .args .journal .now)) ((c .before .before .before .before .before .args .ends .now)) (c .before .before .before .before .before .args .n) (sym (c .before .before .are-steps .ensures) ∙ not-false _ (c .before .if1 .left)))
+sub-is-zero c =
+    let args = c .before .before .before .before .before .args in
+    omega (
+      arith,
+      steps-inside (args .journal .now) (args .ends .now) (args .n)
+          (sym (c .before .before .are-steps .ensures) ∙ not-false _ (c .before .if1 .left)),
+    )
 
 part-is-zero-start : tie.Need-part-is-zero-start
-part-is-zero-start c = omega (arith, steps-inside ((c .before .before .before .before .before .args .journal .now)) ((c .before .before .before .before .before .args .ends .now)) (c .before .before .before .before .before .args .n) (sym (c .before .before .are-steps .ensures) ∙ not-false _ (c .before .if1 .left)))
+part-is-zero-start c =
+    let args = c .before .before .before .before .before .args in
+    omega (
+      arith,
+      steps-inside (args .journal .now) (args .ends .now) (args .n)
+          (sym (c .before .before .are-steps .ensures) ∙ not-false _ (c .before .if1 .left)),
+    )
 
 part-is-zero-end : tie.Need-part-is-zero-end
 part-is-zero-end c = search needs
@@ -37,13 +55,30 @@ is-zero-requires : tie.Need-is-zero-requires
 is-zero-requires c κs = search needs
 
 returns-2 : tie.Need-returns-2
-returns-2 c = sym (first-holds _ _ (sym (c .before .before .before .before .before .are-steps .ensures) ∙ not-false _ (c .before .before .before .before .if1 .left)) ∙ first-fails _ _ (sym ((c .before .is-zero .ensures) ∙ ap zerosB (part ((c .before .before .before .before .before .before .before .before .args .journal .now)) (c .before .before .before .end-of .result)) ∙ ap (λ e. zerosB (drop e ((c .before .before .before .before .before .before .before .before .args .journal .now)))) (c .before .before .before .end-of .ensures)) ∙ not-true _ (c .if2 .taken)))
+returns-2 c =
+    let c3 = c .before .before .before in
+    let c4 = c3 .before in
+    let c5 = c4 .before in
+    let args = c5 .before .before .before .args in
+    sym (first-holds _ _ (sym (c5 .are-steps .ensures) ∙ not-false _ (c4 .if1 .left))
+    ∙ first-fails _ _ (sym ((c .before .is-zero .ensures)
+    ∙ ap zerosB (part (args .journal .now) (c3 .end-of .result))
+    ∙ ap (λ e. zerosB (drop e (args .journal .now))) (c3 .end-of .ensures)) ∙ not-true _ (c .if2 .taken)))
 
 are-unused-requires : tie.Need-are-unused-requires
 are-unused-requires c κs = search needs
 
 returns-3 : tie.Need-returns-3
-returns-3 c = (c .are-unused .ensures) ∙ sym (first-holds _ _ (sym (c .before .before .before .before .before .before .are-steps .ensures) ∙ not-false _ (c .before .before .before .before .before .if1 .left)) ∙ first-holds _ _ (sym ((c .before .before .is-zero .ensures) ∙ ap zerosB (part ((c .before .before .before .before .before .before .before .before .before .args .journal .now)) (c .before .before .before .before .end-of .result)) ∙ ap (λ e. zerosB (drop e ((c .before .before .before .before .before .before .before .before .before .args .journal .now)))) (c .before .before .before .before .end-of .ensures)) ∙ not-false _ (c .before .if2 .left)) ∙ last-test _)
+returns-3 c =
+    let c4 = c .before .before .before .before in
+    let c5 = c4 .before in
+    let c6 = c5 .before in
+    let args = c6 .before .before .before .args in
+    (c .are-unused .ensures) ∙ sym
+    (first-holds _ _ (sym (c6 .are-steps .ensures) ∙ not-false _ (c5 .if1 .left))
+    ∙ first-holds _ _ (sym ((c .before .before .is-zero .ensures)
+    ∙ ap zerosB (part (args .journal .now) (c4 .end-of .result))
+    ∙ ap (λ e. zerosB (drop e (args .journal .now))) (c4 .end-of .ensures)) ∙ not-false _ (c .before .if2 .left)) ∙ last-test _)
 
 pub is-journal-spec : {M : Type 1} → statement M
 is-journal-spec =

@@ -12,7 +12,10 @@ returns : tie.Need-returns
 returns c = sym (first-fails _ _ (lt-leb (c .before .before .args .start) (c .before .before .args .end) (c .if1 .taken)))
 
 returns-2 : tie.Need-returns-2
-returns-2 c = sym (first-holds _ _ (le-leb (c .before .before .before .args .start) (c .before .before .before .args .end) (c .before .if1 .left)) ∙ first-fails _ _ (lt-leb (c .before .before .before .args .end) (length ((c .before .before .before .args .journal .now))) (c .if2 .taken)))
+returns-2 c =
+    let args = c .before .before .before .args in
+    sym (first-holds _ _ (le-leb (args .start) (args .end) (c .before .if1 .left))
+    ∙ first-fails _ _ (lt-leb (args .end) (length (args .journal .now)) (c .if2 .taken)))
 
 mul-is-list : tie.Need-mul-is-list
 mul-is-list c = search needs
@@ -27,7 +30,11 @@ is-list-requires : tie.Need-is-list-requires
 is-list-requires c κs = search needs
 
 returns-3 : tie.Need-returns-3
-returns-3 c = (c .is-list .ensures) ∙ sym (first-holds _ _ (le-leb (c .before .before .before .before .before .args .start) (c .before .before .before .before .before .args .end) (c .before .before .before .if1 .left)) ∙ first-holds _ _ (le-leb (c .before .before .before .before .before .args .end) (length ((c .before .before .before .before .before .args .journal .now))) (c .before .before .if2 .left)) ∙ last-test _)
+returns-3 c =
+    let c3 = c .before .before .before in
+    let args = c3 .before .before .args in
+    (c .is-list .ensures) ∙ sym (first-holds _ _ (le-leb (args .start) (args .end) (c3 .if1 .left))
+    ∙ first-holds _ _ (le-leb (args .end) (length (args .journal .now)) (c .before .before .if2 .left)) ∙ last-test _)
 
 pub is-step-spec : {M : Type 1} → statement M
 is-step-spec =

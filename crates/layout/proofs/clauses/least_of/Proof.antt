@@ -1,4 +1,4 @@
--- `clauses::least_of` meets its contract: the least of the checkpoint and the slots from a place on.
+-- `clauses::least_of` meets its contract: the least of the checkpoint and the slots from a position on.
 -- Assumes nothing.
 use mathlib.Core.Path.{_≡_, _∙_, sym, ap}
 use mathlib.Core.Bool.{cond, false}
@@ -12,10 +12,10 @@ use Rattle.layout.proofs.clauses.least_of.Statement.{statement}
 use Rattle.layout.proofs.clauses.least_of.Tie as tie
 
 abbrev Inv-loop : tie.InvT-loop
-Inv-loop checkpoint held issued found₀ k₀ found k = (k ≤ 8) × (found ≡ least checkpoint (drop k held) (drop k issued))
+Inv-loop checkpoint taken issued found₀ k₀ found k = (k ≤ 8) × (found ≡ least checkpoint (drop k taken) (drop k issued))
 
 abbrev μ-loop : tie.MeasureT-loop
-μ-loop checkpoint held issued found₀ k₀ found k = k
+μ-loop checkpoint taken issued found₀ k₀ found k = k
 
 loop-holds : tie.Need-loop-holds Inv-loop μ-loop
 loop-holds c = (search needs, sym (least-end (c .args .checkpoint) 8 ((c .args .t2)) ((c .args .t3)) (search needs)))
@@ -46,15 +46,23 @@ loop-less c = search needs
 
 loop-again : tie.Need-loop-again Inv-loop μ-loop
 loop-again c =
+    let args = c .before .before .before .args in
     let k = (c .before .before .loop .k) in
     let before : k ≡ suc (k - 1) = omega arith in
-    let rest = (c .before .before .loop .inv .1) ∙ ap (λ (n : ℕ). least (c .before .before .before .args .checkpoint) (drop n (c .before .before .before .args .t2)) (drop n (c .before .before .before .args .t3))) before in
-    (omega arith, (c .lower .ensures) ∙ ap (λ (l : ℕ). cond (getD (c .before .before .before .args .t2) (k - 1) false) (min (getD (c .before .before .before .args .t3) (k - 1) 0) l) l) rest ∙ sym (least-step (c .before .before .before .args .checkpoint) (c .before .before .before .args .t2) (c .before .before .before .args .t3) (k - 1) (search needs) (search needs)))
+    let rest = (c .before .before .loop .inv .1)
+    ∙ ap (λ (n : ℕ). least (args .checkpoint) (drop n (args .t2)) (drop n (args .t3))) before in (
+      omega arith,
+      (c .lower .ensures)
+          ∙ ap (λ (l : ℕ). cond (getD (args .t2) (k - 1) false) (min (getD (args .t3) (k - 1) 0) l) l) rest
+          ∙ sym (least-step (args .checkpoint) (args .t2) (args .t3) (k - 1) (search needs) (search needs)),
+    )
 
 returns : tie.Need-returns Inv-loop μ-loop
 returns c =
     let none : (c .before .loop .k) ≡ 0 = omega arith in
-    (c .before .loop .inv .1) ∙ ap (λ (n : ℕ). least (c .before .before .args .checkpoint) (drop n (c .before .before .args .t2)) (drop n (c .before .before .args .t3))) none
+    (c .before .loop .inv .1) ∙ ap
+    (λ (n : ℕ). least (c .before .before .args .checkpoint) (drop n (c .before .before .args .t2))
+    (drop n (c .before .before .args .t3))) none
 
 pub least-of-spec : {M : Type 1} → statement M
 least-of-spec =

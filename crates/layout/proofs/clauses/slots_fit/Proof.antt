@@ -1,4 +1,4 @@
--- `clauses::slots_fit` meets its contract: each slot before the place passes.
+-- `clauses::slots_fit` meets its contract: each slot before the position passes.
 -- Assumes nothing.
 use mathlib.Core.Path.{_≡_, _∙_, sym}
 use mathlib.Core.Bool.{true}
@@ -13,10 +13,10 @@ use Rattle.layout.proofs.clauses.slots_fit.Statement.{statement}
 use Rattle.layout.proofs.clauses.slots_fit.Tie as tie
 
 abbrev Inv-loop : tie.InvT-loop
-Inv-loop checkpoint held issued k₀ k = (k ≤ 8) × (allB k (slotB checkpoint held issued) ≡ true)
+Inv-loop checkpoint taken issued k₀ k = (k ≤ 8) × (allB k (slotB checkpoint taken issued) ≡ true)
 
 abbrev μ-loop : tie.MeasureT-loop
-μ-loop checkpoint held issued k₀ k = 8 - k
+μ-loop checkpoint taken issued k₀ k = 8 - k
 
 loop-holds : tie.Need-loop-holds Inv-loop μ-loop
 loop-holds c = (search needs, none-below (slotB (c .args .checkpoint) (c .args .t2) (c .args .t3)))
@@ -34,7 +34,11 @@ slot-fits-requires : tie.Need-slot-fits-requires Inv-loop μ-loop
 slot-fits-requires c κs = search needs
 
 returns : tie.Need-returns Inv-loop μ-loop
-returns c = sym (stops (slotB (c .before .before .before .before .args .checkpoint) (c .before .before .before .before .args .t2) (c .before .before .before .before .args .t3)) 8 (c .before .before .before .loop .k) (omega arith) (sym (c .before .slot-fits .ensures) ∙ not-true _ (c .if1 .taken)))
+returns c =
+    let c3 = c .before .before .before in
+    let args = c3 .before .args in
+    sym (stops (slotB (args .checkpoint) (args .t2) (args .t3)) 8 (c3 .loop .k) (omega arith)
+    (sym (c .before .slot-fits .ensures) ∙ not-true _ (c .if1 .taken)))
 
 add-k : tie.Need-add-k Inv-loop μ-loop
 add-k c = search needs
@@ -43,10 +47,18 @@ loop-less : tie.Need-loop-less Inv-loop μ-loop
 loop-less c = search needs
 
 loop-again : tie.Need-loop-again Inv-loop μ-loop
-loop-again c = (omega arith, goes-on (slotB (c .before .before .before .before .args .checkpoint) (c .before .before .before .before .args .t2) (c .before .before .before .before .args .t3)) (c .before .before .before .loop .k) (c .before .before .before .loop .inv .1) (sym (c .before .slot-fits .ensures) ∙ not-false _ (c .if1 .left)))
+loop-again c =
+    let c3 = c .before .before .before in
+    let args = c3 .before .args in (
+      omega arith,
+      goes-on (slotB (args .checkpoint) (args .t2) (args .t3)) (c3 .loop .k) (c3 .loop .inv .1)
+          (sym (c .before .slot-fits .ensures) ∙ not-false _ (c .if1 .left)),
+    )
 
 returns-2 : tie.Need-returns-2 Inv-loop μ-loop
-returns-2 c = sym (ends (slotB (c .before .before .args .checkpoint) (c .before .before .args .t2) (c .before .before .args .t3)) 8 (c .before .loop .k) (c .before .loop .inv .1) (omega arith) (omega arith))
+returns-2 c =
+    sym (ends (slotB (c .before .before .args .checkpoint) (c .before .before .args .t2) (c .before .before .args .t3))
+    8 (c .before .loop .k) (c .before .loop .inv .1) (omega arith) (omega arith))
 
 pub slots-fit-spec : {M : Type 1} → statement M
 slots-fit-spec =

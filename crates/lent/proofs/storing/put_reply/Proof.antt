@@ -20,7 +20,10 @@ same-length : tie.Need-same-length
 same-length c = search needs
 
 returns-2 : tie.Need-returns-2
-returns-2 c = (refl, (c .before .before .pack .ensures) ∙ sym (chosen (sym (c .before .before .before .before .before .is-accepted .ensures) ∙ not-false _ (c .before .before .before .before .if1 .left)) _ _))
+returns-2 c =
+    let c4 = c .before .before .before .before in
+    let c5 = c4 .before in
+    (refl, (c .before .before .pack .ensures) ∙ sym (chosen (sym (c5 .is-accepted .ensures) ∙ not-false _ (c4 .if1 .left)) _ _))
 
 pub put-reply-spec : {M : Type 1} → statement M
 put-reply-spec =

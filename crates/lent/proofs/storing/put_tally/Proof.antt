@@ -18,7 +18,8 @@ same-length : tie.Need-same-length
 same-length c = search needs
 
 returns : tie.Need-returns
-returns c = tally-put (c .args .words .now) ((c .args .tally) .committed) ((c .args .tally) .«rolled_back») ((c .args .tally) .flushed) (c .pre)
+returns c =
+    tally-put (c .args .words .now) ((c .args .tally) .committed) ((c .args .tally) .«rolled_back») ((c .args .tally) .flushed) (c .pre)
 
 pub put-tally-spec : {M : Type 1} → statement M
 put-tally-spec =

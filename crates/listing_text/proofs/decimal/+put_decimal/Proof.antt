@@ -57,13 +57,18 @@ put-decimal-returns : (t : ℕ) → put-decimal-lts.Need-returns (
   put-decimal-below t,
   put-decimal.Post,
 ) (put-decimal-at t) put-decimal.Post
-put-decimal-returns t c = one-stored (c .before .before .args .out .now) (c .before .before .args .at) (c .before .before .args .number) (omega arith) (omega (arith, length-one (c .before .before .args .number) (omega arith)))
+put-decimal-returns t c =
+    one-stored (c .before .before .args .out .now) (c .before .before .args .at) (c .before .before .args .number)
+    (omega arith) (omega (arith, length-one (c .before .before .args .number) (omega arith)))
 
 put-decimal-put-decimal-requires : (t : ℕ) → put-decimal-lts.Need-put-decimal-requires (
   put-decimal-below t,
   put-decimal.Post,
 ) (put-decimal-at t) put-decimal.Post
-put-decimal-put-decimal-requires t c κs = (omega (arith, c .before .before .before .pre .0), omega (arith, length-more (c .before .before .before .args .number) (omega arith)))
+put-decimal-put-decimal-requires t c κs =
+    let c3 = c .before .before .before in
+    let args = c3 .args in
+    (omega (arith, c3 .pre .0), omega (arith, length-more (args .number) (omega arith)))
 
 put-decimal-cast-out-2 : (t : ℕ) → put-decimal-lts.Need-cast-out-2 (
   put-decimal-below t,
@@ -81,7 +86,9 @@ put-decimal-slice-write-out-2 : (t : ℕ) → put-decimal-lts.Need-slice-write-o
   put-decimal-below t,
   put-decimal.Post,
 ) (put-decimal-at t) put-decimal.Post
-put-decimal-slice-write-out-2 t c = omega (arith, length-more (c .before .before .before .before .before .before .args .number) (omega arith))
+put-decimal-slice-write-out-2 t c =
+    let args = c .before .before .before .before .before .before .args in
+    omega (arith, length-more (args .number) (omega arith))
 
 put-decimal-add-result-2 : (t : ℕ) → put-decimal-lts.Need-add-result-2 (
   put-decimal-below t,
@@ -99,7 +106,10 @@ put-decimal-returns-2 : (t : ℕ) → put-decimal-lts.Need-returns-2 (
   put-decimal-below t,
   put-decimal.Post,
 ) (put-decimal-at t) put-decimal.Post
-put-decimal-returns-2 t c = last-stored (c .before .before .before .before .before .before .args .out .now) (c .before .before .before .before .before .before .args .at) (c .before .before .before .before .before .before .args .number) (omega arith) (c .before .before .put-decimal .ensures) (omega (arith, length-more (c .before .before .before .before .before .before .args .number) (omega arith)))
+put-decimal-returns-2 t c =
+    let args = c .before .before .before .before .before .before .args in
+    last-stored (args .out .now) (args .at) (args .number) (omega arith) (c .before .before .put-decimal .ensures)
+    (omega (arith, length-more (args .number) (omega arith)))
 
 pub +put-decimal-spec : {M : Type 1} → statement M
 +put-decimal-spec = close μ-put-decimal λ t. put-decimal-lts.spec (

@@ -43,7 +43,8 @@ same-length : tie.Need-same-length Inv-loop μ-loop
 same-length c = search needs
 
 returns : tie.Need-returns Inv-loop μ-loop
-returns c = record { place = omega arith; bytes = completed (unwritten (c .before .loop .inv .2) (drop-of-length-le _ (c .loop-test .left))) }
+returns c =
+    record { position = omega arith; bytes = completed (unwritten (c .before .loop .inv .2) (drop-of-length-le _ (c .loop-test .left))) }
 
 pub put-text-spec : {M : Type 1} → statement M
 put-text-spec =

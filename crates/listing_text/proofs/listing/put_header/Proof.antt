@@ -22,16 +22,24 @@ slice-aggregate-put-text-2 : tie.Need-slice-aggregate-put-text-2
 slice-aggregate-put-text-2 c = search needs
 
 put-text-requires-2 : tie.Need-put-text-requires-2
-put-text-requires-2 c κs = omega (arith, digits-32 (c .before .before .before .before .before .before .before .before .before .before .before .before .args .state) (omega arith))
+put-text-requires-2 c κs =
+    let args = c .before .before .before .before .before .before .before .before .before .before .before .before .args in
+    omega (arith, digits-32 (args .state) (omega arith))
 
 put-decimal-requires-2 : tie.Need-put-decimal-requires-2
-put-decimal-requires-2 c κs = omega (arith, digits-32 (c .before .before .before .before .before .before .before .before .before .before .before .before .before .before .before .before .args .state) (omega arith), digits-64 (c .before .before .before .before .before .before .before .before .before .before .before .before .before .before .before .before .args .count) (omega arith))
+put-decimal-requires-2 c κs =
+    let c10 = c .before .before .before .before .before .before .before .before .before .before in
+    let args = c10 .before .before .before .before .before .before .args in
+    omega (arith, digits-32 (args .state) (omega arith), digits-64 (args .count) (omega arith))
 
 slice-aggregate-put-text-3 : tie.Need-slice-aggregate-put-text-3
 slice-aggregate-put-text-3 c = search needs
 
 put-text-requires-3 : tie.Need-put-text-requires-3
-put-text-requires-3 c κs = omega (arith, digits-32 (c .before .before .before .before .before .before .before .before .before .before .before .before .before .before .before .before .before .before .before .before .before .args .state) (omega arith), digits-64 (c .before .before .before .before .before .before .before .before .before .before .before .before .before .before .before .before .before .before .before .before .before .args .count) (omega arith))
+put-text-requires-3 c κs =
+    let c10 = c .before .before .before .before .before .before .before .before .before .before in
+    let args = c10 .before .before .before .before .before .before .before .before .before .before .before .args in
+    omega (arith, digits-32 (args .state) (omega arith), digits-64 (args .count) (omega arith))
 
 same-length : tie.Need-same-length
 same-length c = search needs
@@ -39,15 +47,20 @@ same-length c = search needs
 returns : tie.Need-returns
 unfolding headerOf codes
 returns c =
-    let state = digits-32 (c .before .before .before .before .before .before .before .before .before .before .before .before .before .before .before .before .before .before .before .before .before .before .before .before .args .state) (omega arith) in
-    let count = digits-64 (c .before .before .before .before .before .before .before .before .before .before .before .before .before .before .before .before .before .before .before .before .before .before .before .before .args .count) (omega arith) in
+    let c7 = c .before .before .before .before .before .before .before in
+    let c11 = c7 .before .before .before .before in
+    let c16 = c11 .before .before .before .before .before in
+    let c20 = c16 .before .before .before .before in
+    let args = c20 .before .before .before .before .args in
+    let state = digits-32 (args .state) (omega arith) in
+    let count = digits-64 (args .count) (omega arith) in
     both
     (both
     (both
-    (both (c .before .before .before .before .before .before .before .before .before .before .before .before .before .before .before .before .before .before .before .before .put-text .ensures) (c .before .before .before .before .before .before .before .before .before .before .before .before .before .before .before .before .put-decimal .ensures) (omega arith))
-    (c .before .before .before .before .before .before .before .before .before .before .before .put-text2 .ensures)
+    (both (c20 .put-text .ensures) (c16 .put-decimal .ensures) (omega arith))
+    (c11 .put-text2 .ensures)
     (omega arith))
-    (c .before .before .before .before .before .before .before .put-decimal2 .ensures)
+    (c7 .put-decimal2 .ensures)
     (omega arith))
     (c .before .before .put-text3 .ensures)
     (omega arith)

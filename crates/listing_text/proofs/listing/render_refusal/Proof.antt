@@ -22,7 +22,9 @@ slice-aggregate-put-text-2 : tie.Need-slice-aggregate-put-text-2
 slice-aggregate-put-text-2 c = search needs
 
 put-text-requires-2 : tie.Need-put-text-requires-2
-put-text-requires-2 c κs = omega (arith, digits-32 (c .before .before .before .before .before .before .before .before .before .before .before .before .args .number) (omega arith))
+put-text-requires-2 c κs =
+    let args = c .before .before .before .before .before .before .before .before .before .before .before .before .args in
+    omega (arith, digits-32 (args .number) (omega arith))
 
 same-length : tie.Need-same-length
 same-length c = search needs
@@ -30,9 +32,13 @@ same-length c = search needs
 returns : tie.Need-returns
 unfolding refusalText codes
 returns c =
-    let number = digits-32 (c .before .before .before .before .before .before .before .before .before .before .before .before .before .before .before .args .number) (omega arith) in
-    let line = both (both (c .before .before .before .before .before .before .before .before .before .before .before .put-text .ensures) (c .before .before .before .before .before .before .before .put-decimal .ensures) (omega arith)) (c .before .before .put-text2 .ensures) (omega arith) in
-    (omega (arith, line .place), line .bytes)
+    let c7 = c .before .before .before .before .before .before .before in
+    let c11 = c7 .before .before .before .before in
+    let args = c11 .before .before .before .before .args in
+    let number = digits-32 (args .number) (omega arith) in
+    let line = both (both (c11 .put-text .ensures) (c7 .put-decimal .ensures) (omega arith))
+    (c .before .before .put-text2 .ensures) (omega arith) in
+    (omega (arith, line .position), line .bytes)
 
 pub render-refusal-spec : {M : Type 1} → statement M
 render-refusal-spec =

@@ -58,7 +58,11 @@ same-length : tie.Need-same-length Inv-loop μ-loop
 same-length c = search needs
 
 returns : tie.Need-returns Inv-loop μ-loop
-returns c = filled (c .before .loop .inv .1) (over-end ((c .before .before .before .before .args .reads .now)) ((c .before .before .before .before .args .changes .now)) (c .before .loop .i) (omega arith)) (over-length ((c .before .before .before .before .args .reads .now)) ((c .before .before .before .before .args .changes .now)))
+returns c =
+    let args = c .before .before .before .before .args in
+    filled (c .before .loop .inv .1)
+    (over-end (args .reads .now) (args .changes .now) (c .before .loop .i) (omega arith))
+    (over-length (args .reads .now) (args .changes .now))
 
 pub apply-to-reads-spec : {M : Type 1} → statement M
 apply-to-reads-spec =

@@ -20,10 +20,19 @@ enum-told : tie.Need-enum-told
 enum-told c = search needs
 
 returns : tie.Need-returns
-returns c = ap (λ f. foundOr f (c .before .before .before .before .before .before .args .word)) (sym (c .before .w .given .1) ∙ (c .before .before .before .find .ensures) ∙ ap (λ n. find n ((c .before .before .before .before .before .before .args .changes .now))) (c .before .before .before .before .offer-of .ensures))
+returns c =
+    let c3 = c .before .before .before in
+    let c4 = c3 .before in
+    let args = c4 .before .before .args in
+    ap (λ f. foundOr f (args .word))
+    (sym (c .before .w .given .1) ∙ (c3 .find .ensures) ∙ ap (λ n. find n (args .changes .now)) (c4 .offer-of .ensures))
 
 returns-2 : tie.Need-returns-2
-returns-2 c = ap (λ f. foundOr f (c .before .before .before .before .before .args .word)) (sym (c .enum-told .given .1) ∙ (c .before .before .find .ensures) ∙ ap (λ n. find n ((c .before .before .before .before .before .args .changes .now))) (c .before .before .before .offer-of .ensures))
+returns-2 c =
+    let c3 = c .before .before .before in
+    let args = c3 .before .before .args in
+    ap (λ f. foundOr f (args .word))
+    (sym (c .enum-told .given .1) ∙ (c .before .before .find .ensures) ∙ ap (λ n. find n (args .changes .now)) (c3 .offer-of .ensures))
 
 pub changed-spec : {M : Type 1} → statement M
 changed-spec =

@@ -1,4 +1,4 @@
--- `rules::block_climbs` meets its contract: the marks of two runs join to that of the block.
+-- `rules::block_climbs` meets its contract: the flags of two stretches join to that of the block.
 -- Assumes nothing.
 use borrow.Author.Needs.{needs}
 use Rattle.lists.proofs.Pairs.{put, says-join}
@@ -16,7 +16,9 @@ sixteen-climb-requires-2 c κs = search needs
 
 returns : tie.Need-returns
 returns c =
-    says-join put (c .before .before .before .args .words .now) (c .before .before .before .args .from) 16 16 (c .before .sixteen-climb .result) (c .sixteen-climb2 .result) (c .before .sixteen-climb .ensures) (c .sixteen-climb2 .ensures)
+    let args = c .before .before .before .args in
+    says-join put (args .words .now) (args .from) 16 16 (c .before .sixteen-climb .result) (c .sixteen-climb2 .result)
+    (c .before .sixteen-climb .ensures) (c .sixteen-climb2 .ensures)
 
 pub block-climbs-spec : {M : Type 1} → statement M
 block-climbs-spec =

@@ -1,4 +1,4 @@
--- `rules::block_follows` meets its contract: the marks of four runs join to that of the block.
+-- `rules::block_follows` meets its contract: the flags of four stretches join to that of the block.
 -- Assumes nothing.
 use borrow.Author.Needs.{needs}
 use Rattle.lists.proofs.Pairs.{valid, says-four}
@@ -28,8 +28,12 @@ four-follow-requires-4 c κs = search needs
 
 returns : tie.Need-returns
 returns c =
-    says-four valid (c .before .before .before .before .before .args .words .now) (c .before .before .before .before .before .args .from) 4 (c .before .before .before .four-follow .result) (c .before .before .four-follow2 .result) (c .before .four-follow3 .result) (c .four-follow4 .result)
-    (λ u. (c .before .before .before .four-follow .ensures)) (λ u. (c .before .before .four-follow2 .ensures)) (λ u. (c .before .four-follow3 .ensures)) (λ u. (c .four-follow4 .ensures)) tt
+    let c3 = c .before .before .before in
+    let args = c3 .before .before .args in
+    says-four valid (args .words .now) (args .from) 4 (c3 .four-follow .result)
+    (c .before .before .four-follow2 .result) (c .before .four-follow3 .result) (c .four-follow4 .result)
+    (λ u. (c3 .four-follow .ensures)) (λ u. (c .before .before .four-follow2 .ensures))
+    (λ u. (c .before .four-follow3 .ensures)) (λ u. (c .four-follow4 .ensures)) tt
 
 pub block-follows-spec : {M : Type 1} → statement M
 block-follows-spec =

@@ -1,7 +1,7 @@
--- `rules::four_climb` meets its contract: the marks of four pairs join to that of their run.
+-- `rules::four_climb` meets its contract: the flags of four pairs join to that of their stretch.
 -- Assumes nothing.
 use borrow.Author.Needs.{needs}
-use Rattle.lists.proofs.Pairs.{put, marks-four}
+use Rattle.lists.proofs.Pairs.{put, flags-four}
 use Rattle.lists.proofs.rules.four_climb.Statement.{statement}
 use Rattle.lists.proofs.rules.four_climb.Tie as tie
 
@@ -88,8 +88,12 @@ climbs-requires-4 c κs = search needs
 
 returns : tie.Need-returns
 returns c =
-    marks-four put (c .before .before .before .before .before .before .before .before .before .before .before .before .before .args .words .now) (c .before .before .before .before .before .before .before .before .before .before .before .before .before .args .from) (c .before .before .before .before .before .before .before .before .before .climbs .result) (c .before .before .before .before .before .before .climbs2 .result) (c .before .before .before .climbs3 .result) (c .climbs4 .result)
-    (c .before .before .before .before .before .before .before .before .before .climbs .ensures) (c .before .before .before .before .before .before .climbs2 .ensures) (c .before .before .before .climbs3 .ensures) (c .climbs4 .ensures)
+    let c3 = c .before .before .before in
+    let c6 = c3 .before .before .before in
+    let c9 = c6 .before .before .before in
+    let args = c9 .before .before .before .before .args in
+    flags-four put (args .words .now) (args .from) (c9 .climbs .result) (c6 .climbs2 .result) (c3 .climbs3 .result) (c .climbs4 .result)
+    (c9 .climbs .ensures) (c6 .climbs2 .ensures) (c3 .climbs3 .ensures) (c .climbs4 .ensures)
 
 pub four-climb-spec : {M : Type 1} → statement M
 four-climb-spec =

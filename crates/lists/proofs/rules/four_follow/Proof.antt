@@ -1,7 +1,7 @@
--- `rules::four_follow` meets its contract: the marks of four pairs join to that of their run.
+-- `rules::four_follow` meets its contract: the flags of four pairs join to that of their stretch.
 -- Assumes nothing.
 use borrow.Author.Needs.{needs}
-use Rattle.lists.proofs.Pairs.{valid, marks-four}
+use Rattle.lists.proofs.Pairs.{valid, flags-four}
 use Rattle.lists.proofs.rules.four_follow.Statement.{statement}
 use Rattle.lists.proofs.rules.four_follow.Tie as tie
 
@@ -88,8 +88,13 @@ follows-requires-4 c κs = search needs
 
 returns : tie.Need-returns
 returns c =
-    marks-four valid (c .before .before .before .before .before .before .before .before .before .before .before .before .before .args .words .now) (c .before .before .before .before .before .before .before .before .before .before .before .before .before .args .from) (c .before .before .before .before .before .before .before .before .before .follows .result) (c .before .before .before .before .before .before .follows2 .result) (c .before .before .before .follows3 .result) (c .follows4 .result)
-    (λ u. (c .before .before .before .before .before .before .before .before .before .follows .ensures)) (λ u. (c .before .before .before .before .before .before .follows2 .ensures)) (λ u. (c .before .before .before .follows3 .ensures)) (λ u. (c .follows4 .ensures)) tt
+    let c3 = c .before .before .before in
+    let c6 = c3 .before .before .before in
+    let c9 = c6 .before .before .before in
+    let args = c9 .before .before .before .before .args in
+    flags-four valid (args .words .now) (args .from) (c9 .follows .result) (c6 .follows2 .result) (c3 .follows3 .result)
+    (c .follows4 .result)
+    (λ u. (c9 .follows .ensures)) (λ u. (c6 .follows2 .ensures)) (λ u. (c3 .follows3 .ensures)) (λ u. (c .follows4 .ensures)) tt
 
 pub four-follow-spec : {M : Type 1} → statement M
 four-follow-spec =

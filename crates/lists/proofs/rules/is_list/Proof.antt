@@ -5,9 +5,9 @@ use borrow.Author.Needs.{needs}
 use native.Mathlib.Omega.{arith}
 use lib.ListN.{getD}
 use Rattle.entry.specs.Word.{validB}
-use Rattle.entry.proofs.Marks.{mark-set, mark-unset}
+use Rattle.entry.proofs.Flags.{flag-set, flag-unset}
 use Rattle.changes.proofs.ListTest.{list-short, list-long}
-use Rattle.lists.proofs.Turns.{no-words, first-fails, first-passes, lists}
+use Rattle.lists.proofs.InOrder.{no-words, first-fails, first-passes, lists}
 use Rattle.lists.proofs.rules.is_list.Statement.{statement}
 use Rattle.lists.proofs.rules.is_list.Tie as tie
 
@@ -15,31 +15,49 @@ returns : tie.Need-returns
 returns c = sym (list-long (c .before .before .args .words .now) (omega arith))
 
 returns-2 : tie.Need-returns-2
-returns-2 c = sym (list-short (c .before .before .before .args .words .now) (omega arith) ∙ no-words lists (c .before .before .before .args .words .now) (omega arith))
+returns-2 c =
+    let args = c .before .before .before .args in
+    sym (list-short (args .words .now) (omega arith) ∙ no-words lists (args .words .now) (omega arith))
 
-shared-slice-read-valid-mark : tie.Need-shared-slice-read-valid-mark
-shared-slice-read-valid-mark c = search needs
+shared-slice-read-valid-flag : tie.Need-shared-slice-read-valid-flag
+shared-slice-read-valid-flag c = search needs
 
-valid-mark-requires : tie.Need-valid-mark-requires
-valid-mark-requires c κs = search needs
+valid-flag-requires : tie.Need-valid-flag-requires
+valid-flag-requires c κs = search needs
 
-mark-bit-requires : tie.Need-mark-bit-requires
-mark-bit-requires c κs = search needs
+flag-bit-requires : tie.Need-flag-bit-requires
+flag-bit-requires c κs = search needs
 
 returns-3 : tie.Need-returns-3
-returns-3 c = sym (list-short (c .before .before .before .before .before .before .before .args .words .now) (omega arith) ∙ first-fails lists (c .before .before .before .before .before .before .before .args .words .now) (omega arith) (mark-unset (validB (getD (c .before .before .before .before .before .before .before .args .words .now) 0 0)) (omega (arith, (c .before .before .valid-mark .ensures)))))
+returns-3 c =
+    let args = c .before .before .before .before .before .before .before .args in
+    sym (list-short (args .words .now) (omega arith)
+    ∙ first-fails lists (args .words .now) (omega arith)
+    (flag-unset (validB (getD (args .words .now) 0 0)) (omega (arith, (c .before .before .valid-flag .ensures)))))
 
 few-follow-requires : tie.Need-few-follow-requires
 few-follow-requires c κs = search needs
 
 returns-4 : tie.Need-returns-4
-returns-4 c = (c .few-follow .ensures) ∙ sym (list-short (c .before .before .before .before .before .before .before .before .before .args .words .now) (omega arith) ∙ first-passes lists (c .before .before .before .before .before .before .before .before .before .args .words .now) (omega arith) (mark-set (validB (getD (c .before .before .before .before .before .before .before .before .before .args .words .now) 0 0)) (λ z. omega (arith, z, (c .before .before .before .before .valid-mark .ensures)))))
+returns-4 c =
+    let c4 = c .before .before .before .before in
+    let args = c4 .before .before .before .before .before .args in
+    (c .few-follow .ensures) ∙ sym
+    (list-short (args .words .now) (omega arith)
+    ∙ first-passes lists (args .words .now) (omega arith)
+    (flag-set (validB (getD (args .words .now) 0 0)) (λ z. omega (arith, z, (c4 .valid-flag .ensures)))))
 
 many-follow-requires : tie.Need-many-follow-requires
 many-follow-requires c κs = search needs
 
 returns-5 : tie.Need-returns-5
-returns-5 c = (c .many-follow .ensures) ∙ sym (list-short (c .before .before .before .before .before .before .before .before .before .args .words .now) (omega arith) ∙ first-passes lists (c .before .before .before .before .before .before .before .before .before .args .words .now) (omega arith) (mark-set (validB (getD (c .before .before .before .before .before .before .before .before .before .args .words .now) 0 0)) (λ z. omega (arith, z, (c .before .before .before .before .valid-mark .ensures)))))
+returns-5 c =
+    let c4 = c .before .before .before .before in
+    let args = c4 .before .before .before .before .before .args in
+    (c .many-follow .ensures) ∙ sym
+    (list-short (args .words .now) (omega arith)
+    ∙ first-passes lists (args .words .now) (omega arith)
+    (flag-set (validB (getD (args .words .now) 0 0)) (λ z. omega (arith, z, (c4 .valid-flag .ensures)))))
 
 pub is-list-spec : {M : Type 1} → statement M
 is-list-spec =
@@ -47,9 +65,9 @@ is-list-spec =
     (tie.spec
     returns
     returns-2
-    shared-slice-read-valid-mark
-    valid-mark-requires
-    mark-bit-requires
+    shared-slice-read-valid-flag
+    valid-flag-requires
+    flag-bit-requires
     returns-3
     few-follow-requires
     returns-4

@@ -6,7 +6,7 @@ use native.Mathlib.Omega.{arith}
 use borrow.Author.Tests.{eq-eqb, ne-eqb}
 use lib.ListN.{getD}
 use Rattle.entry.specs.Word.{kindOf}
-use Rattle.lists.proofs.Turns.{no-words, first-fails, first-passes, maps}
+use Rattle.lists.proofs.InOrder.{no-words, first-fails, first-passes, maps}
 use Rattle.lists.proofs.rules.is_map.Statement.{statement}
 use Rattle.lists.proofs.rules.is_map.Tie as tie
 
@@ -20,19 +20,27 @@ kind-of-requires : tie.Need-kind-of-requires
 kind-of-requires c κs = search needs
 
 returns-2 : tie.Need-returns-2
-returns-2 c = sym (first-fails maps (c .before .before .before .before .before .args .words .now) (omega arith) (ne-eqb (kindOf (getD (c .before .before .before .before .before .args .words .now) 0 0)) 1 (λ z. omega arith)))
+returns-2 c =
+    let args = c .before .before .before .before .before .args in
+    sym (first-fails maps (args .words .now) (omega arith) (ne-eqb (kindOf (getD (args .words .now) 0 0)) 1 (λ z. omega arith)))
 
 few-climb-requires : tie.Need-few-climb-requires
 few-climb-requires c κs = search needs
 
 returns-3 : tie.Need-returns-3
-returns-3 c = (c .few-climb .ensures) ∙ sym (first-passes maps (c .before .before .before .before .before .before .before .args .words .now) (omega arith) (eq-eqb (kindOf (getD (c .before .before .before .before .before .before .before .args .words .now) 0 0)) 1 (omega arith)))
+returns-3 c =
+    let args = c .before .before .before .before .before .before .before .args in
+    (c .few-climb .ensures) ∙ sym (first-passes maps (args .words .now) (omega arith)
+    (eq-eqb (kindOf (getD (args .words .now) 0 0)) 1 (omega arith)))
 
 many-climb-requires : tie.Need-many-climb-requires
 many-climb-requires c κs = search needs
 
 returns-4 : tie.Need-returns-4
-returns-4 c = (c .many-climb .ensures) ∙ sym (first-passes maps (c .before .before .before .before .before .before .before .args .words .now) (omega arith) (eq-eqb (kindOf (getD (c .before .before .before .before .before .before .before .args .words .now) 0 0)) 1 (omega arith)))
+returns-4 c =
+    let args = c .before .before .before .before .before .before .before .args in
+    (c .many-climb .ensures) ∙ sym
+    (first-passes maps (args .words .now) (omega arith) (eq-eqb (kindOf (getD (args .words .now) 0 0)) 1 (omega arith)))
 
 pub is-map-spec : {M : Type 1} → statement M
 is-map-spec =

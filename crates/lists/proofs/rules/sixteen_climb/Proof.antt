@@ -1,4 +1,4 @@
--- `rules::sixteen_climb` meets its contract: the marks of four runs join to that of the whole.
+-- `rules::sixteen_climb` meets its contract: the flags of four stretches join to that of the whole.
 -- Assumes nothing.
 use borrow.Author.Needs.{needs}
 use Rattle.lists.proofs.Pairs.{put, says-four}
@@ -28,8 +28,11 @@ four-climb-requires-4 c κs = search needs
 
 returns : tie.Need-returns
 returns c =
-    says-four put (c .before .before .before .before .before .args .words .now) (c .before .before .before .before .before .args .from) 4 (c .before .before .before .four-climb .result) (c .before .before .four-climb2 .result) (c .before .four-climb3 .result) (c .four-climb4 .result)
-    (c .before .before .before .four-climb .ensures) (c .before .before .four-climb2 .ensures) (c .before .four-climb3 .ensures) (c .four-climb4 .ensures)
+    let c3 = c .before .before .before in
+    let args = c3 .before .before .args in
+    says-four put (args .words .now) (args .from) 4 (c3 .four-climb .result) (c .before .before .four-climb2 .result)
+    (c .before .four-climb3 .result) (c .four-climb4 .result)
+    (c3 .four-climb .ensures) (c .before .before .four-climb2 .ensures) (c .before .four-climb3 .ensures) (c .four-climb4 .ensures)
 
 pub sixteen-climb-spec : {M : Type 1} → statement M
 sixteen-climb-spec =

@@ -1,4 +1,4 @@
--- `search::find` meets its contract: the word at the only place is the word found.
+-- `search::find` meets its contract: the word at the only position is the word found.
 -- Assumes nothing.
 use mathlib.Core.Path.{sym, _∙_}
 use borrow.Author.Needs.{needs}
@@ -8,11 +8,13 @@ use Rattle.lists.proofs.Halving.{none-there, other-there}
 use Rattle.lists.proofs.search.find.Statement.{statement}
 use Rattle.lists.proofs.search.find.Tie as tie
 
-place-requires : tie.Need-place-requires
-place-requires c κs = search needs
+position-requires : tie.Need-position-requires
+position-requires c κs = search needs
 
 returns : tie.Need-returns
-returns c = sym (none-there (c .before .before .before .args .words .now) (c .before .before .before .args .offer) (c .before .place .result) (c .before .place .ensures) (omega arith))
+returns c =
+    let args = c .before .before .before .args in
+    sym (none-there (args .words .now) (args .offer) (c .before .position .result) (c .before .position .ensures) (omega arith))
 
 mul-word : tie.Need-mul-word
 mul-word c = search needs
@@ -24,16 +26,25 @@ offer-of-requires : tie.Need-offer-of-requires
 offer-of-requires c κs = search needs
 
 returns-2 : tie.Need-returns-2
-returns-2 c = sym (other-there (c .before .before .before .before .before .before .args .words .now) (c .before .before .before .before .before .before .args .offer) (c .before .before .before .before .place .result) (c .before .before .before .before .place .ensures) (λ e. (c .if2 .taken) ((c .before .offer-of .ensures) ∙ e)))
+returns-2 c =
+    let c4 = c .before .before .before .before in
+    let args = c4 .before .before .args in
+    sym (other-there (args .words .now) (args .offer) (c4 .position .result) (c4 .position .ensures)
+    (λ e. (c .if2 .taken) ((c .before .offer-of .ensures) ∙ e)))
 
 returns-3 : tie.Need-returns-3
-returns-3 c = sym (found-at (c .before .before .before .before .before .before .args .words .now) (c .before .before .before .before .before .before .pre) (c .before .before .before .before .place .result) (omega arith) (c .before .before .before .before .before .before .args .offer) (sym (c .before .offer-of .ensures) ∙ (c .if2 .left)))
+returns-3 c =
+    let c4 = c .before .before .before .before in
+    let c6 = c4 .before .before in
+    let args = c6 .args in
+    sym (found-at (args .words .now) (c6 .pre) (c4 .position .result) (omega arith) (args .offer)
+    (sym (c .before .offer-of .ensures) ∙ (c .if2 .left)))
 
 pub find-spec : {M : Type 1} → statement M
 find-spec =
     tie.close
     (tie.spec
-    place-requires
+    position-requires
     returns
     mul-word
     shared-slice-read-word

@@ -21,10 +21,14 @@ put-requires : tie.Need-put-requires
 put-requires c κs = search needs
 
 returns-2 : tie.Need-returns-2
-returns-2 c = ap Change (omega arith) ∙ sym (cut-fits (c .before .before .before .before .before .args .offer) (c .before .before .before .before .before .args .amount) (c .before .before .before .before .before .args .shown) (omega arith) (omega arith))
+returns-2 c =
+    let args = c .before .before .before .before .before .args in
+    ap Change (omega arith) ∙ sym (cut-fits (args .offer) (args .amount) (args .shown) (omega arith) (omega arith))
 
 returns-3 : tie.Need-returns-3
-returns-3 c = sym (cut-under _ (c .before .before .before .before .args .amount) (c .before .before .before .before .args .shown) (omega arith) (omega arith))
+returns-3 c =
+    let args = c .before .before .before .before .args in
+    sym (cut-under _ (args .amount) (args .shown) (omega arith) (omega arith))
 
 pub cut-spec : {M : Type 1} → statement M
 cut-spec = tie.close (tie.spec kind-of-requires returns price-of-requires put-requires returns-2 returns-3)

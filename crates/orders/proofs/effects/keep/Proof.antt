@@ -22,7 +22,12 @@ put-requires : tie.Need-put-requires
 put-requires c κs = search needs
 
 returns : tie.Need-returns
-returns c = ap Change (omega arith) ∙ sym (keep-fits (c .before .before .before .before .before .args .offer) (c .before .before .before .before .before .args .amount) (c .before .before .before .before .before .args .shown) (omega arith) _ (c .before .sixteenths .result) ((c .before .sixteenths .ensures) ∙ ap (sixteenths (c .before .before .before .before .before .args .kind) (c .before .before .before .before .before .args .amount)) (c .before .before .before .price-of .ensures)) (omega arith))
+returns c =
+    let c3 = c .before .before .before in
+    let args = c3 .before .before .args in
+    ap Change (omega arith) ∙ sym (keep-fits (args .offer) (args .amount) (args .shown) (omega arith) _
+    (c .before .sixteenths .result)
+    ((c .before .sixteenths .ensures) ∙ ap (sixteenths (args .kind) (args .amount)) (c3 .price-of .ensures)) (omega arith))
 
 returns-2 : tie.Need-returns-2
 returns-2 c = sym (no-price (c .before .before .before .args .shown) _ (λ e. omega (arith, e)))

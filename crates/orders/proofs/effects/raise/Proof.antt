@@ -24,7 +24,9 @@ add-sum : tie.Need-add-sum
 add-sum c = search needs
 
 returns-2 : tie.Need-returns-2
-returns-2 c = sym (raise-over _ (c .before .before .before .before .args .amount) (c .before .before .before .before .args .shown) (omega arith) (omega arith))
+returns-2 c =
+    let args = c .before .before .before .before .args in
+    sym (raise-over _ (args .amount) (args .shown) (omega arith) (omega arith))
 
 cast-put : tie.Need-cast-put
 cast-put c = search needs
@@ -33,7 +35,9 @@ put-requires : tie.Need-put-requires
 put-requires c κs = search needs
 
 returns-3 : tie.Need-returns-3
-returns-3 c = ap Change (omega arith) ∙ sym (raise-fits (c .before .before .before .before .before .args .offer) (c .before .before .before .before .before .args .amount) (c .before .before .before .before .before .args .shown) (omega arith) (omega arith))
+returns-3 c =
+    let args = c .before .before .before .before .before .args in
+    ap Change (omega arith) ∙ sym (raise-fits (args .offer) (args .amount) (args .shown) (omega arith) (omega arith))
 
 pub raise-spec : {M : Type 1} → statement M
 raise-spec =

@@ -56,11 +56,18 @@ same-length-2 : tie.Need-same-length-2
 same-length-2 c = search needs
 
 returns : tie.Need-returns
-returns c = (
-  (c .fresh-head .ensures) ∙ ap₂ freshHead (c .before .before .before .before .before .before .before .before .before .before .before .before .before .before .count-of .ensures .0) (c .before .state-of .ensures),
-  filled ((c .before .before .before .before .before .before .before .before .before .before .before .before .before .before .before .before .before .before .args .table .now)) ((c .before .before .before .before .before .before .before .before .before .before .before .before .before .before .before .before .before .before .args .image .now)) (c .before .before .before .before .before .before .before .before .before .before .before .before .before .before .count-of .result) (c .before .before .before .before .before .before .before .before .before .before .before .before .read-words .last .1 .0) (c .before .before .before .before .before .before .before .before .clear .last .0) (c .before .before .before .before .before .before .before .before .before .before .before .before .before .before .count-of .ensures .0) (c .before .before .before .before .before .before .before .before .before .before .before .before .read-words .ensures) (c .before .before .before .before .before .before .before .before .before .before .before .before .before .before .before .before .before .before .pre .1) (c .before .before .before .before .before .before .before .before .clear .ensures),
-  emptied ((c .before .before .before .before .before .before .before .before .before .before .before .before .before .before .before .before .before .before .args .journal .now)) (c .before .before .before .before .clear2 .last .0) (c .before .before .before .before .clear2 .ensures),
-)
+returns c =
+    let c4 = c .before .before .before .before in
+    let c8 = c4 .before .before .before .before in
+    let c12 = c8 .before .before .before .before in
+    let c14 = c12 .before .before in
+    let c18 = c14 .before .before .before .before in
+    let args = c18 .args in (
+      (c .fresh-head .ensures) ∙ ap₂ freshHead (c14 .count-of .ensures .0) (c .before .state-of .ensures),
+      filled (args .table .now) (args .image .now) (c14 .count-of .result) (c12 .read-words .last .1 .0)
+          (c8 .clear .last .0) (c14 .count-of .ensures .0) (c12 .read-words .ensures) (c18 .pre .1) (c8 .clear .ensures),
+      emptied (args .journal .now) (c4 .clear2 .last .0) (c4 .clear2 .ensures),
+    )
 
 pub fill-spec : {M : Type 1} → statement M
 fill-spec =

@@ -5,7 +5,7 @@ use native.Mathlib.Omega.{arith}
 use lib.ListN.{length}
 use Rattle.answers.specs.declared.answer.Answer.the-variants.{Done}
 use Rattle.answers.proofs.Firsts.{gives-refused, gives-passed, if-refused, if-passed}
-use Rattle.snapshot.proofs.Accepted.{load-ok}
+use Rattle.snapshot.proofs.ImagesAccepted.{load-ok}
 use borrow.Author.Needs.{needs}
 use Rattle.snapshot.proofs.load.load.Statement.{statement}
 use Rattle.snapshot.proofs.load.load.Tie as tie

@@ -8,7 +8,7 @@ use Rattle.answers.proofs.Firsts.{gives-refused, gives-passed, if-refused, if-p
 use Rattle.image.specs.Image.{countIn, numberIn, wordsIn}
 use Rattle.views.specs.View.{padded}
 use Rattle.snapshot.specs.Fresh.{freshHead}
-use Rattle.snapshot.proofs.Accepted.{write-ok, used-long, write-room, written-is, image-inside, image-part, load-room}
+use Rattle.snapshot.proofs.ImagesAccepted.{write-ok, used-long, write-room, written-is, image-inside, image-part, load-room}
 use borrow.Author.Needs.{needs}
 use Rattle.snapshot.proofs.restart.restart.Statement.{statement}
 use Rattle.snapshot.proofs.restart.restart.Tie as tie

@@ -4,7 +4,7 @@ use mathlib.Core.Path.{_∙_, sym, ap}
 use lib.ListN.{length}
 use Rattle.answers.specs.declared.answer.Answer.the-variants.{Count}
 use Rattle.answers.proofs.Firsts.{gives-refused, gives-passed, if-refused, if-passed}
-use Rattle.snapshot.proofs.Accepted.{write-ok, used-long, write-room, size-is, written-is}
+use Rattle.snapshot.proofs.ImagesAccepted.{write-ok, used-long, write-room, size-is, written-is}
 use borrow.Author.Needs.{needs}
 use Rattle.snapshot.proofs.write.write_image.Statement.{statement}
 use Rattle.snapshot.proofs.write.write_image.Tie as tie

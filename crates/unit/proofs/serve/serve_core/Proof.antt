@@ -26,8 +26,10 @@ same-length-4 c = search needs
 
 returns : tie.Need-returns
 returns c =
-    let l = lent (c .before .before .before .before .before .before .before .before .before .before .before .before .before .before .before .before .before .before .args .table .now) (c .before .before .before .before .before .before .before .before .before .before .before .before .before .before .before .before .before .before .args .journal .now) (c .before .before .before .before .before .before .before .before .before .before .before .before .before .before .before .before .before .before .args .words .now) (c .before .before .before .before .before .before .before .before .before .before .before .before .before .before .before .before .before .before .args .bytes .now) (c .before .before .before .before .before .before .before .before .before .before .before .before .before .before .before .before .before .before .args .head) in
-    served-is (c .before .before .before .before .before .before .before .before .before .before .before .before .before .before .before .before .before .before .args .tally) l (c .before .before .before .before .before .before .before .before .before .before .before .before .before .before .before .before .before .before .args .call) (c .before .before .before .before .before .before .before .before .before .perform .ensures) (c .tally-after .ensures)
+    let c9 = c .before .before .before .before .before .before .before .before .before in
+    let args = c9 .before .before .before .before .before .before .before .before .before .args in
+    let l = lent (args .table .now) (args .journal .now) (args .words .now) (args .bytes .now) (args .head) in
+    served-is (args .tally) l (args .call) (c9 .perform .ensures) (c .tally-after .ensures)
 
 pub serve-core-spec : {M : Type 1} → statement M
 serve-core-spec =

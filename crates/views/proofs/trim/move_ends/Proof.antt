@@ -16,7 +16,9 @@ abbrev μ-loop : tie.MeasureT-loop
 μ-loop from to words ends next₀ k₀ next k = to - from - k
 
 loop-holds : tie.Need-loop-holds Inv-loop μ-loop
-loop-holds c = let long : length (c .args .t1) ≡ 64 = search needs in moving (c .args .t1) (c .args .from) (c .args .to) (c .args .words) (c .pre .0) (omega (arith, (c .pre .1)))
+loop-holds c =
+    let long : length (c .args .t1)
+    ≡ 64 = search needs in moving (c .args .t1) (c .args .from) (c .args .to) (c .args .words) (c .pre .0) (omega (arith, (c .pre .1)))
 
 sub-loop : tie.Need-sub-loop Inv-loop μ-loop
 sub-loop c = (c .before .pre .0)

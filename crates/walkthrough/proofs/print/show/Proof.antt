@@ -1,4 +1,4 @@
--- `show` meets its contract: the words left fall with each turn.
+-- `show` meets its contract: the words left fall with each iteration.
 -- Assumes nothing.
 use Prim.Native.Nat.{_-_, _≤_}
 use lib.ListN.{length}

@@ -1,4 +1,4 @@
--- `show_bytes` meets its contract: the bytes left fall with each turn.
+-- `show_bytes` meets its contract: the bytes left fall with each iteration.
 -- Assumes nothing.
 use Prim.Native.Nat.{_-_, _≤_}
 use lib.ListN.{length}

@@ -1,0 +1,5 @@
+pub mod AllOrders
+pub mod Gathering
+pub mod Flags
+pub mod OrderPositions
+pub mod Iterations

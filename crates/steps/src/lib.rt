@@ -1,5 +1,0 @@
-// The calls that add, take back and flush steps (document 01, "Laws of changes"), seen on views: what commit, rollback
-// and flush make of the view of a store. Their code stands in `commits`, `rollbacks` and `flushes`.
-pub use commits::commit;
-pub use flushes::flush;
-pub use rollbacks::roll_back;
