@@ -9,7 +9,7 @@ use borrow.Author.Needs.{needs}
 use Rattle.commits.proofs.commit.Statement.{statement}
 use Rattle.commits.proofs.commit.Tie as tie
 
--- what is known where the check has passed
+-- where the call begins, from where its check has passed, and what is known there
 abbrev start : tie.After-enum-told → tie.Start
 start d = d .before .before .before .before .before .before .before
 

@@ -3,10 +3,18 @@
 use mathlib.Core.Path.{_∙_, ap}
 use native.Mathlib.Omega.{arith}
 use Rattle.changes.specs.Runs.{startOf}
-use Rattle.rollbacks.proofs.RollBackAccepted.{roll-known, roll-refused, roll-done, kept-inside, cut-at}
+use Rattle.rollbacks.proofs.RollBackAccepted.{RollOk, roll-known, roll-refused, roll-done, kept-inside, cut-at}
 use borrow.Author.Needs.{needs}
 use Rattle.rollbacks.proofs.roll_back.Statement.{statement}
 use Rattle.rollbacks.proofs.roll_back.Tie as tie
+
+-- where the call begins, from where its check has passed, and what is known there
+abbrev start : tie.After-enum-told → tie.Start
+start d = d .before .before .before .before .before .before
+
+known : (d : tie.After-enum-told)
+    → RollOk (start d .args .table .now) (start d .args .journal .now) (start d .args .t3) (start d .args .state)
+known d = roll-known _ _ _ _ (d .before .before .roll-back-check .ensures) (d .enum-told .given .1)
 
 roll-back-check-requires : tie.Need-roll-back-check-requires
 roll-back-check-requires c κs = search needs
@@ -29,29 +37,22 @@ enum-told c = search needs
 
 step-index-requires : tie.Need-step-index-requires
 step-index-requires c κs =
-    let args = c .before .before .before .before .before .before .args in
-    let ok = roll-known (args .table .now) (args .journal .now) (args .t3) (args .state)
-    (c .before .before .roll-back-check .ensures) (c .enum-told .given .1) in
+    let ok = known c in
     omega (arith, ok .low, ok .sound .low)
 
 end-of-requires : tie.Need-end-of-requires
 end-of-requires c κs =
     let c3 = c .before .before .before in
     let c4 = c3 .before in
-    let c6 = c4 .before .before in
-    let args = c6 .before .before .before .before .args in
-    let ok = roll-known (args .table .now) (args .journal .now) (args .t3) (args .state) (c6 .roll-back-check .ensures)
-    (c4 .enum-told .given .1) in
+    let ok = known c4 in
     omega (arith, ok .low, ok .high, ok .sound .low, ok .sound .few, (c3 .step-index .ensures))
 
 mul-clear : tie.Need-mul-clear
 mul-clear c =
     let c4 = c .before .before .before .before in
     let c5 = c4 .before in
-    let c7 = c5 .before .before in
-    let args = c7 .before .before .before .before .args in
-    let ok = roll-known (args .table .now) (args .journal .now) (args .t3) (args .state) (c7 .roll-back-check .ensures)
-    (c5 .enum-told .given .1) in
+    let args = c5 .before .before .before .before .before .before .args in
+    let ok = known c5 in
     let end = (c .end-of .ensures) ∙ ap (startOf (args .t3 .ends)) (c4 .step-index .ensures) in
     omega (arith, kept-inside ok (c .end-of .result) end, ok .range .journal-most)
 
@@ -59,20 +60,16 @@ sub-clear : tie.Need-sub-clear
 sub-clear c =
     let c4 = c .before .before .before .before in
     let c5 = c4 .before in
-    let c7 = c5 .before .before in
-    let args = c7 .before .before .before .before .args in
-    let ok = roll-known (args .table .now) (args .journal .now) (args .t3) (args .state) (c7 .roll-back-check .ensures)
-    (c5 .enum-told .given .1) in
+    let args = c5 .before .before .before .before .before .before .args in
+    let ok = known c5 in
     kept-inside ok (c .end-of .result) ((c .end-of .ensures) ∙ ap (startOf (args .t3 .ends)) (c4 .step-index .ensures))
 
 part-clear-start : tie.Need-part-clear-start
 part-clear-start c =
     let c4 = c .before .before .before .before in
     let c5 = c4 .before in
-    let c7 = c5 .before .before in
-    let args = c7 .before .before .before .before .args in
-    let ok = roll-known (args .table .now) (args .journal .now) (args .t3) (args .state) (c7 .roll-back-check .ensures)
-    (c5 .enum-told .given .1) in
+    let args = c5 .before .before .before .before .before .before .args in
+    let ok = known c5 in
     kept-inside ok (c .end-of .result) ((c .end-of .ensures) ∙ ap (startOf (args .t3 .ends)) (c4 .step-index .ensures))
 
 part-clear-end : tie.Need-part-clear-end
@@ -85,10 +82,7 @@ cut-to-requires : tie.Need-cut-to-requires
 cut-to-requires c κs =
     let c8 = c .before .before .before .before .before .before .before .before in
     let c9 = c8 .before in
-    let c11 = c9 .before .before in
-    let args = c11 .before .before .before .before .args in
-    let ok = roll-known (args .table .now) (args .journal .now) (args .t3) (args .state) (c11 .roll-back-check .ensures)
-    (c9 .enum-told .given .1) in
+    let ok = known c9 in
     omega (arith, ok .low, ok .high, ok .sound .low, ok .sound .few, (c8 .step-index .ensures))
 
 same-length-2 : tie.Need-same-length-2
@@ -102,8 +96,7 @@ returns-2 c =
     let c10 = c9 .before in
     let c12 = c10 .before .before in
     let args = c12 .before .before .before .before .args in
-    let ok = roll-known (args .table .now) (args .journal .now) (args .t3) (args .state) (c12 .roll-back-check .ensures)
-    (c10 .enum-told .given .1) in
+    let ok = known c10 in
     let end = (c5 .end-of .ensures) ∙ ap (startOf (args .t3 .ends)) (c9 .step-index .ensures) in
     roll-done (args .table .now) (args .journal .now) (args .t3) (args .state) (c12 .roll-back-check .ensures) (c10 .enum-told .given .1)
     (c9 .step-index .result) (c5 .end-of .result) (c9 .step-index .ensures) (c5 .end-of .ensures) (c .cut-to .ensures)
