@@ -26,9 +26,13 @@ pub fn perform(
         Call::Reset(reset_call) => reset(table, journal, words, bytes, head, reset_call),
         Call::Step(step_call) => step(table, journal, words, bytes, head, step_call),
         Call::Read(read_call) => read(table, journal, words, bytes, head, read_call),
-        Call::Ask(query) => Reply {
-            answer: ask(table, journal, words, bytes, head, query),
-            head,
-        },
+        // A copy of its own, so that the other arms need not have the head in memory.
+        Call::Ask(query) => {
+            let kept = head;
+            Reply {
+                answer: ask(table, journal, words, bytes, kept, query),
+                head,
+            }
+        }
     }
 }

@@ -23,7 +23,8 @@ const LAST_STATE: u32 = 4294967295;
 fn commit_check(table: &[u64], journal: &[u64], head: Head, list: &[u64]) -> Check
     ensures { λ r. ⌜ r ≡ commitCheck (now (table .entry)) (now (journal .entry)) head (now (list .entry)) ⌝ }
 {
-    let store = store_check(table, journal, head);
+    let whole = head;
+    let store = store_check(table, journal, whole, &head.ends);
     let Check::Passed = store else {
         return store;
     };

@@ -115,7 +115,8 @@ fn flush_table(table: &mut [u64], journal: &[u64], head: Head, state: u32) -> An
     ensures { λ r. ⌜ (r ≡ flushSize (now (table .entry)) (now (journal .entry)) head state)
         × (now (table .exit) ≡ flushTable (now (table .entry)) (now (journal .entry)) head state) ⌝ }
 {
-    let store = store_check(table, journal, head);
+    let whole = head;
+    let store = store_check(table, journal, whole, &head.ends);
     if let Check::Refused(ground) = store {
         return Answer::Refused(ground);
     }

@@ -31,7 +31,8 @@ fn forward_check(
 {
     let taken = head.taken;
     let slot = reader.slot;
-    let store = store_check(table, journal, head);
+    let whole = head;
+    let store = store_check(table, journal, whole, &head.ends);
     let Check::Passed = store else {
         return store;
     };

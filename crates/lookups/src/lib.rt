@@ -27,7 +27,8 @@ const OFFERS: u32 = 1 << Entry::OFFER_BITS;
 fn look_up_check(table: &[u64], journal: &[u64], head: Head, asked: LookUp) -> Check
     ensures { λ r. ⌜ r ≡ lookUpCheck (now (table .entry)) (now (journal .entry)) head asked ⌝ }
 {
-    let store = store_check(table, journal, head);
+    let whole = head;
+    let store = store_check(table, journal, whole, &head.ends);
     let Check::Passed = store else {
         return store;
     };

@@ -21,7 +21,8 @@ ghost use Rattle.rollbacks.specs.RollBack.{rollCheck, rollJournal, rollH
 fn roll_back_check(table: &[u64], journal: &[u64], head: Head, state: u32) -> Check
     ensures { λ r. ⌜ r ≡ rollCheck (now (table .entry)) (now (journal .entry)) head state ⌝ }
 {
-    let store = store_check(table, journal, head);
+    let whole = head;
+    let store = store_check(table, journal, whole, &head.ends);
     let Check::Passed = store else {
         return store;
     };

@@ -15,7 +15,8 @@ ghost use Rattle.snapshot.specs.Snapshots.{writeCheck, writeAnswer, writ
 pub fn write_check(table: &[u64], journal: &[u64], head: Head, room: usize) -> Check
     ensures { λ r. ⌜ r ≡ writeCheck (now (table .entry)) (now (journal .entry)) head room ⌝ }
 {
-    let store = store_check(table, journal, head);
+    let whole = head;
+    let store = store_check(table, journal, whole, &head.ends);
     let Check::Passed = store else {
         return store;
     };

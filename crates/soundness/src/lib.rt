@@ -14,8 +14,10 @@ ghost use Rattle.answers.specs.First.{first};
 ghost use Rattle.soundness.specs.Checks.{storeGrounds, stateGrounds};
 ghost use Rattle.soundness.specs.Sound.{soundB};
 
-// Whether the store is sound.
-pub fn is_sound(table: &[u64], journal: &[u64], head: Head) -> bool
+// Whether the store is sound. The marks of the head are lent beside it, here and in `store_check`: a function that lends on what it
+// was handed by value makes a copy of it first, and every call tests a store.
+pub fn is_sound(table: &[u64], journal: &[u64], head: Head, ends: &[usize]) -> bool
+    requires { ⌜ now ends ≡ head .ends ⌝ }
     ensures { λ r. ⌜ r ≡ soundB (now (table .entry)) (now (journal .entry)) head ⌝ }
 {
     let checkpoint = head.checkpoint;
@@ -28,7 +30,7 @@ pub fn is_sound(table: &[u64], journal: &[u64], head: Head) -> bool
         return false;
     }
     let n = held_count(head);
-    if !is_journal(journal, &head.ends, n) {
+    if !is_journal(journal, ends, n) {
         return false;
     }
     if !slots_fit(checkpoint, taken, issued) {
@@ -38,13 +40,14 @@ pub fn is_sound(table: &[u64], journal: &[u64], head: Head) -> bool
 }
 
 // Whether the lengths lent are in their ranges, and the store is sound.
-pub fn store_check(table: &[u64], journal: &[u64], head: Head) -> Check
+pub fn store_check(table: &[u64], journal: &[u64], head: Head, ends: &[usize]) -> Check
+    requires { ⌜ now ends ≡ head .ends ⌝ }
     ensures { λ r. ⌜ r ≡ first (storeGrounds (now (table .entry)) (now (journal .entry)) head) ⌝ }
 {
     if !lengths_fit(table.len(), journal.len()) {
         return Check::Refused(Ground::Lengths);
     }
-    if !is_sound(table, journal, head) {
+    if !is_sound(table, journal, head, ends) {
         return Check::Refused(Ground::Unsound);
     }
     Check::Passed

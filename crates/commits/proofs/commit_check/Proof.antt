@@ -33,15 +33,14 @@ is-list-requires c κs = search needs
 
 returns-2 : tie.Need-returns-2
 returns-2 c =
-    let c4 = c .before .before .before .before in
-    sym (goes-on _ _ (c4 .store-check .ensures) (c .before .before .enum-told .given .1)
+    sym (goes-on _ _ (c .before .before .before .before .store-check .ensures) (c .before .before .enum-told .given .1)
     ∙ first-met _ _ _ (ap not (sym (c .before .is-list .ensures)) ∙ (c .if1 .taken)))
 
 returns-3 : tie.Need-returns-3
 returns-3 c =
     let c3 = c .before .before .before in
     let c5 = c3 .before .before in
-    let args = c5 .before .before .before .before .args in
+    let args = c5 .before .before .before .before .before .before .before .args in
     sym
     (goes-on _ _ (c5 .store-check .ensures) (c3 .enum-told .given .1)
     ∙ first-not _ _ _ (ap not (sym (c .before .before .is-list .ensures)) ∙ (c .before .if1 .left))
@@ -51,7 +50,7 @@ held-count-requires : tie.Need-held-count-requires
 held-count-requires c κs =
     let c3 = c .before .before .before in
     let c5 = c3 .before .before in
-    let args = c5 .before .before .before .before .args in
+    let args = c5 .before .before .before .before .before .before .before .args in
     let ok = store-ok (args .table .now) (args .journal .now) (args .t3) (c5 .store-check .ensures) (c3 .enum-told .given .1) in
     omega (arith, ok .sound .low, ok .sound .high)
 
@@ -61,7 +60,7 @@ returns-4 c =
     let c4 = c3 .before in
     let c5 = c4 .before in
     let c7 = c5 .before .before in
-    let args = c7 .before .before .before .before .args in
+    let args = c7 .before .before .before .before .before .before .before .args in
     sym
     (goes-on _ _ (c7 .store-check .ensures) (c5 .enum-told .given .1)
     ∙ first-not _ _ _ (ap not (sym (c4 .is-list .ensures)) ∙ (c3 .if1 .left))
@@ -73,7 +72,7 @@ end-of-requires c κs =
     let c4 = c .before .before .before .before in
     let c8 = c4 .before .before .before .before in
     let c10 = c8 .before .before in
-    let args = c10 .before .before .before .before .args in
+    let args = c10 .before .before .before .before .before .before .before .args in
     let ok = store-ok (args .table .now) (args .journal .now) (args .t3) (c10 .store-check .ensures) (c8 .enum-told .given .1) in
     omega (arith, ok .sound .few, (c4 .held-count .ensures))
 
@@ -82,7 +81,7 @@ sub-if4 c =
     let c5 = c .before .before .before .before .before in
     let c9 = c5 .before .before .before .before in
     let c11 = c9 .before .before in
-    let args = c11 .before .before .before .before .args in
+    let args = c11 .before .before .before .before .before .before .before .args in
     let ok = store-ok (args .table .now) (args .journal .now) (args .t3) (c11 .store-check .ensures) (c9 .enum-told .given .1) in
     omega (
       arith,
@@ -100,7 +99,7 @@ returns-5 c =
     let c9 = c8 .before in
     let c10 = c9 .before in
     let c12 = c10 .before .before in
-    let args = c12 .before .before .before .before .args in
+    let args = c12 .before .before .before .before .before .before .before .args in
     let used = (c .before .end-of .ensures) ∙ ap (startOf (args .t3 .ends)) (c6 .held-count .ensures) in
     sym
     (goes-on _ _ (c12 .store-check .ensures) (c10 .enum-told .given .1)
@@ -119,7 +118,7 @@ returns-6 c =
     let c9 = c8 .before in
     let c10 = c9 .before in
     let c12 = c10 .before .before in
-    let args = c12 .before .before .before .before .args in
+    let args = c12 .before .before .before .before .before .before .before .args in
     let used = (c .before .end-of .ensures) ∙ ap (startOf (args .t3 .ends)) (c6 .held-count .ensures) in
     sym
     (goes-on _ _ (c12 .store-check .ensures) (c10 .enum-told .given .1)

@@ -23,8 +23,7 @@ state-check-requires c κs = search needs
 
 returns-2 : tie.Need-returns-2
 returns-2 c =
-    let c3 = c .before .before .before in
-    (c .state-check .ensures) ∙ sym (goes-on _ _ (c3 .store-check .ensures) (c .before .enum-told .given .1))
+    (c .state-check .ensures) ∙ sym (goes-on _ _ (c .before .before .before .store-check .ensures) (c .before .enum-told .given .1))
 
 pub roll-back-check-spec : {M : Type 1} → statement M
 roll-back-check-spec =

@@ -1,6 +1,6 @@
 -- `is_sound` meets its contract: the tests are made in the order of the definition.
 -- Assumes nothing.
-use mathlib.Core.Path.{_≡_, _∙_, sym, ap}
+use mathlib.Core.Path.{_≡_, _∙_, sym, ap, ap₂}
 use borrow.Author.Tests.{not-true, not-false}
 use lib.Dec.{eqb}
 use lib.ListN.{length}
@@ -32,41 +32,41 @@ returns-2 c =
 
 held-count-requires : tie.Need-held-count-requires
 held-count-requires c κs =
-    let args = c .before .before .before .before .before .before .before .before .args in
+    let args = c .before .before .before .before .before .before .before .before .before .args in
     omega (
       arith,
-      numbers-facts (args .t3 .oldest) (args .t3 .checkpoint) (args .t3 .tip)
+      numbers-facts (args .head .oldest) (args .head .checkpoint) (args .head .tip)
           (sym (c .before .numbers-fit .ensures) ∙ not-false _ (c .if2 .left)),
     )
 
 is-journal-requires : tie.Need-is-journal-requires
 is-journal-requires c κs =
-    let c3 = c .before .before .before in
-    let c4 = c3 .before in
-    let c5 = c4 .before in
-    let args = c5 .before .before .before .before .before .before .before .args in
-    let long : length (args .t3 .ends) ≡ 64 = search needs in
+    let c10 = c .before .before .before .before .before .before .before .before .before .before in
+    let args = c10 .args in
+    let long : length (args .head .ends) ≡ 64 = search needs in
+    let same = ap length (c10 .pre) in
     omega (
       arith,
       long,
-      (c3 .held-count .ensures),
-      numbers-facts (args .t3 .oldest) (args .t3 .checkpoint)
-          (args .t3 .tip) (sym (c5 .numbers-fit .ensures) ∙ not-false _ (c4 .if2 .left)),
+      same,
+      (c .held-count .ensures),
+      numbers-facts (args .head .oldest) (args .head .checkpoint)
+          (args .head .tip) (sym (c .before .before .numbers-fit .ensures) ∙ not-false _ (c .before .if2 .left)),
     )
 
 returns-3 : tie.Need-returns-3
 unfolding soundB
 returns-3 c =
-    let c5 = c .before .before .before .before .before in
+    let c3 = c .before .before .before in
+    let c4 = c3 .before in
+    let c5 = c4 .before in
     let c6 = c5 .before in
-    let c7 = c6 .before in
-    let c8 = c7 .before in
-    let c9 = c8 .before in
-    let args = c9 .before .before .before .before .before .args in
+    let c12 = c6 .before .before .before .before .before .before in
+    let args = c12 .args in
     sym
-    (first-holds _ _ (sym (c9 .is-table .ensures) ∙ not-false _ (c8 .if1 .left))
-    ∙ first-holds _ _ (sym (c7 .numbers-fit .ensures) ∙ not-false _ (c6 .if2 .left))
-    ∙ first-fails _ _ (ap (journalB (args .journal .now) (args .t3 .ends)) (sym (c5 .held-count .ensures))
+    (first-holds _ _ (sym (c6 .is-table .ensures) ∙ not-false _ (c5 .if1 .left))
+    ∙ first-holds _ _ (sym (c4 .numbers-fit .ensures) ∙ not-false _ (c3 .if2 .left))
+    ∙ first-fails _ _ (ap₂ (journalB (args .journal .now)) (sym (c12 .pre)) (sym (c .before .before .held-count .ensures))
     ∙ sym (c .before .is-journal .ensures) ∙ not-true _ (c .if3 .taken)))
 
 slots-fit-requires : tie.Need-slots-fit-requires
@@ -76,16 +76,17 @@ returns-4 : tie.Need-returns-4
 unfolding soundB
 returns-4 c =
     let c3 = c .before .before .before in
-    let c7 = c3 .before .before .before .before in
+    let c4 = c3 .before in
+    let c5 = c4 .before in
+    let c6 = c5 .before in
+    let c7 = c6 .before in
     let c8 = c7 .before in
-    let c9 = c8 .before in
-    let c10 = c9 .before in
-    let c11 = c10 .before in
-    let args = c11 .before .before .before .before .before .args in
+    let c14 = c8 .before .before .before .before .before .before in
+    let args = c14 .args in
     sym
-    (first-holds _ _ (sym (c11 .is-table .ensures) ∙ not-false _ (c10 .if1 .left))
-    ∙ first-holds _ _ (sym (c9 .numbers-fit .ensures) ∙ not-false _ (c8 .if2 .left))
-    ∙ first-holds _ _ (ap (journalB (args .journal .now) (args .t3 .ends)) (sym (c7 .held-count .ensures))
+    (first-holds _ _ (sym (c8 .is-table .ensures) ∙ not-false _ (c7 .if1 .left))
+    ∙ first-holds _ _ (sym (c6 .numbers-fit .ensures) ∙ not-false _ (c5 .if2 .left))
+    ∙ first-holds _ _ (ap₂ (journalB (args .journal .now)) (sym (c14 .pre)) (sym (c4 .held-count .ensures))
     ∙ sym (c3 .is-journal .ensures) ∙ not-false _ (c .before .before .if3 .left))
     ∙ first-fails _ _ (sym (c .before .slots-fit .ensures) ∙ not-true _ (c .if4 .taken)))
 
@@ -97,19 +98,21 @@ unfolding soundB
 returns-5 c =
     let c3 = c .before .before .before in
     let c4 = c3 .before in
-    let c8 = c4 .before .before .before .before in
+    let c5 = c4 .before in
+    let c6 = c5 .before in
+    let c7 = c6 .before in
+    let c8 = c7 .before in
     let c9 = c8 .before in
     let c10 = c9 .before in
-    let c11 = c10 .before in
-    let c12 = c11 .before in
-    let args = c12 .before .before .before .before .before .args in
-    ap (eqb (args .t3 .oldest)) (c .least-of .ensures)
+    let c16 = c10 .before .before .before .before .before .before in
+    let args = c16 .args in
+    ap (eqb (args .head .oldest)) (c .before .least-of .ensures)
     ∙ sym
-    (first-holds _ _ (sym (c12 .is-table .ensures) ∙ not-false _ (c11 .if1 .left))
-    ∙ first-holds _ _ (sym (c10 .numbers-fit .ensures) ∙ not-false _ (c9 .if2 .left))
-    ∙ first-holds _ _ (ap (journalB (args .journal .now) (args .t3 .ends)) (sym (c8 .held-count .ensures))
-    ∙ sym (c4 .is-journal .ensures) ∙ not-false _ (c3 .if3 .left))
-    ∙ first-holds _ _ (sym (c .before .before .slots-fit .ensures) ∙ not-false _ (c .before .if4 .left))
+    (first-holds _ _ (sym (c10 .is-table .ensures) ∙ not-false _ (c9 .if1 .left))
+    ∙ first-holds _ _ (sym (c8 .numbers-fit .ensures) ∙ not-false _ (c7 .if2 .left))
+    ∙ first-holds _ _ (ap₂ (journalB (args .journal .now)) (sym (c16 .pre)) (sym (c6 .held-count .ensures))
+    ∙ sym (c5 .is-journal .ensures) ∙ not-false _ (c4 .if3 .left))
+    ∙ first-holds _ _ (sym (c3 .slots-fit .ensures) ∙ not-false _ (c .before .before .if4 .left))
     ∙ last-test _)
 
 pub is-sound-spec : {M : Type 1} → statement M

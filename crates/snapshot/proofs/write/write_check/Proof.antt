@@ -24,28 +24,28 @@ returns c = stops _ _ (c .before .before .store-check .ensures) (c .enum-told2 .
 
 mul-if1 : tie.Need-mul-if1
 mul-if1 c =
-    let s = c .before .before .before .before .before .before in
-    let ok = store-ok (s .args .table .now) (s .args .journal .now) (s .args .head) (c .before .before .before .store-check .ensures)
-    (c .before .enum-told .given .1) in omega (arith, ok .sound .used-in, ok .range .table-most)
+    let s = c .before .before .before .before .before .before .before .before in
+    let ok = store-ok (s .args .table .now) (s .args .journal .now) (s .args .t3) (c .before .before .store-check .ensures)
+    (c .enum-told .given .1) in omega (arith, ok .sound .used-in, ok .range .table-most)
 
 add-if1 : tie.Need-add-if1
 add-if1 c =
-    let s = c .before .before .before .before .before .before in
-    let ok = store-ok (s .args .table .now) (s .args .journal .now) (s .args .head) (c .before .before .before .store-check .ensures)
-    (c .before .enum-told .given .1) in omega (arith, ok .sound .used-in, ok .range .table-most)
+    let s = c .before .before .before .before .before .before .before .before in
+    let ok = store-ok (s .args .table .now) (s .args .journal .now) (s .args .t3) (c .before .before .store-check .ensures)
+    (c .enum-told .given .1) in omega (arith, ok .sound .used-in, ok .range .table-most)
 
 returns-2 : tie.Need-returns-2
 returns-2 c =
-    let s = c .before .before .before .before .before .before .before in
-    sym (goes-on _ _ (c .before .before .before .before .store-check .ensures) (c .before .before .enum-told .given .1) ∙ first-met _ _ _
-    (lt-ltb (s .args .room) (6 + 8 * (s .args .head .used)) (c .if1 .taken)))
+    let s = c .before .before .before .before .before .before .before .before .before in
+    sym (goes-on _ _ (c .before .before .before .store-check .ensures) (c .before .enum-told .given .1) ∙ first-met _ _ _
+    (lt-ltb (s .args .room) (6 + 8 * (s .args .t3 .used)) (c .if1 .taken)))
 
 returns-3 : tie.Need-returns-3
 returns-3 c =
-    let s = c .before .before .before .before .before .before .before in
+    let s = c .before .before .before .before .before .before .before .before .before in
     sym
-    (goes-on _ _ (c .before .before .before .before .store-check .ensures) (c .before .before .enum-told .given .1)
-    ∙ first-not _ _ _ (le-ltb (s .args .room) (6 + 8 * (s .args .head .used)) (c .if1 .left))
+    (goes-on _ _ (c .before .before .before .store-check .ensures) (c .before .enum-told .given .1)
+    ∙ first-not _ _ _ (le-ltb (s .args .room) (6 + 8 * (s .args .t3 .used)) (c .if1 .left))
     ∙ none-met)
 
 pub write-check-spec : {M : Type 1} → statement M
