@@ -1,2 +1,3 @@
 pub mod Firsts
 pub mod Counting
+pub mod Telling

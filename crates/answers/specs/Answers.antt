@@ -24,13 +24,29 @@ saidBy NoPrice = without
 saidBy (Count n) = accepted n
 saidBy (Refused ground) = refused (numberOf ground)
 
--- whether a call was accepted
+-- whether a call was accepted, whether it was given a value, the value, and the number of the ground where it was turned away
+abbrev pub grantedB : Said → Bool
+grantedB (accepted n) = true
+grantedB (refused n) = false
+grantedB without = true
+
+abbrev pub valuedB : Said → Bool
+valuedB (accepted n) = true
+valuedB (refused n) = false
+valuedB without = false
+
+abbrev pub valueIn : Said → ℕ
+valueIn (accepted n) = n
+valueIn (refused n) = 0
+valueIn without = 0
+
+abbrev pub groundIn : Said → ℕ
+groundIn (accepted n) = 0
+groundIn (refused n) = n
+groundIn without = 0
+
 abbrev pub acceptedB : Answer → Bool
-acceptedB Done = true
-acceptedB (Price p) = true
-acceptedB NoPrice = true
-acceptedB (Count n) = true
-acceptedB (Refused ground) = false
+acceptedB answer = grantedB (saidBy answer)
 
 -- what a call answers where its check passes, and the ground where it does not
 abbrev pub answered : Check → Answer → Answer

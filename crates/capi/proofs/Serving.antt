@@ -23,7 +23,7 @@ use Rattle.calls.specs.Meaning.{performed}
 use Rattle.unit.specs.declared.serve.Served.{Served}
 use Rattle.unit.specs.Serve as Unit
 use Rattle.unit.specs.Serve.{served}
-use Rattle.head_words.specs.HeadWords.{headOf, headB, wordsOf}
+use Rattle.head_words.specs.HeadWords.{headSize, headOf, headB, wordsOf}
 use Rattle.lent.specs.Codes.{codeOf, valueOf}
 use Rattle.lent.specs.Lent.{lentB, unfit, tallyOf, tallyWords, answerTo, Leaves, Serves, Asks, Tells}
 use Rattle.lent.proofs.Choices.{chosen, passed}
@@ -33,11 +33,11 @@ refused-by true = refl
 refused-by false = refl
 
 module _ (head tally : List ℕ) (call : Call) (e : lentB head tally call ≡ true) where
-  pub head-long : length head ≡ 84
-  head-long = eqb-true (length head) 84 (all-first (eqb (length head) 84) _ e)
+  pub head-long : length head ≡ headSize
+  head-long = eqb-true (length head) headSize (all-first (eqb (length head) headSize) _ e)
 
   pub tally-long : length tally ≡ 3
-  tally-long = eqb-true (length tally) 3 (all-first (eqb (length tally) 3) _ (all-rest (eqb (length head) 84) _ e))
+  tally-long = eqb-true (length tally) 3 (all-first (eqb (length tally) 3) _ (all-rest (eqb (length head) headSize) _ e))
 
 module _ (table journal words bytes head tally : List ℕ) (call : Call) where
   pub not-served : {r : Answer} → lentB head tally call ≡ false → r ≡ unfit (length table) (length journal)
@@ -86,8 +86,8 @@ module _ (table journal words bytes head tally : List ℕ) (call : Call) where
   serves coded left = (coded ∙ ap (λ (a : Answer). codeOf (saidBy a)) (left .0), left .1, left .2, left .5, left .6)
 
 -- a query: where the head is not fit, and where it is
-pub head-fits : (head : List ℕ) → headB head ≡ true → length head ≡ 84
-head-fits head e = eqb-true (length head) 84 (all-first (eqb (length head) 84) _ e)
+pub head-fits : (head : List ℕ) → headB head ≡ true → length head ≡ headSize
+head-fits head e = eqb-true (length head) headSize (all-first (eqb (length head) headSize) _ e)
 
 module _ (table journal words bytes head : List ℕ) (query : Query) where
   pub not-asked : {r : Answer} → headB head ≡ false → r ≡ unfit (length table) (length journal)

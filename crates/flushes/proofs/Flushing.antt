@@ -3,12 +3,9 @@
 use mathlib.Core.Path.{_≡_, refl, sym, ap, subst, _∙_}
 use mathlib.Core.Bool.{Bool, true, not, cond}
 use mathlib.Core.List.{List, [], _∷_, _++_, append-assoc}
-use mathlib.Core.Logic.{inl, inr}
 use Prim.Native.Nat.{ℕ, _+_, _-_, _≤_, _<_, max}
 use native.Mathlib.Decide.{decLt}
 use native.Mathlib.Omega.{arith}
-use denote.Enum.Declared.{tagOf}
-use types.Run.{OneOf}
 use borrow.Author.Tests.{ltb-false, lt-ltb, le-ltb, not-false}
 use lib.Dec.{ltb}
 use lib.ListN.{length, take, drop, replicate, length-drop, length-take, replicate-append-replicate, take-append-drop}
@@ -26,8 +23,8 @@ use Rattle.answers.specs.declared.ground.Ground.{Ground}
 use Rattle.answers.specs.declared.ground.Ground.the-variants.{TableFull}
 use Rattle.answers.specs.First.{met, first}
 use Rattle.answers.specs.Answers.{Gives, answered}
-use Rattle.answers.proofs.answer.Answer.{the-type}
 use Rattle.answers.proofs.Firsts.{passed-not, first-met, first-not, none-met, first-stops}
+use Rattle.answers.proofs.Telling.{Unlike, not-count}
 use Rattle.answers.proofs.Firsts.{gives, gives-passed, if-refused, if-passed}
 use Rattle.layout.specs.declared.head.Head.{Head}
 use Rattle.layout.specs.Tests.{zerosB}
@@ -45,16 +42,6 @@ use Rattle.state_maps.specs.Held.{HeldState, MapRoom, wordsTo}
 use Rattle.state_maps.proofs.Working.{StateFacts, run-few}
 use Rattle.flushes.specs.Flush.{flushCheck, flushSize, tableAt, flushHead, flushTable, flushJournal, flushedHead}
 
--- an answer that is no count
-abbrev pub NoCount : Answer → Type 0
-NoCount answer = OneOf (0 ∷ 1 ∷ 2 ∷ 4 ∷ []) (tagOf the-type answer)
-
-counted-not : (n : ℕ) → NoCount (Count n) → ⊥
-counted-not n (inl e) = omega arith
-counted-not n (inr (inl e)) = omega arith
-counted-not n (inr (inr (inl e))) = omega arith
-counted-not n (inr (inr (inr e))) = omega arith
-
 -- a check that found a ground, and the answer that names it
 pub record TurnedAway (check : Check) (answer : Answer) : Type 0 where
   pub ground : Ground
@@ -62,8 +49,9 @@ pub record TurnedAway (check : Check) (answer : Answer) : Type 0 where
   pub told : answer ≡ Away ground
 
 -- a count or a ground, told from the check
-pub refused-of : {answer : Answer} (check : Check) (n : ℕ) → answer ≡ answered check (Count n) → NoCount answer → TurnedAway check answer
-refused-of Passed n e h = absurd (counted-not n (subst NoCount e h))
+pub refused-of : {answer : Answer} (check : Check) (n : ℕ) → answer ≡ answered check (Count n) → Unlike (Count n) answer
+    → TurnedAway check answer
+refused-of Passed n e h = absurd (not-count n (subst (Unlike (Count n)) e h))
 refused-of (Refused g) n e h = record { ground = g; found = refl; told = e }
 
 pub counted-of : {k : ℕ} (check : Check) (n : ℕ) → Count k ≡ answered check (Count n) → (check ≡ Passed) × (k ≡ n)

@@ -1,24 +1,28 @@
 -- A head that is put into its words.
 -- Assumes nothing.
-use mathlib.Core.Path.{_≡_, refl, sym, subst, _∙_}
-use mathlib.Core.List.{List, [], _++_, map, append-assoc, append-nil}
+use mathlib.Core.Path.{_≡_, refl, sym, ap, ap₂, subst, _∙_}
+use mathlib.Core.List.{List, [], _∷_, _++_, map, append-assoc, append-nil}
 use Prim.Native.Nat.{ℕ, _+_, _≤_}
 use native.Mathlib.Omega.{arith}
-use lib.ListN.{length, length-map, take, drop, set, length-append}
+use lib.ListN.{length, length-map, take, drop, set, take-append-drop, drop-of-length-le}
 use Rattle.layout.specs.declared.head.Head.{Head}
-use Rattle.words.proofs.Writing.{Writing, start, wrote, filled}
+use Rattle.words.proofs.Writing.{Writing, start, wrote}
 use Rattle.words.proofs.Pieces.{wrote-piece}
-use Rattle.head_words.specs.HeadWords.{wordOf, wordsOf}
+use Rattle.head_words.specs.HeadWords.{headSize, wordOf}
 
 -- room for a part of the head
-pub room : (n : ℕ) {m : ℕ} → m ≡ 84 → n ≤ 84 → n ≤ m
+pub room : (n : ℕ) {m : ℕ} → m ≡ headSize → n ≤ headSize → n ≤ m
 room n e l = omega arith
+
+-- the words of the fields that tell what a store holds; they come first
+abbrev pub told : Head → List ℕ
+told head = (head .used ∷ head .oldest ∷ head .checkpoint ∷ head .tip ∷ []) ++ map wordOf (head .taken) ++ head .issued ++ head .ends
 
 -- the first four words of a head, and then its arrays
 module _
     (l : List ℕ)
     (head : Head)
-    (e : length l ≡ 84)
+    (e : 84 ≤ length l)
     (eh : length (head .taken) ≡ 8)
     (ei : length (head .issued) ≡ 8)
     (ee : length (head .ends) ≡ 64)
@@ -30,29 +34,31 @@ module _
   flags-long : length (map wordOf (head .taken)) ≡ 8
   flags-long = length-map (head .taken) wordOf ∙ eh
 
-  first-put : Writing first l 4 (map wordOf (head .taken) ++ head .issued ++ head .ends) (wordsOf head)
+  first-put : Writing first l 4 (map wordOf (head .taken) ++ head .issued ++ head .ends) (told head)
   first-put =
-      let one = wrote (start l (wordsOf head)) (omega (arith, e)) in
+      let one = wrote (start l (told head)) (omega (arith, e)) in
       let two = wrote one (omega (arith, e, one .same)) in
       let three = wrote two (omega (arith, e, two .same)) in
-      subst (λ (w : List ℕ). Writing w l 4 (map wordOf (head .taken) ++ head .issued ++ head .ends) (wordsOf head))
-      (sym p) (wrote three (omega (arith, e, three .same)))
+      subst (λ (w : List ℕ). Writing w l 4 (map wordOf (head .taken) ++ head .issued ++ head .ends) (told head)) (sym p)
+      (wrote three (omega (arith, e, three .same)))
 
-  flags-put : Writing flags l 12 (head .issued ++ head .ends) (wordsOf head)
+  flags-put : Writing flags l 12 (head .issued ++ head .ends) (told head)
   flags-put =
       wrote-piece first-put (map wordOf (head .taken)) (head .issued ++ head .ends)
       (append-assoc (map wordOf (head .taken)) (head .issued) (head .ends))
       12 (omega (arith, flags-long)) (omega (arith, e, first-put .same)) pf
 
-  issued-put : Writing numbers l 20 (head .ends) (wordsOf head)
+  issued-put : Writing numbers l 20 (head .ends) (told head)
   issued-put = wrote-piece flags-put (head .issued) (head .ends) refl 20 (omega (arith, ei)) (omega (arith, e, flags-put .same)) pn
 
-  ends-put : Writing ends l 84 [] (wordsOf head)
+  ends-put : Writing ends l 84 [] (told head)
   ends-put =
       wrote-piece issued-put (head .ends) [] (sym (append-nil (head .ends))) 84 (omega (arith, ee)) (omega (arith, e, issued-put .same)) pe
 
-  words-length : length (wordsOf head) ≡ 84
-  words-length = simp length-append (omega (arith, flags-long, ei, ee))
+  -- the words behind them are as they were
+  pub told-put : ends ≡ told head ++ drop 84 l
+  told-put = sym (take-append-drop 84 ends) ∙ ap₂ _++_ (sym (append-nil (take 84 ends)) ∙ ends-put .front) (ends-put .back)
 
-  pub packed : ends ≡ wordsOf head
-  packed = filled ends-put refl (words-length ∙ sym e)
+-- the words of a head where no more come behind
+pub none-behind : (l : List ℕ) → length l ≡ headSize → (words : List ℕ) → words ++ drop 84 l ≡ words
+none-behind l e words = ap (λ (r : List ℕ). words ++ r) (drop-of-length-le l {i = 84} (omega (arith, e))) ∙ append-nil words

@@ -2,19 +2,21 @@
 -- Assumes nothing.
 use mathlib.Core.Path.{_≡_, refl, sym, ap, ap₂, _∙_}
 use mathlib.Core.Bool.{Bool, true, false}
-use mathlib.Core.List.{List, [], _∷_, _++_, map, append-assoc}
+use mathlib.Core.List.{List, [], _∷_, _++_, map, append-assoc, append-nil}
 use Prim.Native.Nat.{ℕ, zero, suc, _+_, _<_}
 use native.Mathlib.Omega.{arith}
 use native.Mathlib.Nat.{mod-eq-of-lt}
 use borrow.Author.Tests.{eqb-true, ltb-true}
 use lib.Dec.{eqb, ltb}
-use lib.ListN.{length, length-map, getD, take, drop, length-drop, take-append-drop}
-use lib.Seq.{take-at, drop-at, take-all, drop-drop}
+use lib.ListN.{length, length-map, getD, take, drop, take-append-drop}
+use lib.Seq.{take-at, drop-at, drop-drop}
 use Rattle.changes.proofs.ListTest.{and-both}
 use Rattle.layout.specs.declared.head.Head.{Head}
+use Rattle.layout.specs.Heads.{headWith}
 use Rattle.layout.proofs.Holds.{all-first, all-rest}
 use Rattle.words.proofs.Parts.{next}
-use Rattle.head_words.specs.HeadWords.{limit, flagOf, wordOf, numberIn, from, headOf, wordsOf, belowB, headB}
+use Rattle.head_words.proofs.Packing.{told, none-behind}
+use Rattle.head_words.specs.HeadWords.{headSize, limit, flagOf, wordOf, numberIn, from, headOf, wordsOf, belowB, headB}
 
 module _ (bound w : ℕ) (l : List ℕ) (e : belowB bound (w ∷ l) ≡ true) where
   below-first : w < bound
@@ -52,19 +54,19 @@ word-flags (t ∷ l) = ap₂ (λ (s : Bool) (r : List Bool). s ∷ r) (word-flag
 
 -- words that fit come back
 module _ (w : List ℕ) (e : headB w ≡ true) where
-  long : length w ≡ 84
-  long = eqb-true (length w) 84 (all-first (eqb (length w) 84) _ e)
+  long : length w ≡ headSize
+  long = eqb-true (length w) headSize (all-first (eqb (length w) headSize) _ e)
 
   states-fit : belowB limit (from 1 3 w) ≡ true
-  states-fit = all-first (belowB limit (from 1 3 w)) _ (all-rest (eqb (length w) 84) _ e)
+  states-fit = all-first (belowB limit (from 1 3 w)) _ (all-rest (eqb (length w) headSize) _ e)
 
   flags-fit : belowB 2 (from 4 8 w) ≡ true
-  flags-fit = all-first (belowB 2 (from 4 8 w)) _ (all-rest (belowB limit (from 1 3 w)) _ (all-rest (eqb (length w) 84) _ e))
+  flags-fit = all-first (belowB 2 (from 4 8 w)) _ (all-rest (belowB limit (from 1 3 w)) _ (all-rest (eqb (length w) headSize) _ e))
 
   issued-fit : belowB limit (from 12 8 w) ≡ true
   issued-fit =
       all-first (belowB limit (from 12 8 w)) _
-      (all-rest (belowB 2 (from 4 8 w)) _ (all-rest (belowB limit (from 1 3 w)) _ (all-rest (eqb (length w) 84) _ e)))
+      (all-rest (belowB 2 (from 4 8 w)) _ (all-rest (belowB limit (from 1 3 w)) _ (all-rest (eqb (length w) headSize) _ e)))
 
   three : drop 1 w ≡ getD w 1 0 ∷ getD w 2 0 ∷ getD w 3 0 ∷ drop 4 w
   three =
@@ -91,23 +93,29 @@ module _ (w : List ℕ) (e : headB w ≡ true) where
       ∙ ap (λ (r : List ℕ). getD w 0 0 ∷ r) (sym three)
       ∙ sym (next w 0 (omega (arith, long)))
 
-  arrays : map wordOf (map flagOf (from 4 8 w)) ++ (map numberIn (from 12 8 w) ++ from 20 64 w) ≡ drop 4 w
+  arrays : map wordOf (map flagOf (from 4 8 w)) ++ (map numberIn (from 12 8 w) ++ (from 20 64 w ++ drop 84 w)) ≡ drop 4 w
   arrays =
       ap₂ _++_ (flag-words (from 4 8 w) flags-fit)
       (ap₂ _++_ (numbers-back (from 12 8 w) issued-fit)
-      (take-all 64 (drop 20 w) (omega (arith, length-drop 20 w, long)) ∙ sym (drop-drop 8 12 w))
+      (ap (λ (r : List ℕ). from 20 64 w ++ r) (sym (drop-drop 64 20 w)) ∙ take-append-drop 64 (drop 20 w) ∙ sym (drop-drop 8 12 w))
       ∙ take-append-drop 8 (drop 12 w)
       ∙ sym (drop-drop 8 4 w))
       ∙ take-append-drop 8 (drop 4 w)
 
-  pub words-back : wordsOf (headOf w) ≡ w
-  words-back =
-      append-assoc ((getD w 0 0 ∷ numberIn (getD w 1 0) ∷ numberIn (getD w 2 0) ∷ numberIn (getD w 3 0) ∷ [])
-      ++ map wordOf (map flagOf (from 4 8 w))) (map numberIn (from 12 8 w)) (from 20 64 w)
-      ∙ append-assoc (getD w 0 0 ∷ numberIn (getD w 1 0) ∷ numberIn (getD w 2 0) ∷ numberIn (getD w 3 0) ∷ [])
-      (map wordOf (map flagOf (from 4 8 w))) (map numberIn (from 12 8 w) ++ from 20 64 w)
-      ∙ ap (λ (r : List ℕ). (getD w 0 0 ∷ numberIn (getD w 1 0) ∷ numberIn (getD w 2 0) ∷ numberIn (getD w 3 0) ∷ []) ++ r) arrays
+  -- the fields that tell what a store holds, with the words behind
+  told-back : told (headOf w) ++ drop 84 w ≡ w
+  told-back =
+      let first = getD w 0 0 ∷ numberIn (getD w 1 0) ∷ numberIn (getD w 2 0) ∷ numberIn (getD w 3 0) ∷ [] in
+      let flags = map wordOf (map flagOf (from 4 8 w)) in
+      let issued = map numberIn (from 12 8 w) in
+      append-assoc (first ++ flags ++ issued) (from 20 64 w) (drop 84 w)
+      ∙ append-assoc (first ++ flags) issued (from 20 64 w ++ drop 84 w)
+      ∙ append-assoc first flags (issued ++ (from 20 64 w ++ drop 84 w))
+      ∙ ap (λ (r : List ℕ). first ++ r) arrays
       ∙ numbers
+
+  pub words-back : wordsOf (headOf w) ≡ w
+  words-back = sym (none-behind w long (told (headOf w))) ∙ told-back
 
 -- a head whose fields fit comes back
 pub record Fits (head : Head) : Type 0 where
@@ -119,39 +127,50 @@ pub record Fits (head : Head) : Type 0 where
   pub issued-low : belowB limit (head .issued) ≡ true
   pub all-ends : length (head .ends) ≡ 64
 
-module _ (head : Head) (f : Fits head) where
+-- the fields that tell what a store holds, read from their words, whatever comes behind
+module _ (head : Head) (f : Fits head) (behind : List ℕ) where
+  abbrev words : List ℕ
+  words = told head ++ behind
+
   flags-long : length (map wordOf (head .taken)) ≡ 8
   flags-long = length-map (head .taken) wordOf ∙ f .eight-taken
 
-  behind-four : drop 4 (wordsOf head) ≡ map wordOf (head .taken) ++ (head .issued ++ head .ends)
-  behind-four = append-assoc (map wordOf (head .taken)) (head .issued) (head .ends)
+  behind-four : drop 4 words ≡ map wordOf (head .taken) ++ (head .issued ++ (head .ends ++ behind))
+  behind-four =
+      append-assoc (map wordOf (head .taken) ++ head .issued) (head .ends) behind
+      ∙ append-assoc (map wordOf (head .taken)) (head .issued) (head .ends ++ behind)
 
-  taken-part : from 4 8 (wordsOf head) ≡ map wordOf (head .taken)
-  taken-part = ap (take 8) behind-four ∙ take-at (map wordOf (head .taken)) (head .issued ++ head .ends) 8 flags-long
+  taken-part : from 4 8 words ≡ map wordOf (head .taken)
+  taken-part = ap (take 8) behind-four ∙ take-at (map wordOf (head .taken)) (head .issued ++ (head .ends ++ behind)) 8 flags-long
 
-  behind-twelve : drop 12 (wordsOf head) ≡ head .issued ++ head .ends
+  behind-twelve : drop 12 words ≡ head .issued ++ (head .ends ++ behind)
   behind-twelve =
-      sym (drop-drop 8 4 (wordsOf head)) ∙ ap (drop 8) behind-four
-      ∙ drop-at (map wordOf (head .taken)) (head .issued ++ head .ends) 8 flags-long
+      sym (drop-drop 8 4 words) ∙ ap (drop 8) behind-four
+      ∙ drop-at (map wordOf (head .taken)) (head .issued ++ (head .ends ++ behind)) 8 flags-long
 
-  issued-part : from 12 8 (wordsOf head) ≡ head .issued
-  issued-part = ap (take 8) behind-twelve ∙ take-at (head .issued) (head .ends) 8 (f .eight-issued)
+  issued-part : from 12 8 words ≡ head .issued
+  issued-part = ap (take 8) behind-twelve ∙ take-at (head .issued) (head .ends ++ behind) 8 (f .eight-issued)
 
-  ends-part : from 20 64 (wordsOf head) ≡ head .ends
-  ends-part =
-      ap (take 64) (sym (drop-drop 8 12 (wordsOf head)) ∙ ap (drop 8) behind-twelve
-      ∙ drop-at (head .issued) (head .ends) 8 (f .eight-issued))
-      ∙ take-all 64 (head .ends) (omega (arith, f .all-ends))
+  behind-twenty : drop 20 words ≡ head .ends ++ behind
+  behind-twenty = sym (drop-drop 8 12 words) ∙ ap (drop 8) behind-twelve ∙ drop-at (head .issued) (head .ends ++ behind) 8 (f .eight-issued)
 
-  pub head-back : headOf (wordsOf head) ≡ head
-  head-back =
-      λ i.
-      record {
-        used = head .used;
-        oldest = number-back (head .oldest) (f .oldest-low) i;
-        checkpoint = number-back (head .checkpoint) (f .checkpoint-low) i;
-        tip = number-back (head .tip) (f .tip-low) i;
-        taken = (ap (map flagOf) taken-part ∙ word-flags (head .taken)) i;
-        issued = (ap (map numberIn) issued-part ∙ numbers-back (head .issued) (f .issued-low)) i;
-        ends = ends-part i;
-      }
+  ends-part : from 20 64 words ≡ head .ends
+  ends-part = ap (take 64) behind-twenty ∙ take-at (head .ends) behind 64 (f .all-ends)
+
+  pub behind-told : drop 84 words ≡ behind
+  behind-told = sym (drop-drop 64 20 words) ∙ ap (drop 64) behind-twenty ∙ drop-at (head .ends) behind 64 (f .all-ends)
+
+  pub told-read : headOf words ≡ headWith (headOf words) (head .used) (head .oldest) (head .checkpoint) (head .tip)
+      (head .taken) (head .issued) (head .ends)
+  told-read i =
+      headWith (headOf words)
+      (head .used)
+      (number-back (head .oldest) (f .oldest-low) i)
+      (number-back (head .checkpoint) (f .checkpoint-low) i)
+      (number-back (head .tip) (f .tip-low) i)
+      ((ap (map flagOf) taken-part ∙ word-flags (head .taken)) i)
+      ((ap (map numberIn) issued-part ∙ numbers-back (head .issued) (f .issued-low)) i)
+      (ends-part i)
+
+pub head-back : (head : Head) → Fits head → headOf (wordsOf head) ≡ head
+head-back head f = ap headOf (sym (append-nil (wordsOf head))) ∙ told-read head f []

@@ -8,6 +8,10 @@ use lib.ListN.{length, getD, take, drop}
 use Rattle.layout.specs.declared.head.Head.{Head}
 use Rattle.layout.specs.Tests.{allOf}
 
+-- how many words a head has
+abbrev pub headSize : ℕ
+headSize = 84
+
 -- 2^32
 abbrev pub limit : ℕ
 limit = 4294967296
@@ -57,7 +61,7 @@ belowB bound (w ∷ words) = ltb w bound && belowB bound words
 abbrev pub headB : List ℕ → Bool
 headB words =
     allOf
-    (eqb (length words) 84
+    (eqb (length words) headSize
     ∷ belowB limit (from 1 3 words)
     ∷ belowB 2 (from 4 8 words)
     ∷ belowB limit (from 12 8 words)

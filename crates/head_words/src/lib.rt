@@ -4,7 +4,7 @@ ghost use mathlib.Core.Path.{_≡_};
 ghost use mathlib.Core.List.{map, _++_};
 ghost use Prim.Native.Nat.{_+_, _≤_};
 ghost use lib.ListN.{length, take, drop, set};
-ghost use Rattle.head_words.specs.HeadWords.{flagOf, wordOf, numberIn, headOf, wordsOf, belowB, headB};
+ghost use Rattle.head_words.specs.HeadWords.{headSize, flagOf, wordOf, numberIn, headOf, wordsOf, belowB, headB};
 
 // How many words a head has.
 pub const HEAD_WORDS: usize = 84;
@@ -83,7 +83,7 @@ fn ends_of(words: &[u64]) -> [usize; 64]
 
 // The head that the words hold.
 pub fn unpack(words: &[u64]) -> Head
-    requires { ⌜ length (now words) ≡ 84 ⌝ }
+    requires { ⌜ length (now words) ≡ headSize ⌝ }
     ensures { λ r. ⌜ r ≡ headOf (now (words .entry)) ⌝ }
 {
     Head {
@@ -140,7 +140,7 @@ fn put_ends(ends: &[usize], words: &mut [u64], at: usize)
 
 // Puts the numbers of a head into the first four words.
 fn put_first(used: usize, oldest: u32, checkpoint: u32, tip: u32, words: &mut [u64])
-    requires { ⌜ length (now words) ≡ 84 ⌝ }
+    requires { ⌜ length (now words) ≡ headSize ⌝ }
     ensures { λ r. ⌜ now (words .exit) ≡ set (set (set (set (now (words .entry)) 0 used) 1 oldest) 2 checkpoint) 3 tip ⌝ }
 {
     words[0] = used as u64;
@@ -151,7 +151,7 @@ fn put_first(used: usize, oldest: u32, checkpoint: u32, tip: u32, words: &mut [u
 
 // Puts a head into its words.
 pub fn pack(head: Head, words: &mut [u64])
-    requires { ⌜ length (now words) ≡ 84 ⌝ }
+    requires { ⌜ length (now words) ≡ headSize ⌝ }
     ensures { λ r. ⌜ now (words .exit) ≡ wordsOf head ⌝ }
 {
     put_first(head.used, head.oldest, head.checkpoint, head.tip, words);

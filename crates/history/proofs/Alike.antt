@@ -16,8 +16,8 @@ use Rattle.answers.specs.declared.call.Read.the-variants.{Issue, Forward, Relea
 use Rattle.answers.specs.declared.call.Step.the-variants.{Commit, RollBack, Flush}
 use Rattle.history.specs.Named.{Named, step, read, ask, Call, calling, Response, done, forwarded, acceptedCalls, quotes}
 use Rattle.history.specs.Plain.{Verdict, accept, refuse, responseBy, leftBy, Line, Place, closed, reading, Plain, mapAt}
-use Rattle.history.specs.Plain.{shown, quoted, offersIn, grown, cutAbove, withPlace, checked, stepped, givenBy, given}
-use Rattle.history.specs.Plain.{changedBy, changed, loadedPlain}
+use Rattle.history.specs.Plain.{shown, quoted, offersIn, grown, cutAbove, withPlace, checked, stepped, answerTo, givenBy}
+use Rattle.history.specs.Plain.{given, changedBy, changed, loadedPlain}
 use Rattle.history.specs.Traces.{plainResponses}
 
 -- what quotes are read from: the whole maps, and the offers of each place (none at a closed one)
@@ -29,18 +29,21 @@ record Sketch : Type 0 where
 abbrev sketchOf : Plain → Sketch
 sketchOf p = record { line = p .line; offers = map offersIn (p .places) }
 
+-- a plain list with the maps of a sketch; a query quotes from these alone
+abbrev drawn : Sketch → Plain
+drawn s = record { line = s .line; checkpoint = 0; places = []; limits = record { table = 0; journal = 0 } }
+
 -- the offers of one place changed
 abbrev withOffers : Sketch → ℕ → List ℕ → Sketch
 withOffers s slot offers = record { line = s .line; offers = set (s .offers) slot offers }
 
--- what an accepted call quotes from a sketch; `done` stands for every answer that quotes nothing
+-- what an accepted call quotes from a sketch; `done` and a report stand for every answer that quotes nothing
 abbrev told : Sketch → Named → Response
 told s (step call) = done
 told s (read (Issue reader)) = done
 told s (read (Forward reader state)) = forwarded (shown (mapAt (s .line) state) (getD (s .offers) (reader .slot) []))
 told s (read (Release reader)) = done
-told s (ask (LookUp asked)) = quoted (find (asked .offer) (mapAt (s .line) (asked .state)))
-told s (ask WriteImage) = done
+told s (ask query) = answerTo (drawn s) query []
 
 -- what an accepted call leaves of a sketch
 abbrev moved : Sketch → Named → List ℕ → Sketch

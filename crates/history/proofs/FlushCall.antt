@@ -12,9 +12,10 @@ use Rattle.answers.specs.declared.answer.Check.the-variants.{Passed}
 use Rattle.answers.specs.declared.call.Step.the-variants.{Flush}
 use Rattle.layout.specs.States.{mapHere}
 use Rattle.views.specs.Trim.{trimmed}
-use Rattle.views.specs.View.{Store, View, encode, decode, Good, mapAt as viewMapAt}
+use Rattle.views.specs.View.{Store, View, decode, Good, mapAt as viewMapAt}
 use Rattle.views.proofs.States.{map-is}
 use Rattle.views.proofs.Views.{encoded-sound}
+use Rattle.snapshot.specs.Fresh.{freshHead}
 use Rattle.flushes.specs.Flush.{flushCheck}
 use Rattle.step_views.specs.StepViews.{flushedView}
 use Rattle.flushes.proofs.Flushing.{FlushOk, flush-ok}
@@ -22,7 +23,8 @@ use Rattle.step_views.proofs.OnViews.{flush-leaves}
 use Rattle.history.specs.Named.{step, calling, done}
 use Rattle.history.specs.Plain.{Test, met, accept, firstOf, Plain, tipOf, mapAt, checked, withCheckpoint, stateTests, stepTests}
 use Rattle.history.specs.Traces.{storeTransition}
-use Rattle.history.proofs.Stored.{storeOf, verdictOf, verdict-of, accepted-not, accepted-done, transitionBy, settle, view-back}
+use Rattle.history.proofs.Stored.{storeOf, stored, verdictOf, verdict-of, accepted-not, accepted-done, transitionBy}
+use Rattle.history.proofs.Stored.{settle, view-back}
 use Rattle.history.proofs.Stored.{store-shaped, table-long, past-two, checkpoint-is, tip-is, state-same}
 use Rattle.history.proofs.Views.{viewOf, Fit, view-map, flush-view, floor-later}
 
@@ -54,7 +56,8 @@ module _ (p : Plain) (f : Fit p) (state : ℕ) where
   -- the map in memory is the plain list's
   map-same : p .checkpoint ≤ state → state ≤ tipOf (p .line) → mapHere T J (s .head) state ≡ mapAt (p .line) state
   map-same low high =
-      map-is T J (s .head) (encoded-sound (viewOf p) (f .good)) state (omega (arith, checkpoint-is p f)) (omega (arith, tip-is p f))
+      map-is T J (s .head) (encoded-sound (freshHead 0 0) (viewOf p) (f .good)) state (omega (arith, checkpoint-is p f))
+      (omega (arith, tip-is p f))
       ∙ ap (λ (v : View). viewMapAt v state) (view-back p f)
       ∙ view-map p f state low high
 
@@ -97,7 +100,10 @@ module _ (p : Plain) (f : Fit p) (state : ℕ) where
       → let call = calling (step (Flush state)) list bytes in storeTransition s call list ≡ transitionBy p call (checked p call)
   flush-agrees list bytes =
       settle p (calling (step (Flush state)) list bytes) list flush-checks
-      (λ e i. record { response = done; next = (flush-leaves T J (s .head) (store-shaped p f) state e .is ∙ ap encode (view-flushed e)) i })
+      (λ e i. record {
+        response = done;
+        next = stored p f _ (flush-leaves T J (s .head) (store-shaped p f) state e .is) (view-flushed e) i;
+      })
 
   pub flush-fit : firstOf (stepTests p (Flush state) []) ≡ accept → Fit flushed
   flush-fit e = flush-fits (accepted-done _ (flush-checks ∙ e))

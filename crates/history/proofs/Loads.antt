@@ -22,6 +22,7 @@ use Rattle.layout.specs.Clauses.{lengthsB}
 use Rattle.views.specs.View.{Store, viewTable, encode, Good}
 use Rattle.layout.proofs.Holds.{first-holds, all-none}
 use Rattle.snapshot.specs.Snapshots.{loadCheck}
+use Rattle.snapshot.specs.Fresh.{freshHead}
 use Rattle.snapshot.specs.FreshView.{freshView}
 use Rattle.snapshot.proofs.ImagesAccepted.{load-ok}
 use Rattle.snapshot.proofs.OnViews.{load-leaves}
@@ -82,7 +83,7 @@ module _ (lent : Store) (image : List ℕ) (r : InRange lent) where
 
   module _ (e : loadCheck (lent .table) (lent .journal) image ≡ Passed) where
     pub load-after : storeIn (settledBy Passed lent image .lent) ≡ storeOf (loadedPlain (lengthsOf lent) image)
-    load-after = load-leaves (lent .table) (lent .journal) image e .is ∙ ap encode fresh-view
+    load-after = load-leaves (lent .table) (lent .journal) image e .is ∙ ap (encode (freshHead 0 0)) fresh-view
 
     pub load-fit : Fit (loadedPlain (lengthsOf lent) image)
     unfolding leastOf All

@@ -48,7 +48,7 @@ use Rattle.history.specs.Plain.{offersAt, imageAt, slotTests, stateTests
 use Rattle.history.proofs.Lines.{Whole, map-at, carried, between-changes, between-same, between-join}
 use Rattle.history.proofs.Views.{viewOf, Fit, slotOf, place-range, view-map, view-between, issue-view, close-view}
 use Rattle.history.proofs.Views.{floor-same, floor-up}
-use Rattle.history.proofs.Stored.{storeOf, verdictOf, verdict-of, accepted-done, transitionBy, settle, view-back}
+use Rattle.history.proofs.Stored.{storeOf, stored, verdictOf, verdict-of, accepted-done, transitionBy, settle, view-back}
 use Rattle.history.proofs.Stored.{store-shaped, past-two, checkpoint-is, tip-is, state-same, open-same}
 
 -- a read set shows the offers of a list's words
@@ -213,7 +213,7 @@ module _ (p : Plain) (f : Fit p) where
         settle p (calling (read (Issue reader)) list bytes) list issue-checks
         (λ e i. record {
           response = filled (fills e i);
-          next = (issue-leaves T J (s .head) (store-shaped p f) reader list e .is ∙ ap encode (view-opened e)) i;
+          next = stored p f _ (issue-leaves T J (s .head) (store-shaped p f) reader list e .is) (view-opened e) i;
         })
 
     pub issue-fit : firstOf (readTests p (Issue reader) list) ≡ accept → Fit (withPlace p slot (reading (p .checkpoint) (map offerOf list)))
@@ -271,7 +271,7 @@ module _ (p : Plain) (f : Fit p) where
         settle p (calling (read (Release reader)) list bytes) list release-checks
         (λ e i. record {
           response = done;
-          next = (release-leaves T J (s .head) (store-shaped p f) reader e .is ∙ ap encode (view-closed (reader .slot))) i;
+          next = stored p f _ (release-leaves T J (s .head) (store-shaped p f) reader e .is) (view-closed (reader .slot)) i;
         })
 
     pub release-fit : firstOf (readTests p (Release reader) []) ≡ accept → Fit (withPlace p (reader .slot) closed)
@@ -343,7 +343,7 @@ module _ (p : Plain) (f : Fit p) where
         settle p (calling (read (Forward reader state)) list bytes) words forward-checks
         (λ e i. record {
           response = forwarded (reads-are e i);
-          next = (forward-leaves T J (s .head) (store-shaped p f) reader state words e .is ∙ ap encode (view-closed (reader .slot))) i;
+          next = stored p f _ (forward-leaves T J (s .head) (store-shaped p f) reader state words e .is) (view-closed (reader .slot)) i;
         })
 
     pub forward-fit : firstOf (readTests p (Forward reader state) []) ≡ accept → Fit (withPlace p (reader .slot) closed)

@@ -10,7 +10,7 @@ use lib.ListN.{length}
 use Rattle.changes.specs.Lists.{listB}
 use Rattle.answers.specs.declared.answer.Check.the-variants.{Passed}
 use Rattle.answers.specs.declared.call.Step.the-variants.{Commit, RollBack}
-use Rattle.views.specs.View.{Store, View, encode, decode, Good}
+use Rattle.views.specs.View.{Store, View, decode, Good}
 use Rattle.commits.specs.Commit.{commitCheck}
 use Rattle.rollbacks.specs.RollBack.{rollCheck}
 use Rattle.step_views.specs.StepViews.{commitView, rollView}
@@ -22,7 +22,8 @@ use Rattle.history.specs.Plain.{met, accept, firstOf, Plain, tipOf, stat
 use Rattle.history.specs.Traces.{storeTransition}
 use Rattle.history.proofs.Lines.{grown-tip, grown-whole, cut-tip, cut-whole}
 use Rattle.history.proofs.Views.{viewOf, Fit, floor-most, commit-view, roll-view}
-use Rattle.history.proofs.Stored.{storeOf, verdictOf, verdict-of, accepted-done, transitionBy, settle, view-back, store-shaped}
+use Rattle.history.proofs.Stored.{storeOf, stored, verdictOf, verdict-of, accepted-done, transitionBy, settle, view-back}
+use Rattle.history.proofs.Stored.{store-shaped}
 use Rattle.history.proofs.Stored.{journal-long, past-two, checkpoint-is, tip-is, state-same, held-same, used-same}
 
 module _ (p : Plain) (f : Fit p) where
@@ -56,7 +57,10 @@ module _ (p : Plain) (f : Fit p) where
         ≡ transitionBy p call (checked p call)
     commit-agrees bytes =
         settle p (calling (step Commit) list bytes) list commit-checks
-        (λ e i. record { response = done; next = (commit-leaves T J (s .head) (store-shaped p f) list e .is ∙ ap encode view-committed) i })
+        (λ e i. record {
+          response = done;
+          next = stored p f _ (commit-leaves T J (s .head) (store-shaped p f) list e .is) view-committed i;
+        })
 
     pub commit-fit : firstOf (stepTests p Commit list) ≡ accept → Fit (withLine p (grown (p .line) list))
     commit-fit e =
@@ -104,7 +108,10 @@ module _ (p : Plain) (f : Fit p) where
         → let call = calling (step (RollBack state)) list bytes in storeTransition s call list ≡ transitionBy p call (checked p call)
     roll-agrees list bytes =
         settle p (calling (step (RollBack state)) list bytes) list roll-checks
-        (λ e i. record { response = done; next = (roll-leaves T J (s .head) (store-shaped p f) state e .is ∙ ap encode (view-rolled e)) i })
+        (λ e i. record {
+          response = done;
+          next = stored p f _ (roll-leaves T J (s .head) (store-shaped p f) state e .is) (view-rolled e) i;
+        })
 
     pub roll-fit : firstOf (stateTests p state) ≡ accept → Fit (withLine p (cutAbove (p .line) state))
     roll-fit e = roll-fits (accepted-done _ (roll-checks ∙ e))

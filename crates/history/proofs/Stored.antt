@@ -19,7 +19,8 @@ use Rattle.soundness.specs.Sound.{soundB}
 use Rattle.layout.specs.States.{heldOf}
 use Rattle.views.specs.View.{Store, View, flat, encode, decode, Shaped}
 use Rattle.soundness.proofs.Sounds.{facts-sound}
-use Rattle.views.proofs.Views.{encoded-shaped, encoded-sound, decoded}
+use Rattle.views.proofs.Views.{encoded-shaped, encoded-sound, decoded, reframed}
+use Rattle.snapshot.specs.Fresh.{freshHead}
 use Rattle.commits.specs.Commit.{usedOf}
 use Rattle.step_views.proofs.CommitViews.{held-is, used-is}
 use Rattle.calls.specs.Lent.{Left, Meaning}
@@ -33,14 +34,18 @@ use Rattle.history.proofs.Views.{viewOf, Fit, floor-most, open-at, held
 
 -- the memory of the store that does what the plain list does
 abbrev pub storeOf : Plain → Store
-storeOf p = encode (viewOf p)
+storeOf p = encode (freshHead 0 0) (viewOf p)
 
 module _ (p : Plain) (f : Fit p) where
   pub view-back : decode (storeOf p) ≡ viewOf p
-  view-back = decoded (viewOf p) (f .good)
+  view-back = decoded (freshHead 0 0) (viewOf p) (f .good)
 
   pub store-shaped : Shaped (storeOf p .head)
-  store-shaped = encoded-shaped (viewOf p) (f .good)
+  store-shaped = encoded-shaped (freshHead 0 0) (viewOf p) (f .good)
+
+  -- what a call leaves of its memory, if it is the encoding of the view of a plain list
+  pub stored : {t : Store} {v : View} (q : Plain) → t ≡ encode (storeOf p .head) v → v ≡ viewOf q → t ≡ storeOf q
+  stored q is same = is ∙ ap (encode (storeOf p .head)) same ∙ reframed (freshHead 0 0) (viewOf p) (viewOf q)
 
   pub table-long : length (storeOf p .table) ≡ p .limits .table
   unfolding decode viewOf
@@ -54,7 +59,7 @@ module _ (p : Plain) (f : Fit p) where
   in-range = ap₂ lengthsB table-long journal-long ∙ f .range
 
   sound : soundB (storeOf p .table) (storeOf p .journal) (storeOf p .head) ≡ true
-  sound = facts-sound (storeOf p .table) (storeOf p .journal) (storeOf p .head) (encoded-sound (viewOf p) (f .good))
+  sound = facts-sound (storeOf p .table) (storeOf p .journal) (storeOf p .head) (encoded-sound (freshHead 0 0) (viewOf p) (f .good))
 
   -- "In the named calls 1 and 2 don't arise"
   pub past-two : (gs : List Test)
@@ -79,16 +84,16 @@ module _ (p : Plain) (f : Fit p) where
   state-same state = ap₂ (λ (a b : ℕ). asked (ltb state a) 11 ∷ asked (ltb b state) 11 ∷ []) checkpoint-is tip-is
 
   pub held-same : heldOf (storeOf p .head) ≡ length (heldLists p)
-  held-same = held-is (viewOf p) (f .good) ∙ ap length (held-lists p f)
+  held-same = held-is (freshHead 0 0) (viewOf p) (f .good) ∙ ap length (held-lists p f)
 
   pub used-same : usedOf (storeOf p .head) ≡ length (flat (heldLists p))
-  used-same = used-is (viewOf p) (f .good) ∙ ap (λ (ds : List (List ℕ)). length (flat ds)) (held-lists p f)
+  used-same = used-is (freshHead 0 0) (viewOf p) (f .good) ∙ ap (λ (ds : List (List ℕ)). length (flat ds)) (held-lists p f)
 
   pub open-same : (slot : ℕ) → getD (storeOf p .head .taken) slot false ≡ openAt p slot
   unfolding encode viewOf
   open-same slot = open-at p slot
 
--- an outcome as a verdict, and the unit's grounds as the plain list's
+-- a check as a verdict, and the unit's grounds as the plain list's
 abbrev pub verdictOf : Check → Verdict
 verdictOf Passed = accept
 verdictOf (Refused ground) = refuse (numberOf ground)

@@ -65,21 +65,43 @@ release slot = calling (read (Release (record { slot = slot }))) [] []
 abbrev pub writeImage : List ℕ → Call
 writeImage out = calling (ask WriteImage) [] out
 
+-- what two stores that accept the same calls must answer alike
+pub data Quote : Type 0 where
+  -- a lookup: the offer's price, or none
+  priced : ℕ → Quote
+  unpriced : Quote
+  -- "A forwarded read is the read set's words after an accepted forward."
+  brought : List ℕ → Quote
+
+-- what a query answers besides
+pub data Report : Type 0 where
+  -- the count of the bytes written, and the bytes lent as they are then
+  image : ℕ → List ℕ → Report
+
 -- what a call answers, with what it leaves in the caller's words or bytes
 pub data Response : Type 0 where
   -- "the answer is the number alone"
   refused : ℕ → Response
   -- a commit, rollback, flush or release
   done : Response
-  -- a lookup: the offer's price, or none
-  price : ℕ → Response
-  noPrice : Response
   -- an issue: the list as it was filled
   filled : List ℕ → Response
-  -- "A forwarded read is the read set's words after an accepted forward."
-  forwarded : List ℕ → Response
-  -- the count of the bytes written, and the bytes lent as they are then
-  written : ℕ → List ℕ → Response
+  -- a lookup or a forward
+  quote : Quote → Response
+  -- any other query
+  report : Report → Response
+
+abbrev pub price : ℕ → Response
+price p = quote (priced p)
+
+abbrev pub noPrice : Response
+noPrice = quote unpriced
+
+abbrev pub forwarded : List ℕ → Response
+forwarded words = quote (brought words)
+
+abbrev pub written : ℕ → List ℕ → Response
+written count bytes = report (image count bytes)
 
 -- an accepted call with its value, and the words and bytes that it leaves
 abbrev pub acceptedAs : Named → ℕ → List ℕ → List ℕ → Response
@@ -103,11 +125,9 @@ pub record Transition (S : Type 0) : Type 0 where
 abbrev pub acceptedB : Response → Bool
 acceptedB (refused n) = false
 acceptedB done = true
-acceptedB (price p) = true
-acceptedB noPrice = true
 acceptedB (filled l) = true
-acceptedB (forwarded l) = true
-acceptedB (written n l) = true
+acceptedB (quote q) = true
+acceptedB (report r) = true
 
 -- the list among a call's arguments
 abbrev pub listIn : Named → List ℕ → List ℕ
@@ -145,8 +165,6 @@ unfoldable pub quotes : List Response → List Response
 quotes [] = []
 quotes (refused n ∷ responses) = quotes responses
 quotes (done ∷ responses) = quotes responses
-quotes (price p ∷ responses) = price p ∷ quotes responses
-quotes (noPrice ∷ responses) = noPrice ∷ quotes responses
 quotes (filled l ∷ responses) = quotes responses
-quotes (forwarded l ∷ responses) = forwarded l ∷ quotes responses
-quotes (written n l ∷ responses) = quotes responses
+quotes (quote q ∷ responses) = quote q ∷ quotes responses
+quotes (report r ∷ responses) = quotes responses

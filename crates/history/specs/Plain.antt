@@ -40,6 +40,11 @@ firstOf [] = accept
 firstOf (met true n ∷ grounds) = refuse n
 firstOf (met false n ∷ grounds) = firstOf grounds
 
+-- a query: its grounds, and what it gives
+pub record Asking : Type 0 where
+  pub tests : List Test
+  pub gives : Response
+
 -- what an accepted call gives or leaves, or else what a refused one does
 abbrev pub responseBy : Verdict → Response → Response
 responseBy accept response = response
@@ -152,9 +157,21 @@ module _ (p : Plain) where
   readTests (Forward reader state) list = slotTests reader ++ (met (not (openAt p (reader .slot))) 5 ∷ stateTests p state)
   readTests (Release reader) list = slotTests reader ++ (met (not (openAt p (reader .slot))) 5 ∷ [])
 
+  -- a query changes nothing: its grounds, and what it gives where it is accepted
+  abbrev pub asking : Query → List ℕ → Asking
+  -- "A lookup reads the map of the state named."
+  asking (LookUp asked) bytes = record {
+    tests = met (leb (2 ^ 31) (asked .offer)) 6 ∷ stateTests p (asked .state);
+    gives = quoted (find (asked .offer) (mapAt (p .line) (asked .state)));
+  }
+  -- "bytes past it are unchanged"
+  asking WriteImage bytes = record {
+    tests = met (ltb (length bytes) (length (imageAt p))) 17 ∷ [];
+    gives = written (length (imageAt p)) (imageAt p ++ drop (length (imageAt p)) bytes);
+  }
+
   abbrev pub queryTests : Query → List ℕ → List Test
-  queryTests (LookUp asked) bytes = met (leb (2 ^ 31) (asked .offer)) 6 ∷ stateTests p (asked .state)
-  queryTests WriteImage bytes = met (ltb (length bytes) (length (imageAt p))) 17 ∷ []
+  queryTests query bytes = asking query bytes .tests
 
   abbrev pub tests : Named → List ℕ → List ℕ → List Test
   tests (step call) list bytes = stepTests call list
@@ -173,10 +190,7 @@ module _ (p : Plain) where
   givenRead (Release reader) list = done
 
   abbrev pub answerTo : Query → List ℕ → Response
-  -- "A lookup reads the map of the state named."
-  answerTo (LookUp asked) bytes = quoted (find (asked .offer) (mapAt (p .line) (asked .state)))
-  -- "bytes past it are unchanged"
-  answerTo WriteImage bytes = written (length (imageAt p)) (imageAt p ++ drop (length (imageAt p)) bytes)
+  answerTo query bytes = asking p query bytes .gives
 
   abbrev pub givenBy : Named → List ℕ → List ℕ → Response
   givenBy (step call) list bytes = done

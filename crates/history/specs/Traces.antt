@@ -12,8 +12,8 @@ use Rattle.answers.specs.Answers.{Said, accepted, refused as refusedBy, without
 use Rattle.views.specs.View.{Store, Limits}
 use Rattle.calls.specs.Lent.{Lent, lent, Left}
 use Rattle.calls.specs.Meaning.{performed}
-use Rattle.history.specs.Named.{Named, step, read, ask, unitCall, Call, Response, refused, done, price, noPrice, filled, forwarded}
-use Rattle.history.specs.Named.{written, responseTo, Transition, acceptedB}
+use Rattle.history.specs.Named.{Named, step, read, ask, unitCall, Call, Response, refused, done, noPrice, filled, quote, report}
+use Rattle.history.specs.Named.{responseTo, Transition, acceptedB}
 use Rattle.history.specs.Plain.{Verdict, accept, refuse, Plain, plainTransition, loadChecked, loadedPlain}
 
 -- a call, with words that are lent to it as read set if it is a forward on a slot that is not open
@@ -47,10 +47,8 @@ abbrev pub openedBy : Response → List ReadSet → ℕ → List ReadSet
 openedBy (filled l) sets slot = set sets slot (holds l)
 openedBy (refused n) sets slot = sets
 openedBy done sets slot = sets
-openedBy (price p) sets slot = sets
-openedBy noPrice sets slot = sets
-openedBy (forwarded l) sets slot = sets
-openedBy (written n l) sets slot = sets
+openedBy (quote q) sets slot = sets
+openedBy (report r) sets slot = sets
 
 abbrev pub readSetsAfter : List ReadSet → Named → Response → List ReadSet
 readSetsAfter sets (step call) response = sets

@@ -5,50 +5,30 @@ use mathlib.Core.List.{List}
 use Prim.Native.Nat.{ℕ}
 use Rattle.layout.specs.declared.head.Head.{Head}
 
+-- the head with all that tells what its store holds; a field that calls carry along unread stays as it was
+abbrev pub headWith : Head → ℕ → ℕ → ℕ → ℕ → List Bool → List ℕ → List ℕ → Head
+headWith head used oldest checkpoint tip taken issued ends = record {
+  used = used;
+  oldest = oldest;
+  checkpoint = checkpoint;
+  tip = tip;
+  taken = taken;
+  issued = issued;
+  ends = ends;
+}
+
 -- the head of a store whose table holds the map at this checkpoint in so many words: flush
 abbrev pub withTable : Head → ℕ → ℕ → Head
-withTable head used checkpoint = record {
-  used = used;
-  oldest = head .oldest;
-  checkpoint = checkpoint;
-  tip = head .tip;
-  taken = head .taken;
-  issued = head .issued;
-  ends = head .ends;
-}
+withTable head used checkpoint = headWith head used (head .oldest) checkpoint (head .tip) (head .taken) (head .issued) (head .ends)
 
 -- the head of a store whose held steps lead to this tip and end at these marks: commit, rollback
 abbrev pub withSteps : Head → ℕ → List ℕ → Head
-withSteps head tip ends = record {
-  used = head .used;
-  oldest = head .oldest;
-  checkpoint = head .checkpoint;
-  tip = tip;
-  taken = head .taken;
-  issued = head .issued;
-  ends = ends;
-}
+withSteps head tip ends = headWith head (head .used) (head .oldest) (head .checkpoint) tip (head .taken) (head .issued) ends
 
 -- the head of a store whose slots are open where this says so, each issued at its number: issue, forward, release
 abbrev pub withSlots : Head → List Bool → List ℕ → Head
-withSlots head taken issued = record {
-  used = head .used;
-  oldest = head .oldest;
-  checkpoint = head .checkpoint;
-  tip = head .tip;
-  taken = taken;
-  issued = issued;
-  ends = head .ends;
-}
+withSlots head taken issued = headWith head (head .used) (head .oldest) (head .checkpoint) (head .tip) taken issued (head .ends)
 
 -- the head of a store whose held steps lead on from this floor and end at these marks: trim
 abbrev pub withFloor : Head → ℕ → List ℕ → Head
-withFloor head oldest ends = record {
-  used = head .used;
-  oldest = oldest;
-  checkpoint = head .checkpoint;
-  tip = head .tip;
-  taken = head .taken;
-  issued = head .issued;
-  ends = ends;
-}
+withFloor head oldest ends = headWith head (head .used) oldest (head .checkpoint) (head .tip) (head .taken) (head .issued) ends

@@ -1,4 +1,4 @@
--- A choice by a test whose outcome is known.
+-- A choice by a test whose status is known.
 -- Assumes nothing.
 use mathlib.Core.Path.{_≡_, ap}
 use mathlib.Core.Bool.{Bool, true, false, cond}

@@ -22,7 +22,7 @@ use Rattle.layout.specs.Tests.{allOf}
 use Rattle.calls.specs.Lent.{Left, lent}
 use Rattle.calls.specs.Meaning.{performed}
 use Rattle.unit.specs.Serve.{tallyOn}
-use Rattle.head_words.specs.HeadWords.{headOf, wordsOf, headB}
+use Rattle.head_words.specs.HeadWords.{headSize, headOf, wordsOf, headB}
 use Rattle.lent.specs.Codes.{codeOf, valueOf}
 
 -- "The store isn't sound (clear and load don't test this)."
@@ -37,9 +37,9 @@ testsStore (Step call) = true
 testsStore (Read call) = true
 testsStore (Ask query) = true
 
--- a head of 84 words and a tally of 3, and words that fit the head's fields where the call tests the store
+-- a head of all its words and a tally of 3, and words that fit the head's fields where the call tests the store
 abbrev pub lentB : List ℕ → List ℕ → Call → Bool
-lentB head tally call = allOf (eqb (length head) 84 ∷ eqb (length tally) 3 ∷ cond (testsStore call) (headB head) true ∷ [])
+lentB head tally call = allOf (eqb (length head) headSize ∷ eqb (length tally) 3 ∷ cond (testsStore call) (headB head) true ∷ [])
 
 abbrev pub tallyOf : List ℕ → Tally
 tallyOf words = counts (getD words 0 0) (getD words 1 0) (getD words 2 0)

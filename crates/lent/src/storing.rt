@@ -9,7 +9,7 @@ ghost use mathlib.Core.Path.{_≡_};
 ghost use mathlib.Core.Bool.{cond};
 ghost use lib.ListN.{length};
 ghost use Rattle.answers.specs.Answers.{acceptedB};
-ghost use Rattle.head_words.specs.HeadWords.{wordsOf};
+ghost use Rattle.head_words.specs.HeadWords.{headSize, wordsOf};
 ghost use Rattle.lent.specs.Lent.{tallyOf, tallyWords};
 
 // The tally that the words hold.
@@ -36,7 +36,7 @@ fn put_tally(words: &mut [u64], tally: Tally)
 
 // Puts the head of a reply into its words, where the call was accepted, and gives the answer.
 fn put_reply(words: &mut [u64], reply: Reply) -> Answer
-    requires { ⌜ length (now words) ≡ 84 ⌝ }
+    requires { ⌜ length (now words) ≡ headSize ⌝ }
     ensures { λ r. ⌜ (r ≡ reply .answer)
         × (now (words .exit) ≡ cond (acceptedB (reply .answer)) (wordsOf (reply .head)) (now (words .entry))) ⌝ }
 {
@@ -50,7 +50,7 @@ fn put_reply(words: &mut [u64], reply: Reply) -> Answer
 
 // Puts head and tally as a call left them into their words, and gives the answer.
 pub fn put_served(head: &mut [u64], tally: &mut [u64], served: Served) -> Answer
-    requires { ⌜ (length (now head) ≡ 84) × (length (now tally) ≡ 3) ⌝ }
+    requires { ⌜ (length (now head) ≡ headSize) × (length (now tally) ≡ 3) ⌝ }
     ensures { λ r. ⌜ (r ≡ served .reply .answer)
         × (now (head .exit) ≡ cond (acceptedB (served .reply .answer)) (wordsOf (served .reply .head)) (now (head .entry)))
         × (now (tally .exit) ≡ tallyWords (served .tally)) ⌝ }

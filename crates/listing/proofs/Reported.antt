@@ -1,12 +1,9 @@
 -- What is known of an image that was loaded into the listing's table.
 -- Assumes nothing.
 use mathlib.Core.Path.{_≡_, refl, sym, ap, ap₂, subst, _∙_}
-use mathlib.Core.List.{List, [], _∷_, _++_}
-use mathlib.Core.Logic.{inl, inr}
+use mathlib.Core.List.{List, _++_}
 use Prim.Native.Nat.{ℕ, _-_, _≤_, _<_}
 use native.Mathlib.Omega.{arith}
-use denote.Enum.Declared.{tagOf}
-use types.Run.{OneOf}
 use borrow.Author.Tests.{lt-ltb, le-ltb}
 use lib.ListN.{length, take, drop, replicate, length-append}
 use lib.Seq.{take-at}
@@ -15,11 +12,12 @@ use Rattle.answers.specs.declared.answer.Answer.the-variants.{Done, Refused as 
 use Rattle.answers.specs.declared.answer.Check.{Check}
 use Rattle.answers.specs.declared.answer.Check.the-variants.{Passed, Refused}
 use Rattle.answers.specs.declared.ground.Ground.{Ground}
+use Rattle.answers.specs.declared.ground.Ground.the-variants.{Lengths}
 use Rattle.answers.specs.Answers.{answered}
 use Rattle.answers.specs.First.{first}
 use Rattle.answers.specs.Numbers.{numberOf}
-use Rattle.answers.proofs.answer.Answer.{the-type}
 use Rattle.answers.proofs.Firsts.{new-is}
+use Rattle.answers.proofs.Telling.{Unlike, not-refused}
 use Rattle.image.specs.Image.{countIn, numberIn, wordsIn}
 use Rattle.image.proofs.Words.{words-in-length}
 use Rattle.layout.specs.declared.head.Head.{Head}
@@ -33,18 +31,12 @@ use Rattle.listing.specs.Report.{reportOf, byCheck, Rendered}
 
 -- an answer that names no ground
 abbrev pub NoGround : Answer → Type 0
-NoGround answer = OneOf (0 ∷ 1 ∷ 2 ∷ 3 ∷ []) (tagOf the-type answer)
-
-refused-not : (g : Ground) → NoGround (Away g) → ⊥
-refused-not g (inl e) = omega arith
-refused-not g (inr (inl e)) = omega arith
-refused-not g (inr (inr (inl e))) = omega arith
-refused-not g (inr (inr (inr e))) = omega arith
+NoGround answer = Unlike (Away Lengths) answer
 
 -- what the check of a call found, told from its answer
 passed-of : {answer : Answer} (check : Check) → answer ≡ answered check Done → NoGround answer → check ≡ Passed
 passed-of Passed e h = refl
-passed-of (Refused g) e h = absurd (refused-not g (subst NoGround e h))
+passed-of (Refused g) e h = absurd (not-refused g (subst NoGround e h))
 
 refused-of : {g : Ground} (check : Check) → Away g ≡ answered check Done → check ≡ Refused g
 refused-of Passed e = absurd (let z : _≡_ {A = ℕ} 0 1 = cc in omega arith)

@@ -35,13 +35,13 @@ use Rattle.read_views.proofs.SlotSets.{taken-set, issued-set, all-set, 
 abbrev pub closedIn : ℕ → Store → Store
 closedIn slot s = record { table = s .table; journal = s .journal; head = closedAt (s .head) slot }
 
-closed-encoded : (v : View) (slot : ℕ) → closedIn slot (encode v) ≡ encode (withSlot v slot closed)
+closed-encoded : (h : Head) (v : View) (slot : ℕ) → closedIn slot (encode h v) ≡ encode h (withSlot v slot closed)
 unfolding encode closedAt withSlot
-closed-encoded v slot i =
+closed-encoded h v slot i =
     record {
-      table = encode v .table;
-      journal = encode v .journal;
-      head = withSlots (encode v .head) (taken-set (v .slots) slot closed i) (issued-set (v .slots) slot closed i);
+      table = encode h v .table;
+      journal = encode h v .journal;
+      head = withSlots (encode h v .head) (taken-set (v .slots) slot closed i) (issued-set (v .slots) slot closed i);
     }
 
 closed-nearly : (v : View) (slot : ℕ) → Good v → Nearly (withSlot v slot closed)
@@ -61,18 +61,18 @@ module _ (table journal : List ℕ) (head : Head) (p : Shaped head) where
   closedView slot = trimmed (withSlot (decode here) slot closed)
 
   module _ (s : Sound table journal head) where
-    back : encode (decode here) ≡ here
+    back : encode head (decode here) ≡ here
     back = restored table journal head p s
 
-    closed-leaves : (slot : ℕ) → Encodes (trimStore (closedIn slot here)) (closedView slot)
+    closed-leaves : (slot : ℕ) → Encodes (trimStore (closedIn slot here)) head (closedView slot)
     closed-leaves slot =
         let near = closed-nearly (decode here) slot (decoded-good table journal head p s) in
         record {
           is =
               ap (λ (t : Store). trimStore (closedIn slot t)) (sym back)
-              ∙ ap trimStore (closed-encoded (decode here) slot)
-              ∙ trim-leaves (withSlot (decode here) slot closed) near;
-          good = trim-good (withSlot (decode here) slot closed) near;
+              ∙ ap trimStore (closed-encoded head (decode here) slot)
+              ∙ trim-leaves head (withSlot (decode here) slot closed) near;
+          good = trim-good head (withSlot (decode here) slot closed) near;
         }
 
     floor : decode here .checkpoint - length (decode here .old) ≡ head .oldest
@@ -103,14 +103,14 @@ module _ (table journal : List ℕ) (head : Head) (p : Shaped head) where
         ∙ ap (λ (l : List ℕ). holding (getD l slot 0)) numbers
 
   module _ (reader : Reader) (e : releaseCheck table journal head reader ≡ Passed) where
-    pub release-leaves : Encodes (trimStore (closedIn (reader .slot) here)) (closedView (reader .slot))
+    pub release-leaves : Encodes (trimStore (closedIn (reader .slot) here)) head (closedView (reader .slot))
     release-leaves = closed-leaves (release-ok table journal head reader e .sound) (reader .slot)
 
   module _ (reader : Reader) (state : ℕ) (words : List ℕ) (e : forwardCheck table journal head reader state words ≡ Passed) where
     ok : ForwardOk table journal head reader state words
     ok = forward-ok table journal head reader state words e
 
-    pub forward-leaves : Encodes (trimStore (closedIn (reader .slot) here)) (closedView (reader .slot))
+    pub forward-leaves : Encodes (trimStore (closedIn (reader .slot) here)) head (closedView (reader .slot))
     forward-leaves = closed-leaves (ok .sound) (reader .slot)
 
     -- the slot holds its number, and the read set has taken the steps from that number to the state

@@ -46,20 +46,20 @@ module _ (table journal : List ℕ) (head : Head) where
     iss : IssueOk table journal head reader list
     iss = issue-ok table journal head reader list e
 
-    back : encode (decode here) ≡ here
+    back : encode head (decode here) ≡ here
     back = restored table journal head p (iss .sound)
 
     abbrev openIn : Store → Store
     openIn s = record { table = s .table; journal = s .journal; head = opened (s .head) slot }
 
-    set-encoded : (v : View) → openIn (encode v) ≡ encode (withSlot v slot (holding (v .checkpoint)))
+    set-encoded : (v : View) → openIn (encode head v) ≡ encode head (withSlot v slot (holding (v .checkpoint)))
     unfolding encode opened withSlot
     set-encoded v i =
         record {
-          table = encode v .table;
-          journal = encode v .journal;
+          table = encode head v .table;
+          journal = encode head v .journal;
           head =
-              withSlots (encode v .head)
+              withSlots (encode head v .head)
               (taken-set (v .slots) slot (holding (v .checkpoint)) i)
               (issued-set (v .slots) slot (holding (v .checkpoint)) i);
         }
@@ -80,7 +80,7 @@ module _ (table journal : List ℕ) (head : Head) where
         (all-set (NotAbove (head .checkpoint)) (decode here .slots) slot (holding (head .checkpoint)) (g .below) (omega arith))
         (g .floor ∙ sym (least-set (head .checkpoint) (decode here .slots) slot free))
 
-    pub issue-leaves : Encodes (openIn here) (withSlot (decode here) slot (holding (head .checkpoint)))
+    pub issue-leaves : Encodes (openIn here) head (withSlot (decode here) slot (holding (head .checkpoint)))
     unfolding decode
     issue-leaves = record { is = ap openIn (sym back) ∙ set-encoded (decode here); good = issue-good }
 

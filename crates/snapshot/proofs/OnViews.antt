@@ -31,7 +31,7 @@ freshStore words number limits = record {
 }
 
 module _ (words : List ℕ) (number : ℕ) (limits : Limits) where
-  pub fresh-encoded : encode (freshView words number limits) ≡ freshStore words number limits
+  pub fresh-encoded : encode (freshHead 0 0) (freshView words number limits) ≡ freshStore words number limits
   unfolding encode freshView freshHead flat marksFrom
   fresh-encoded i =
       let fresh = freshHead (length words) number in
@@ -60,12 +60,12 @@ module _ (words : List ℕ) (number : ℕ) (limits : Limits) (m : Map words) (h 
       (freshStore words number limits .head)
   fresh-sound =
       subst (λ (s : Store). Sound (s .table) (s .journal) (s .head)) (fresh-encoded words number limits)
-      (encoded-sound (freshView words number limits) (fresh-good words number limits m h))
+      (encoded-sound (freshHead 0 0) (freshView words number limits) (fresh-good words number limits m h))
 
   pub fresh-decoded : decode (freshStore words number limits) ≡ freshView words number limits
   fresh-decoded =
       ap decode (sym (fresh-encoded words number limits))
-      ∙ decoded (freshView words number limits) (fresh-good words number limits m h)
+      ∙ decoded (freshHead 0 0) (freshView words number limits) (fresh-good words number limits m h)
 
 -- what lies in memory after each accepted call, and that it is sound
 abbrev limitsOf : List ℕ → List ℕ → Limits
@@ -74,6 +74,7 @@ limitsOf table journal = record { table = length table; journal = length journal
 module _ (table journal : List ℕ) where
   pub clear-leaves :
       Encodes (record { table = replicate (length table) 0; journal = replicate (length journal) 0; head = freshHead 0 0 })
+      (freshHead 0 0)
       (freshView [] 0 (limitsOf table journal))
   unfolding From All
   clear-leaves =
@@ -98,7 +99,7 @@ module _ (table journal : List ℕ) where
     ok = load-ok (length table) (length journal) image e
 
     -- "Loading gives floor, anchor and tip that number and no open place", and the image's map
-    pub load-leaves : Encodes loaded (freshView (wordsIn image) (numberIn image) (limitsOf table journal))
+    pub load-leaves : Encodes loaded (freshHead 0 0) (freshView (wordsIn image) (numberIn image) (limitsOf table journal))
     load-leaves =
         record {
           is =
@@ -133,7 +134,8 @@ module _ (table journal : List ℕ) (head : Head) where
       }
 
       -- "tip becomes anchor and all places close": the checkpoint's map under its number is left, and nothing else
-      pub restart-leaves : Encodes restarted (freshView (take (head .used) table) (head .checkpoint) (limitsOf table journal))
+      pub restart-leaves : Encodes restarted (freshHead 0 0)
+          (freshView (take (head .used) table) (head .checkpoint) (limitsOf table journal))
       restart-leaves =
           record {
             is =

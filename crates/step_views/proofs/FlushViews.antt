@@ -6,6 +6,7 @@ use Prim.Native.Nat.{ℕ, _+_, _-_, _≤_}
 use native.Mathlib.Omega.{arith}
 use lib.ListN.{length, take, drop, length-append, length-drop}
 use Rattle.layout.specs.Heads.{withSteps, withFloor}
+use Rattle.layout.specs.declared.head.Head.{Head}
 use Rattle.views.specs.Laid.{laidWords, laidMarks, Fits}
 use Rattle.views.specs.Trim.{trimmed}
 use Rattle.views.specs.View.{Store, View, heldSteps, tipOf, padded, leastSlot, openOf, issuedOf, encode, mapAt, viewTable, Good, Nearly}
@@ -21,21 +22,21 @@ use Rattle.step_views.proofs.RollViews.{split, steps-long}
 abbrev pub flushedIn : Store → ℕ → List ℕ → Store
 flushedIn s state m = record { table = padded (length (s .table)) m; journal = s .journal; head = flushedHead (s .head) (length m) state }
 
-module _ (v : View) (g : Good v) (state : ℕ) (low : v .checkpoint ≤ state) (high : state ≤ tipOf v)
+module _ (h : Head) (v : View) (g : Good v) (state : ℕ) (low : v .checkpoint ≤ state) (high : state ≤ tipOf v)
     (fits : length (mapAt v state) ≤ v .limits .table) where
   -- all held steps stay
   steps-same : heldSteps v ≡ heldSteps (flushedView v state)
   unfolding flushedView
-  steps-same = split v g state low high
+  steps-same = split h v g state low high
 
   old-long : length (flushedView v state .old) ≡ length (v .old) + (state - v .checkpoint)
   unfolding flushedView
-  old-long = omega (arith, length-append (v .old) (take (state - v .checkpoint) (v .steps)), steps-long v g state low high)
+  old-long = omega (arith, length-append (v .old) (take (state - v .checkpoint) (v .steps)), steps-long h v g state low high)
 
-  flush-encoded : flushedIn (encode v) state (mapAt v state) ≡ encode (flushedView v state)
+  flush-encoded : flushedIn (encode h v) state (mapAt v state) ≡ encode h (flushedView v state)
   unfolding encode flushedView flushedHead
   flush-encoded i =
-      let flushed = flushedHead (encode v .head) (length (mapAt v state)) state in
+      let flushed = flushedHead (encode h v .head) (length (mapAt v state)) state in
       record {
         table = padded (padded-length (v .limits .table) (v .base) (g .room) i) (mapAt v state);
         journal = laidWords (v .limits .journal) (steps-same i);
@@ -71,11 +72,11 @@ module _ (v : View) (g : Good v) (state : ℕ) (low : v .checkpoint ≤ state) (
           )
 
   -- the encoding of a view, flushed and trimmed, is the encoding of the view flushed and trimmed
-  pub flush-trimmed : trimStore (flushedIn (encode v) state (mapAt v state)) ≡ encode (trimmed (flushedView v state))
-  flush-trimmed = ap trimStore flush-encoded ∙ trim-leaves (flushedView v state) flushed-nearly
+  pub flush-trimmed : trimStore (flushedIn (encode h v) state (mapAt v state)) ≡ encode h (trimmed (flushedView v state))
+  flush-trimmed = ap trimStore flush-encoded ∙ trim-leaves h (flushedView v state) flushed-nearly
 
   pub flush-good : Good (trimmed (flushedView v state))
-  flush-good = trim-good (flushedView v state) flushed-nearly
+  flush-good = trim-good h (flushedView v state) flushed-nearly
 
 -- "A flush to the anchor changes nothing."
 pub flush-nothing : (v : View) → Good v → trimmed (flushedView v (v .checkpoint)) ≡ v

@@ -34,7 +34,7 @@ module _ (table journal : List ℕ) (head : Head) (p : Shaped head) where
   abbrev pub here : Store
   here = record { table = table; journal = journal; head = head }
 
-  same : Sound table journal head → encode (decode here) ≡ here
+  same : Sound table journal head → encode head (decode here) ≡ here
   same = restored table journal head p
 
   good : Sound table journal head → Good (decode here)
@@ -45,10 +45,12 @@ module _ (table journal : List ℕ) (head : Head) (p : Shaped head) where
     commit-met = commit-ok table journal head list e
 
     held-same : length (heldSteps (decode here)) ≡ heldOf head
-    held-same = sym (held-is (decode here) (good (commit-met .sound))) ∙ ap (λ (s : Store). heldOf (s .head)) (same (commit-met .sound))
+    held-same =
+        sym (held-is head (decode here) (good (commit-met .sound))) ∙ ap (λ (s : Store). heldOf (s .head)) (same (commit-met .sound))
 
     used-same : length (flat (heldSteps (decode here))) ≡ usedOf head
-    used-same = sym (used-is (decode here) (good (commit-met .sound))) ∙ ap (λ (s : Store). usedOf (s .head)) (same (commit-met .sound))
+    used-same =
+        sym (used-is head (decode here) (good (commit-met .sound))) ∙ ap (λ (s : Store). usedOf (s .head)) (same (commit-met .sound))
 
     room : length (heldSteps (decode here)) < 64
     room = omega (arith, held-same, commit-met .room)
@@ -58,14 +60,14 @@ module _ (table journal : List ℕ) (head : Head) (p : Shaped head) where
     limit = refl
 
     -- "Commit appends a list as state tip + 1."
-    pub commit-leaves : Encodes (committed here list) (commitView (decode here) list)
+    pub commit-leaves : Encodes (committed here list) head (commitView (decode here) list)
     commit-leaves =
         record {
           is =
               ap (λ (s : Store). committed s list) (sym (same (commit-met .sound)))
-              ∙ commit-encoded (decode here) (good (commit-met .sound)) list room;
+              ∙ commit-encoded head (decode here) (good (commit-met .sound)) list room;
           good =
-              commit-good (decode here) (good (commit-met .sound)) list room (commit-met .is-list)
+              commit-good head (decode here) (good (commit-met .sound)) list room (commit-met .is-list)
               (omega (arith, commit-met .fits, used-same, limit));
         }
 
@@ -85,13 +87,13 @@ module _ (table journal : List ℕ) (head : Head) (p : Shaped head) where
     high = omega (arith, tip-same, roll-met .high)
 
     -- "Rollback to s makes s the tip and zeroes the words above."
-    pub roll-leaves : Encodes (rolledBack here state) (rollView (decode here) state)
+    pub roll-leaves : Encodes (rolledBack here state) head (rollView (decode here) state)
     roll-leaves =
         record {
           is =
               ap (λ (s : Store). rolledBack s state) (sym (same (roll-met .sound)))
-              ∙ roll-encoded (decode here) (good (roll-met .sound)) state low high;
-          good = roll-good (decode here) (good (roll-met .sound)) state low high;
+              ∙ roll-encoded head (decode here) (good (roll-met .sound)) state low high;
+          good = roll-good head (decode here) (good (roll-met .sound)) state low high;
         }
 
   module _ (state : ℕ) (e : flushCheck table journal head state ≡ Passed) where
@@ -117,15 +119,15 @@ module _ (table journal : List ℕ) (head : Head) (p : Shaped head) where
     fits = omega (arith, flush-met .fits, ap length map-same)
 
     -- "Flush to s makes the book the map at s, and s the anchor."
-    pub flush-leaves : Encodes (trimStore (flushedIn here state (mapHere table journal head state)))
+    pub flush-leaves : Encodes (trimStore (flushedIn here state (mapHere table journal head state))) head
         (trimmed (flushedView (decode here) state))
     flush-leaves =
         record {
           is =
               ap (λ (m : List ℕ). trimStore (flushedIn here state m)) map-same
               ∙ ap (λ (s : Store). trimStore (flushedIn s state (mapAt (decode here) state))) (sym (same (flush-met .sound)))
-              ∙ flush-trimmed (decode here) (good (flush-met .sound)) state above below fits;
-          good = flush-good (decode here) (good (flush-met .sound)) state above below fits;
+              ∙ flush-trimmed head (decode here) (good (flush-met .sound)) state above below fits;
+          good = flush-good head (decode here) (good (flush-met .sound)) state above below fits;
         }
 
   abbrev pub afterFlush : ℕ → Store
@@ -141,7 +143,7 @@ module _ (table journal : List ℕ) (head : Head) (p : Shaped head) where
   unfolding decode
   accepted-nothing e =
       let s = flush-ok table journal head (head .checkpoint) e .sound in
-      made e ∙ flush-leaves (head .checkpoint) e .is ∙ ap encode (flush-nothing (decode here) (good s)) ∙ same s
+      made e ∙ flush-leaves (head .checkpoint) e .is ∙ ap (encode head) (flush-nothing (decode here) (good s)) ∙ same s
     where
       made : flushCheck table journal head (head .checkpoint) ≡ Passed
           → afterFlush (head .checkpoint) ≡ trimStore (flushedIn here (head .checkpoint) (mapHere table journal head (head .checkpoint)))

@@ -8,6 +8,7 @@ use lib.ListN.{length, take, drop, replicate, length-append, take-append-drop}
 use lib.Seq.{length-take-le}
 use Rattle.changes.specs.Runs.{startOf}
 use Rattle.layout.specs.Heads.{withSteps}
+use Rattle.layout.specs.declared.head.Head.{Head}
 use Rattle.views.specs.Laid.{flat, laidWords, laidMarks, Fits}
 use Rattle.views.specs.View.{Store, View, heldSteps, tipOf, encode, Good}
 use Rattle.views.proofs.Laid.{laid-end, laid-long, laid-cut, fits-front}
@@ -23,7 +24,7 @@ rolledBack s state = record {
   head = cutTo (s .head) (keptOf (s .head) state) state;
 }
 
-module _ (v : View) (g : Good v) (state : ℕ) (low : v .checkpoint ≤ state) (high : state ≤ tipOf v) where
+module _ (h : Head) (v : View) (g : Good v) (state : ℕ) (low : v .checkpoint ≤ state) (high : state ≤ tipOf v) where
   abbrev kept : List (List ℕ)
   kept = v .old ++ take (state - v .checkpoint) (v .steps)
 
@@ -39,16 +40,16 @@ module _ (v : View) (g : Good v) (state : ℕ) (low : v .checkpoint ≤ state) (
   pub steps-long : length (take (state - v .checkpoint) (v .steps)) ≡ state - v .checkpoint
   steps-long = length-take-le (state - v .checkpoint) (v .steps) (omega arith)
 
-  kept-is : keptOf (encode v .head) state ≡ length kept
+  kept-is : keptOf (encode h v .head) state ≡ length kept
   unfolding encode
   kept-is = omega (arith, length-append (v .old) (take (state - v .checkpoint) (v .steps)), steps-long, g .since)
 
-  end-is : startOf (encode v .head .ends) (keptOf (encode v .head) state) ≡ length (flat kept)
+  end-is : startOf (encode h v .head .ends) (keptOf (encode h v .head) state) ≡ length (flat kept)
   unfolding encode
   end-is = ap₂ (λ (ss : List (List ℕ)) (n : ℕ). startOf (laidMarks ss) n) split kept-is ∙ laid-end kept gone
 
-  journal-cut : cutAt (encode v .journal) (startOf (encode v .head .ends) (keptOf (encode v .head) state))
-      ≡ encode (rollView v state) .journal
+  journal-cut : cutAt (encode h v .journal) (startOf (encode h v .head .ends) (keptOf (encode h v .head) state))
+      ≡ encode h (rollView v state) .journal
   unfolding encode rollView
   journal-cut =
       let room = v .limits .journal in
@@ -58,8 +59,8 @@ module _ (v : View) (g : Good v) (state : ℕ) (low : v .checkpoint ≤ state) (
       ∙ ap (λ (ss : List (List ℕ)). take end (laidWords room ss) ++ replicate (room - end) 0) split
       ∙ laid-cut kept gone room .0
 
-  ends-cut : take (keptOf (encode v .head) state) (encode v .head .ends)
-      ++ replicate (64 - keptOf (encode v .head) state) 0 ≡ encode (rollView v state) .head .ends
+  ends-cut : take (keptOf (encode h v .head) state) (encode h v .head .ends)
+      ++ replicate (64 - keptOf (encode h v .head) state) 0 ≡ encode h (rollView v state) .head .ends
   unfolding encode rollView
   ends-cut =
       ap₂ (λ (n : ℕ) (ss : List (List ℕ)). take n (laidMarks ss) ++ replicate (64 - n) 0) kept-is split
@@ -70,13 +71,13 @@ module _ (v : View) (g : Good v) (state : ℕ) (low : v .checkpoint ≤ state) (
   tip-cut = omega (arith, steps-long)
 
   -- the encoding of a view, rolled back, is the encoding of the view rolled back
-  pub roll-encoded : rolledBack (encode v) state ≡ encode (rollView v state)
+  pub roll-encoded : rolledBack (encode h v) state ≡ encode h (rollView v state)
   unfolding encode rollView cutTo
   roll-encoded i =
       record {
-        table = encode v .table;
+        table = encode h v .table;
         journal = journal-cut i;
-        head = withSteps (encode v .head) (tip-cut i) (ends-cut i);
+        head = withSteps (encode h v .head) (tip-cut i) (ends-cut i);
       }
 
   pub roll-good : Good (rollView v state)

@@ -7,6 +7,7 @@ use native.Mathlib.Omega.{arith}
 use lib.ListN.{length, take, drop, replicate, length-append, length-drop, take-append-drop}
 use lib.Seq.{length-take-le}
 use Rattle.changes.specs.Runs.{startOf}
+use Rattle.layout.specs.declared.head.Head.{Head}
 use Rattle.layout.specs.Heads.{withFloor}
 use Rattle.layout.specs.States.{heldOf}
 use Rattle.views.specs.Laid.{flat, laidWords, laidMarks, Fits}
@@ -19,7 +20,7 @@ use Rattle.views.proofs.Setters.{good-old}
 abbrev pub trimStore : Store → Store
 trimStore s = record { table = s .table; journal = trimmedJournal (s .head) (s .journal); head = trimmedHead (s .head) }
 
-module _ (v : View) (g : Nearly v) where
+module _ (h : Head) (v : View) (g : Nearly v) where
   abbrev gone : ℕ
   gone = leastSlot (v .checkpoint) (v .slots) - (v .checkpoint - length (v .old))
 
@@ -44,41 +45,43 @@ module _ (v : View) (g : Nearly v) where
   held-fits : Fits room (a ++ r)
   held-fits = subst (Fits room) split (g .held)
 
-  held-is : heldOf (encode v .head) ≡ length (a ++ r)
+  held-is : heldOf (encode h v .head) ≡ length (a ++ r)
   unfolding encode
   held-is = omega (arith, length-append (v .old) (v .steps), g .since, ap length split)
 
-  floor-is : floorOf (encode v .head) ≡ v .checkpoint - length (drop gone (v .old))
+  floor-is : floorOf (encode h v .head) ≡ v .checkpoint - length (drop gone (v .old))
   unfolding encode
   floor-is =
       least-slots (v .checkpoint) (v .slots)
       ∙ omega (arith, length-drop gone (v .old), least-most (v .checkpoint) (v .slots), g .since, g .floor)
 
-  gone-is : goneSteps (encode v .head) ≡ length a
+  gone-is : goneSteps (encode h v .head) ≡ length a
   unfolding encode
   gone-is = ap (λ (n : ℕ). n - (v .checkpoint - length (v .old))) (least-slots (v .checkpoint) (v .slots)) ∙ sym a-long
 
-  words-are : goneWords (encode v .head) ≡ length (flat a)
+  words-are : goneWords (encode h v .head) ≡ length (flat a)
   unfolding encode
   words-are = ap₂ (λ (l : List (List ℕ)) (n : ℕ). startOf (laidMarks l) n) split gone-is ∙ laid-end a r
 
-  journal-is : trimmedJournal (encode v .head) (encode v .journal) ≡ laidWords room r
+  journal-is : trimmedJournal (encode h v .head) (encode h v .journal) ≡ laidWords room r
   unfolding encode trimmedJournal
   journal-is =
       ap₂ (λ (w : ℕ) (l : List (List ℕ)). drop w (laidWords room l) ++ replicate w 0) words-are split
       ∙ laid-moved a r room held-fits .0
 
   ends-are :
-      movedEnds (encode v .head .ends) (goneSteps (encode v .head)) (heldOf (encode v .head)) (goneWords (encode v .head)) ≡ laidMarks r
+      movedEnds (encode h v .head .ends) (goneSteps (encode h v .head)) (heldOf (encode h v .head))
+      (goneWords (encode h v .head)) ≡ laidMarks r
   unfolding encode
   ends-are =
-      ap₂ (λ (n w : ℕ). movedEnds (laidMarks (heldSteps v)) n (heldOf (encode v .head)) w) gone-is words-are
+      ap₂ (λ (n w : ℕ). movedEnds (laidMarks (heldSteps v)) n (heldOf (encode h v .head)) w) gone-is words-are
       ∙ ap₂ (λ (l : List (List ℕ)) (n : ℕ). movedEnds (laidMarks l) (length a) n (length (flat a))) split held-is
       ∙ laid-moved a r room held-fits .1
 
-  pub trim-leaves : trimStore (encode v) ≡ encode (trimmed v)
+  pub trim-leaves : trimStore (encode h v) ≡ encode h (trimmed v)
   unfolding encode trimmed trimmedHead
-  trim-leaves i = record { table = encode v .table; journal = journal-is i; head = withFloor (encode v .head) (floor-is i) (ends-are i) }
+  trim-leaves i =
+      record { table = encode h v .table; journal = journal-is i; head = withFloor (encode h v .head) (floor-is i) (ends-are i) }
 
   pub trim-good : Good (trimmed v)
   unfolding trimmed

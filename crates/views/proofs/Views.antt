@@ -1,6 +1,6 @@
 -- A sound store is the encoding of its view; the encoding of a good view is sound, and decodes to the view.
 -- Assumes nothing.
-use mathlib.Core.Path.{_≡_, sym, ap, ap₂, subst, _∙_}
+use mathlib.Core.Path.{_≡_, refl, sym, ap, ap₂, subst, _∙_}
 use mathlib.Core.Bool.{true}
 use mathlib.Core.List.{List, _++_, map}
 use Prim.Native.Nat.{ℕ, _+_, _-_, _<_}
@@ -52,7 +52,7 @@ module _ (table journal : List ℕ) (head : Head) (p : Shaped head) (s : Sound t
   slot-passes : (k : ℕ) → k < length (head .taken) → slotB (head .checkpoint) (head .taken) (head .issued) k ≡ true
   slot-passes k h = s .slots k (omega (arith, p .taken-8))
 
-  pub restored : encode (decode (record { table = table; journal = journal; head = head }))
+  pub restored : encode head (decode (record { table = table; journal = journal; head = head }))
       ≡ record { table = table; journal = journal; head = head }
   unfolding encode decode
   restored i =
@@ -100,7 +100,7 @@ module _ (table journal : List ℕ) (head : Head) (p : Shaped head) (s : Sound t
       oldest-is = omega (arith, old-long, s .low)
 
 -- a good view
-module _ (v : View) (g : Good v) where
+module _ (h : Head) (v : View) (g : Good v) where
   held-is : (v .checkpoint + length (v .steps)) - (v .checkpoint - length (v .old)) ≡ length (heldSteps v)
   held-is = omega (arith, length-append (v .old) (v .steps), g .since)
 
@@ -113,7 +113,7 @@ module _ (v : View) (g : Good v) where
   long : (length J ≡ v .limits .journal) × (length E ≡ 64)
   long = laid-long (v .limits .journal) (heldSteps v) (g .held)
 
-  pub encoded-shaped : Shaped (encode v .head)
+  pub encoded-shaped : Shaped (encode h v .head)
   unfolding encode
   encoded-shaped =
       record {
@@ -122,7 +122,7 @@ module _ (v : View) (g : Good v) where
         ends-64 = long .1;
       }
 
-  pub encoded-sound : Sound (encode v .table) (encode v .journal) (encode v .head)
+  pub encoded-sound : Sound (encode h v .table) (encode h v .journal) (encode h v .head)
   unfolding encode
   encoded-sound =
       record {
@@ -133,11 +133,11 @@ module _ (v : View) (g : Good v) where
         high = omega arith;
         few = omega (arith, held-is, g .held .few);
         lists = subst (λ (n : ℕ). journalB J E n ≡ true) (sym held-is) (laid-sound (v .limits .journal) (heldSteps v) (g .held));
-        slots = λ k h. slots-pass (v .checkpoint) (v .slots) (g .below) k (omega (arith, g .eight));
+        slots = λ k i. slots-pass (v .checkpoint) (v .slots) (g .below) k (omega (arith, g .eight));
         oldest = g .floor ∙ sym (least-slots (v .checkpoint) (v .slots));
       }
 
-  pub decoded : decode (encode v) ≡ v
+  pub decoded : decode (encode h v) ≡ v
   unfolding encode decode
   decoded i =
       record {
@@ -165,3 +165,8 @@ module _ (v : View) (g : Good v) where
       steps-are : drop (v .checkpoint - (v .checkpoint - length (v .old)))
           (runOf J E 0 ((v .checkpoint + length (v .steps)) - (v .checkpoint - length (v .old)))) ≡ v .steps
       steps-are = ap₂ drop before run-is ∙ drop-append-seam (v .old) (v .steps)
+
+-- a head that a view was put into tells the same besides
+pub reframed : (h : Head) (v w : View) → encode (encode h v .head) w ≡ encode h w
+unfolding encode
+reframed h v w = refl

@@ -9,6 +9,7 @@ use Rattle.changes.specs.Calculus.{apply, composeAll}
 use Rattle.changes.specs.Lists.{All, Map}
 use Rattle.changes.specs.Runs.{runOf}
 use Rattle.layout.specs.declared.head.Head.{Head}
+use Rattle.layout.specs.Heads.{headWith}
 use Rattle.layout.specs.States.{heldOf}
 use Rattle.views.specs.Laid.{laidWords, laidMarks, Fits}
 unfoldable pub use Rattle.views.specs.Laid.{padded, flat, marksFrom}
@@ -118,20 +119,20 @@ slotsOf [] numbers = []
 slotsOf (m ∷ marks) [] = slotOf m 0 ∷ slotsOf marks []
 slotsOf (m ∷ marks) (n ∷ numbers) = slotOf m n ∷ slotsOf marks numbers
 
--- a view in memory
-unfoldable pub encode : View → Store
-encode v = record {
+-- a view in memory; what it does not tell of a head stays as in the one that is given
+unfoldable pub encode : Head → View → Store
+encode head v = record {
   table = padded (v .limits .table) (v .base);
   journal = laidWords (v .limits .journal) (heldSteps v);
-  head = record {
-    used = length (v .base);
-    oldest = v .checkpoint - length (v .old);
-    checkpoint = v .checkpoint;
-    tip = tipOf v;
-    taken = map openOf (v .slots);
-    issued = map issuedOf (v .slots);
-    ends = laidMarks (heldSteps v);
-  };
+  head =
+      headWith head
+      (length (v .base))
+      (v .checkpoint - length (v .old))
+      (v .checkpoint)
+      (tipOf v)
+      (map openOf (v .slots))
+      (map issuedOf (v .slots))
+      (laidMarks (heldSteps v));
 }
 
 -- the view of what lies in memory

@@ -1,6 +1,7 @@
 // What the program prints, a line at a time.
 use answers::answer::Answer;
-use answers::ground::number;
+use answers::answer::ground_in;
+use answers::answer::status_of;
 use answers::tally::Tally;
 use entry::Entry;
 use layout::head::Head;
@@ -55,13 +56,20 @@ pub fn show_bytes(bytes: &[u8]) {
 }
 
 fn show_answer(answer: Answer) {
-    match answer {
-        Answer::Done => show_text(b": ok"),
-        Answer::Price(price) => show_count(b": ok ", price as u64),
-        Answer::NoPrice => show_text(b": none"),
-        Answer::Count(count) => show_count(b": ok ", count as u64),
-        Answer::Refused(ground) => show_count(b": refused ", number(ground) as u64),
+    if let Answer::Done = answer {
+        show_text(b": ok");
+        return;
     }
+    let status = status_of(answer);
+    if status.valued {
+        show_count(b": ok ", status.value);
+        return;
+    }
+    if status.accepted {
+        show_text(b": none");
+        return;
+    }
+    show_count(b": refused ", ground_in(answer) as u64)
 }
 
 // The name of a call and its answer, as one line.

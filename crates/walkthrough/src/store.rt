@@ -14,8 +14,7 @@ use answers::call::Step;
 use answers::tally::Tally;
 use entry::Entry;
 use layout::head::Head;
-use layout::head::MARKS;
-use layout::head::SLOTS;
+use snapshot::fresh::fresh_head;
 
 // What a caller hands from one call to the next: the memory of the store, a read set, bytes for an image, the head and
 // the tally.
@@ -30,15 +29,6 @@ struct Store {
 
 // All zeros, and the read set names its offers.
 fn unused() -> Store {
-    let head = Head {
-        used: 0,
-        oldest: 0,
-        checkpoint: 0,
-        tip: 0,
-        taken: [false; SLOTS],
-        issued: [0; SLOTS],
-        ends: [0; MARKS],
-    };
     let tally = Tally {
         committed: 0,
         rolled_back: 0,
@@ -49,7 +39,7 @@ fn unused() -> Store {
         journal: [0; 8],
         reads: [Entry::none(5), Entry::none(7), Entry::none(9)],
         bytes: [0; 22],
-        head,
+        head: fresh_head(0, 0),
         tally,
     }
 }

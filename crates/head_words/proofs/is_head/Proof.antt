@@ -4,12 +4,13 @@ use mathlib.Core.Path.{_∙_, sym}
 use borrow.Author.Tests.{eq-eqb, ne-eqb, not-true, not-false}
 use lib.ListN.{length}
 use Rattle.layout.proofs.Holds.{first-fails, first-holds, last-test}
+use Rattle.head_words.specs.HeadWords.{headSize}
 use borrow.Author.Needs.{needs}
 use Rattle.head_words.proofs.is_head.Statement.{statement}
 use Rattle.head_words.proofs.is_head.Tie as tie
 
 returns : tie.Need-returns
-returns c = sym (first-fails _ _ (ne-eqb (length ((c .before .before .args .words .now))) 84 (c .if1 .taken)))
+returns c = sym (first-fails _ _ (ne-eqb (length ((c .before .before .args .words .now))) headSize (c .if1 .taken)))
 
 sub-are-below : tie.Need-sub-are-below
 sub-are-below c = search needs
@@ -27,7 +28,7 @@ returns-2 : tie.Need-returns-2
 returns-2 c =
     let c3 = c .before .before .before in
     let args = c3 .before .before .args in
-    sym (first-holds _ _ (eq-eqb (length (args .words .now)) 84 (c3 .if1 .left))
+    sym (first-holds _ _ (eq-eqb (length (args .words .now)) headSize (c3 .if1 .left))
     ∙ first-fails _ _ (sym (c .before .are-below .ensures) ∙ not-true _ (c .if2 .taken)))
 
 sub-are-below-2 : tie.Need-sub-are-below-2
@@ -48,7 +49,7 @@ returns-3 c =
     let c4 = c3 .before in
     let c6 = c4 .before .before in
     let args = c6 .before .before .args in
-    sym (first-holds _ _ (eq-eqb (length (args .words .now)) 84 (c6 .if1 .left))
+    sym (first-holds _ _ (eq-eqb (length (args .words .now)) headSize (c6 .if1 .left))
     ∙ first-holds _ _ (sym (c4 .are-below .ensures) ∙ not-false _ (c3 .if2 .left))
     ∙ first-fails _ _ (sym (c .before .are-below2 .ensures) ∙ not-true _ (c .if3 .taken)))
 
@@ -72,7 +73,7 @@ returns-4 c =
     let c8 = c6 .before .before in
     let args = c8 .before .before .args in
     (c .are-below3 .ensures) ∙ sym
-    (first-holds _ _ (eq-eqb (length (args .words .now)) 84 (c8 .if1 .left))
+    (first-holds _ _ (eq-eqb (length (args .words .now)) headSize (c8 .if1 .left))
     ∙ first-holds _ _ (sym (c6 .are-below .ensures) ∙ not-false _ (c5 .if2 .left))
     ∙ first-holds _ _ (sym (c3 .are-below2 .ensures) ∙ not-false _ (c .before .before .if3 .left)) ∙ last-test _)
 

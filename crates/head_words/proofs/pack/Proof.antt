@@ -3,7 +3,7 @@
 use mathlib.Core.Path.{_∙_}
 use mathlib.Core.Bool.{Bool}
 use Prim.Native.Nat.{ℕ}
-use Rattle.head_words.proofs.Packing.{packed, room}
+use Rattle.head_words.proofs.Packing.{told-put, none-behind, room}
 use borrow.Author.Needs.{needs, length-unmapped}
 use Rattle.head_words.proofs.pack.Statement.{statement}
 use Rattle.head_words.proofs.pack.Tie as tie
@@ -46,11 +46,12 @@ returns c =
     let c23 = c16 .before .before .before .before .before .before .before in
     let c26 = c23 .before .before .before in
     let args = c26 .args in
-    packed (args .words .now) (args .t1) (c26 .pre)
+    told-put (args .words .now) (args .t1) (room 84 (c26 .pre) (search needs))
     (length-unmapped Bool (args .t1 .taken) 8 ((c26 .good .0 .1 .1 .1 .1 .1 .1 .0 .1 .0 .1)))
     (length-unmapped ℕ (args .t1 .issued) 8 ((c26 .good .0 .1 .1 .1 .1 .1 .1 .1 .0 .1 .0 .1)))
     (length-unmapped ℕ (args .t1 .ends) 64 ((c26 .good .0 .1 .1 .1 .1 .1 .1 .1 .1 .0 .1 .0 .1)))
     (c23 .put-first .ensures) (c16 .put-flags .ensures) (c9 .put-numbers .ensures) (c .before .before .put-ends .ensures)
+    ∙ none-behind (args .words .now) (c26 .pre) _
 
 pub pack-spec : {M : Type 1} → statement M
 pack-spec =

@@ -9,20 +9,8 @@ use borrow.Author.Needs.{needs}
 use Rattle.calls.proofs.ask.ask.Statement.{statement}
 use Rattle.calls.proofs.ask.ask.Tie as tie
 
-enum-known-query : tie.Need-enum-known-query
-enum-known-query c = search needs
-
-look-up-requires : tie.Need-look-up-requires
-look-up-requires c κs = search needs
-
-enum-told : tie.Need-enum-told
-enum-told c = search needs
-
-write-image-requires : tie.Need-write-image-requires
-write-image-requires c κs = search needs
-
-returns : tie.Need-returns
-returns c =
+look-up : tie.Need-returns
+look-up c =
     let args = c .before .before .before .before .before .before .before .before .args in
     let l = lent (args .table .now) (args .journal .now) (args .words .now) (args .bytes .now) (args .head) in
     let m = asks l (queryOf l (LookUp ((c .before .before .query .given .0 .0)))) in
@@ -30,11 +18,8 @@ returns c =
     (settles m l (c .look-up .ensures) (kept (m .check) (l .table)) (kept (m .check) (l .journal))
     (kept (m .check) (l .words)) (kept (m .check) (l .bytes)) (kept (m .check) (l .head)))
 
-same-length : tie.Need-same-length
-same-length c = search needs
-
-returns-2 : tie.Need-returns-2
-returns-2 c =
+write-image : tie.Need-returns-2
+write-image c =
     let c4 = c .before .before .before .before in
     let args = c4 .before .before .before .before .before .before .args in
     let l = lent (args .table .now) (args .journal .now) (args .words .now) (args .bytes .now) (args .head) in
@@ -47,10 +32,10 @@ pub ask-spec : {M : Type 1} → statement M
 ask-spec =
     tie.close
     (tie.spec
-    enum-known-query
-    look-up-requires
-    enum-told
-    write-image-requires
-    returns
-    same-length
-    returns-2)
+    (λ c. search needs)
+    (λ c κs. search needs)
+    (λ c. search needs)
+    (λ c κs. search needs)
+    look-up
+    (λ c. search needs)
+    write-image)
