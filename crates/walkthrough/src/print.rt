@@ -7,7 +7,7 @@ use entry::Entry;
 use layout::head::Head;
 use libc::STDOUT_FILENO;
 
-pub fn show_text(text: &[u8]) {
+pub(crate) fn show_text(text: &[u8]) {
     io::write_all(STDOUT_FILENO, text);
 }
 
@@ -30,7 +30,7 @@ fn show_word(word: u64) {
 }
 
 // A title, and a line for each word.
-pub fn show(title: &[u8], words: &[u64]) {
+pub(crate) fn show(title: &[u8], words: &[u64]) {
     show_text(title);
     let mut i = 0;
     while i < words.len() {
@@ -45,7 +45,7 @@ fn show_byte(byte: u8) {
 }
 
 // The bytes in hexadecimal, as one line.
-pub fn show_bytes(bytes: &[u8]) {
+pub(crate) fn show_bytes(bytes: &[u8]) {
     show_text(b"bytes");
     let mut i = 0;
     while i < bytes.len() {
@@ -73,14 +73,14 @@ fn show_answer(answer: Answer) {
 }
 
 // The name of a call and its answer, as one line.
-pub fn show_call(name: &[u8], answer: Answer) {
+pub(crate) fn show_call(name: &[u8], answer: Answer) {
     show_text(name);
     show_answer(answer);
     show_text(b"\n");
 }
 
 // The numbers of the states, and the tally, as two lines.
-pub fn show_states(head: Head, tally: Tally) {
+pub(crate) fn show_states(head: Head, tally: Tally) {
     show_count(b"oldest ", head.oldest as u64);
     show_count(b" checkpoint ", head.checkpoint as u64);
     show_count(b" tip ", head.tip as u64);

@@ -185,7 +185,7 @@ fn renew(store: Store) {
 }
 
 // Makes every call of the unit at least once.
-pub fn follow(earlier: [u64; 2], later: [u64; 2], falling: [u64; 2]) {
+pub(crate) fn follow(earlier: [u64; 2], later: [u64; 2], falling: [u64; 2]) {
     let read = read_early(earlier, later);
     let refused = refuse(read, falling);
     let released = release(correct(refused));
