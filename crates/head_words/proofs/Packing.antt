@@ -1,10 +1,10 @@
 -- A head that is put into its words.
 -- Assumes nothing.
-use mathlib.Core.Path.{_≡_, refl, sym, ap, ap₂, subst, _∙_}
-use mathlib.Core.List.{List, [], _∷_, _++_, map, append-assoc, append-nil}
+use mathlib.Core.Path.{_≡_, refl, sym, subst, _∙_}
+use mathlib.Core.List.{List, [], _∷_, _++_, map, append-assoc}
 use Prim.Native.Nat.{ℕ, _+_, _≤_}
 use native.Mathlib.Omega.{arith}
-use lib.ListN.{length, length-map, take, drop, set, take-append-drop, drop-of-length-le}
+use lib.ListN.{length, length-map, take, drop, set}
 use Rattle.layout.specs.declared.head.Head.{Head}
 use Rattle.words.proofs.Writing.{Writing, start, wrote}
 use Rattle.words.proofs.Pieces.{wrote-piece}
@@ -18,7 +18,7 @@ room n e l = omega arith
 abbrev pub told : Head → List ℕ
 told head = (head .used ∷ head .oldest ∷ head .checkpoint ∷ head .tip ∷ []) ++ map wordOf (head .taken) ++ head .issued ++ head .ends
 
--- the first four words of a head, and then its arrays
+-- the first four words of a head, and then its arrays; what comes behind is still to be written
 module _
     (l : List ℕ)
     (head : Head)
@@ -30,35 +30,34 @@ module _
     (p : first ≡ set (set (set (set l 0 (head .used)) 1 (head .oldest)) 2 (head .checkpoint)) 3 (head .tip))
     (pf : flags ≡ take 4 first ++ map wordOf (head .taken) ++ drop 12 first)
     (pn : numbers ≡ take 12 flags ++ head .issued ++ drop 20 flags)
-    (pe : ends ≡ take 20 numbers ++ head .ends ++ drop 84 numbers) where
+    (pe : ends ≡ take 20 numbers ++ head .ends ++ drop 84 numbers)
+    (behind : List ℕ) where
   flags-long : length (map wordOf (head .taken)) ≡ 8
   flags-long = length-map (head .taken) wordOf ∙ eh
 
-  first-put : Writing first l 4 (map wordOf (head .taken) ++ head .issued ++ head .ends) (told head)
+  abbrev goal : List ℕ
+  goal = told head ++ behind
+
+  abbrev arrays : List ℕ
+  arrays = (map wordOf (head .taken) ++ head .issued ++ head .ends) ++ behind
+
+  first-put : Writing first l 4 arrays goal
   first-put =
-      let one = wrote (start l (told head)) (omega (arith, e)) in
+      let one = wrote (start l goal) (omega (arith, e)) in
       let two = wrote one (omega (arith, e, one .same)) in
       let three = wrote two (omega (arith, e, two .same)) in
-      subst (λ (w : List ℕ). Writing w l 4 (map wordOf (head .taken) ++ head .issued ++ head .ends) (told head)) (sym p)
-      (wrote three (omega (arith, e, three .same)))
+      subst (λ (w : List ℕ). Writing w l 4 arrays goal) (sym p) (wrote three (omega (arith, e, three .same)))
 
-  flags-put : Writing flags l 12 (head .issued ++ head .ends) (told head)
+  flags-put : Writing flags l 12 (head .issued ++ (head .ends ++ behind)) goal
   flags-put =
-      wrote-piece first-put (map wordOf (head .taken)) (head .issued ++ head .ends)
-      (append-assoc (map wordOf (head .taken)) (head .issued) (head .ends))
+      wrote-piece first-put (map wordOf (head .taken)) (head .issued ++ (head .ends ++ behind))
+      (append-assoc (map wordOf (head .taken) ++ head .issued) (head .ends) behind
+      ∙ append-assoc (map wordOf (head .taken)) (head .issued) (head .ends ++ behind))
       12 (omega (arith, flags-long)) (omega (arith, e, first-put .same)) pf
 
-  issued-put : Writing numbers l 20 (head .ends) (told head)
-  issued-put = wrote-piece flags-put (head .issued) (head .ends) refl 20 (omega (arith, ei)) (omega (arith, e, flags-put .same)) pn
+  issued-put : Writing numbers l 20 (head .ends ++ behind) goal
+  issued-put =
+      wrote-piece flags-put (head .issued) (head .ends ++ behind) refl 20 (omega (arith, ei)) (omega (arith, e, flags-put .same)) pn
 
-  ends-put : Writing ends l 84 [] (told head)
-  ends-put =
-      wrote-piece issued-put (head .ends) [] (sym (append-nil (head .ends))) 84 (omega (arith, ee)) (omega (arith, e, issued-put .same)) pe
-
-  -- the words behind them are as they were
-  pub told-put : ends ≡ told head ++ drop 84 l
-  told-put = sym (take-append-drop 84 ends) ∙ ap₂ _++_ (sym (append-nil (take 84 ends)) ∙ ends-put .front) (ends-put .back)
-
--- the words of a head where no more come behind
-pub none-behind : (l : List ℕ) → length l ≡ headSize → (words : List ℕ) → words ++ drop 84 l ≡ words
-none-behind l e words = ap (λ (r : List ℕ). words ++ r) (drop-of-length-le l {i = 84} (omega (arith, e))) ∙ append-nil words
+  pub told-put : Writing ends l 84 behind goal
+  told-put = wrote-piece issued-put (head .ends) behind refl 84 (omega (arith, ee)) (omega (arith, e, issued-put .same)) pe

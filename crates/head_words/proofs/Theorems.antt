@@ -8,14 +8,14 @@ use native.Mathlib.Omega.{arith}
 use native.Mathlib.Nat.{mod-eq-of-lt}
 use borrow.Author.Tests.{eqb-true, ltb-true}
 use lib.Dec.{eqb, ltb}
-use lib.ListN.{length, length-map, getD, take, drop, take-append-drop}
+use lib.ListN.{length, length-map, getD, take, drop, take-append-drop, drop-of-length-le}
 use lib.Seq.{take-at, drop-at, drop-drop}
 use Rattle.changes.proofs.ListTest.{and-both}
 use Rattle.layout.specs.declared.head.Head.{Head}
 use Rattle.layout.specs.Heads.{headWith}
 use Rattle.layout.proofs.Holds.{all-first, all-rest}
 use Rattle.words.proofs.Parts.{next}
-use Rattle.head_words.proofs.Packing.{told, none-behind}
+use Rattle.head_words.proofs.Packing.{told}
 use Rattle.head_words.specs.HeadWords.{headSize, limit, flagOf, wordOf, numberIn, from, headOf, wordsOf, belowB, headB}
 
 module _ (bound w : ℕ) (l : List ℕ) (e : belowB bound (w ∷ l) ≡ true) where
@@ -115,7 +115,10 @@ module _ (w : List ℕ) (e : headB w ≡ true) where
       ∙ numbers
 
   pub words-back : wordsOf (headOf w) ≡ w
-  words-back = sym (none-behind w long (told (headOf w))) ∙ told-back
+  words-back =
+      sym (append-nil (told (headOf w)))
+      ∙ ap (λ (r : List ℕ). told (headOf w) ++ r) (sym (drop-of-length-le w {i = 84} (omega (arith, long))))
+      ∙ told-back
 
 -- a head whose fields fit comes back
 pub record Fits (head : Head) : Type 0 where

@@ -1,9 +1,11 @@
 -- `head_words::pack` meets its contract: four words, and then the arrays.
 -- Assumes nothing.
-use mathlib.Core.Path.{_∙_}
+use mathlib.Core.Path.{refl, sym, _∙_}
 use mathlib.Core.Bool.{Bool}
+use mathlib.Core.List.{[], append-nil}
 use Prim.Native.Nat.{ℕ}
-use Rattle.head_words.proofs.Packing.{told-put, none-behind, room}
+use Rattle.words.proofs.Writing.{size, filled}
+use Rattle.head_words.proofs.Packing.{told-put, room}
 use borrow.Author.Needs.{needs, length-unmapped}
 use Rattle.head_words.proofs.pack.Statement.{statement}
 use Rattle.head_words.proofs.pack.Tie as tie
@@ -46,12 +48,12 @@ returns c =
     let c23 = c16 .before .before .before .before .before .before .before in
     let c26 = c23 .before .before .before in
     let args = c26 .args in
-    told-put (args .words .now) (args .t1) (room 84 (c26 .pre) (search needs))
+    let put = told-put (args .words .now) (args .t1) (room 84 (c26 .pre) (search needs))
     (length-unmapped Bool (args .t1 .taken) 8 ((c26 .good .0 .1 .1 .1 .1 .1 .1 .0 .1 .0 .1)))
     (length-unmapped ℕ (args .t1 .issued) 8 ((c26 .good .0 .1 .1 .1 .1 .1 .1 .1 .0 .1 .0 .1)))
     (length-unmapped ℕ (args .t1 .ends) 64 ((c26 .good .0 .1 .1 .1 .1 .1 .1 .1 .1 .0 .1 .0 .1)))
-    (c23 .put-first .ensures) (c16 .put-flags .ensures) (c9 .put-numbers .ensures) (c .before .before .put-ends .ensures)
-    ∙ none-behind (args .words .now) (c26 .pre) _
+    (c23 .put-first .ensures) (c16 .put-flags .ensures) (c9 .put-numbers .ensures) (c .before .before .put-ends .ensures) [] in
+    filled put refl (sym (size put) ∙ sym (c26 .pre)) ∙ append-nil _
 
 pub pack-spec : {M : Type 1} → statement M
 pack-spec =
