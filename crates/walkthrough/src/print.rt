@@ -1,10 +1,11 @@
 // What the program prints, a line at a time.
 use answers::answer::Answer;
-use answers::answer::ground_in;
-use answers::answer::status_of;
 use answers::tally::Tally;
 use entry::Entry;
 use layout::head::Head;
+use lent::codes::NO_PRICE;
+use lent::codes::code_of;
+use lent::codes::value_of;
 use libc::STDOUT_FILENO;
 
 pub(crate) fn show_text(text: &[u8]) {
@@ -60,16 +61,16 @@ fn show_answer(answer: Answer) {
         show_text(b": ok");
         return;
     }
-    let status = status_of(answer);
-    if status.valued {
-        show_count(b": ok ", status.value);
+    let code = code_of(answer);
+    if code == 0 {
+        show_count(b": ok ", value_of(answer, 0));
         return;
     }
-    if status.accepted {
+    if code == NO_PRICE {
         show_text(b": none");
         return;
     }
-    show_count(b": refused ", ground_in(answer) as u64)
+    show_count(b": refused ", code)
 }
 
 // The name of a call and its answer, as one line.
