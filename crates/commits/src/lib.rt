@@ -11,13 +11,29 @@ use lists::rules::is_list;
 use soundness::store_check;
 use words::copy;
 ghost use mathlib.Core.Path.{_≡_};
-ghost use Prim.Native.Nat.{_<_};
+ghost use Prim.Native.Nat.{_-_, _≤_, _<_};
+ghost use lib.Dec.{eqb, ltb};
 ghost use Rattle.answers.specs.declared.answer.Answer.the-variants.{Done};
 ghost use Rattle.answers.specs.Answers.{Gives, answered};
 ghost use Rattle.commits.specs.Commit.{commitCheck, commitJournal, commitHead, withStep};
 
 // The number that no state follows.
 const LAST_STATE: u32 = 4294967295;
+
+// Whether as many steps are held as can be.
+fn is_full(held: usize) -> bool
+    ensures { λ r. ⌜ r ≡ eqb held 64 ⌝ }
+{
+    held == STEPS
+}
+
+// Whether so many words exceed those of a journal that are not used.
+fn exceeds(journal: usize, used: usize, words: usize) -> bool
+    requires { ⌜ used ≤ journal ⌝ }
+    ensures { λ r. ⌜ r ≡ ltb (journal - used) words ⌝ }
+{
+    journal - used < words
+}
 
 // The first ground on which a commit is turned away.
 fn commit_check(table: &[u64], journal: &[u64], head: Head, list: &[u64]) -> Check
@@ -35,11 +51,11 @@ fn commit_check(table: &[u64], journal: &[u64], head: Head, list: &[u64]) -> Che
         return Check::Refused(Ground::LastState);
     }
     let held = held_count(head);
-    if held == STEPS {
+    if is_full(held) {
         return Check::Refused(Ground::StepsFull);
     }
     let used = end_of(&head.ends, held);
-    if journal.len() - used < list.len() {
+    if exceeds(journal.len(), used, list.len()) {
         return Check::Refused(Ground::JournalFull);
     }
     Check::Passed

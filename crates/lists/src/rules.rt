@@ -4,6 +4,7 @@
 use entry::Entry;
 ghost use mathlib.Core.Path.{_≡_};
 ghost use Prim.Native.Nat.{_+_, _-_, _<_, min};
+ghost use lib.Dec.{ltb};
 ghost use lib.ListN.{length, getD};
 ghost use Rattle.entry.specs.Word.{isPut, Put, validB, bitOf, topOf};
 ghost use Rattle.changes.specs.Lists.{listB, mapB};
@@ -80,11 +81,18 @@ fn few_follow(words: &[u64]) -> bool
     Entry::flag_bit(good) == 1
 }
 
+// Whether a list may not have so many words.
+fn is_long(count: usize) -> bool
+    ensures { λ r. ⌜ r ≡ ltb 64 count ⌝ }
+{
+    LIST_WORDS < count
+}
+
 // Whether the words are a list: at most 64, each valid, with strictly rising offers.
 pub fn is_list(words: &[u64]) -> bool
     ensures { λ r. ⌜ r ≡ listB (now (words .entry)) ⌝ }
 {
-    if LIST_WORDS < words.len() {
+    if is_long(words.len()) {
         return false;
     }
     if words.len() == 0 {

@@ -3,7 +3,8 @@
 use mathlib.Core.Path.{_∙_, sym}
 use borrow.Author.Needs.{needs}
 use native.Mathlib.Omega.{arith}
-use lib.ListN.{getD}
+use borrow.Author.Tests.{ltb-true, ltb-false}
+use lib.ListN.{length, getD}
 use Rattle.entry.specs.Word.{validB}
 use Rattle.entry.proofs.Flags.{flag-set, flag-unset}
 use Rattle.changes.proofs.ListTest.{list-short, list-long}
@@ -11,13 +12,20 @@ use Rattle.lists.proofs.InOrder.{no-words, first-fails, first-passes, l
 use Rattle.lists.proofs.rules.is_list.Statement.{statement}
 use Rattle.lists.proofs.rules.is_list.Tie as tie
 
+is-long-requires : tie.Need-is-long-requires
+is-long-requires c κs = search needs
+
 returns : tie.Need-returns
-returns c = sym (list-long (c .before .before .args .words .now) (omega arith))
+returns c =
+    let args = c .before .before .before .args in
+    sym (list-long (args .words .now) (ltb-true 64 (length (args .words .now)) (sym (c .before .is-long .ensures) ∙ (c .if1 .taken))))
 
 returns-2 : tie.Need-returns-2
 returns-2 c =
-    let args = c .before .before .before .args in
-    sym (list-short (args .words .now) (omega arith) ∙ no-words lists (args .words .now) (omega arith))
+    let args = c .before .before .before .before .args in
+    sym (list-short (args .words .now)
+    (ltb-false 64 (length (args .words .now))
+    (sym (c .before .before .is-long .ensures) ∙ (c .before .if1 .left))) ∙ no-words lists (args .words .now) (omega arith))
 
 shared-slice-read-valid-flag : tie.Need-shared-slice-read-valid-flag
 shared-slice-read-valid-flag c = search needs
@@ -30,8 +38,10 @@ flag-bit-requires c κs = search needs
 
 returns-3 : tie.Need-returns-3
 returns-3 c =
-    let args = c .before .before .before .before .before .before .before .args in
-    sym (list-short (args .words .now) (omega arith)
+    let c5 = c .before .before .before .before .before in
+    let c6 = c5 .before in
+    let args = c6 .before .before .args in
+    sym (list-short (args .words .now) (ltb-false 64 (length (args .words .now)) (sym (c6 .is-long .ensures) ∙ (c5 .if1 .left)))
     ∙ first-fails lists (args .words .now) (omega arith)
     (flag-unset (validB (getD (args .words .now) 0 0)) (omega (arith, (c .before .before .valid-flag .ensures)))))
 
@@ -41,9 +51,11 @@ few-follow-requires c κs = search needs
 returns-4 : tie.Need-returns-4
 returns-4 c =
     let c4 = c .before .before .before .before in
-    let args = c4 .before .before .before .before .before .args in
+    let c7 = c4 .before .before .before in
+    let c8 = c7 .before in
+    let args = c8 .before .before .args in
     (c .few-follow .ensures) ∙ sym
-    (list-short (args .words .now) (omega arith)
+    (list-short (args .words .now) (ltb-false 64 (length (args .words .now)) (sym (c8 .is-long .ensures) ∙ (c7 .if1 .left)))
     ∙ first-passes lists (args .words .now) (omega arith)
     (flag-set (validB (getD (args .words .now) 0 0)) (λ z. omega (arith, z, (c4 .valid-flag .ensures)))))
 
@@ -53,9 +65,11 @@ many-follow-requires c κs = search needs
 returns-5 : tie.Need-returns-5
 returns-5 c =
     let c4 = c .before .before .before .before in
-    let args = c4 .before .before .before .before .before .args in
+    let c7 = c4 .before .before .before in
+    let c8 = c7 .before in
+    let args = c8 .before .before .args in
     (c .many-follow .ensures) ∙ sym
-    (list-short (args .words .now) (omega arith)
+    (list-short (args .words .now) (ltb-false 64 (length (args .words .now)) (sym (c8 .is-long .ensures) ∙ (c7 .if1 .left)))
     ∙ first-passes lists (args .words .now) (omega arith)
     (flag-set (validB (getD (args .words .now) 0 0)) (λ z. omega (arith, z, (c4 .valid-flag .ensures)))))
 
@@ -63,6 +77,7 @@ pub is-list-spec : {M : Type 1} → statement M
 is-list-spec =
     tie.close
     (tie.spec
+    is-long-requires
     returns
     returns-2
     shared-slice-read-valid-flag
