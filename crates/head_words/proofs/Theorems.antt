@@ -160,6 +160,7 @@ module _ (head : Head) (f : Fits head) (behind : List ℕ) where
   ends-part : from 20 64 words ≡ head .ends
   ends-part = ap (take 64) behind-twenty ∙ take-at (head .ends) behind 64 (f .all-ends)
 
+  -- the words of a field that stands behind these are found there
   pub behind-told : drop 84 words ≡ behind
   behind-told = sym (drop-drop 64 20 words) ∙ ap (drop 64) behind-twenty ∙ drop-at (head .ends) behind 64 (f .all-ends)
 

@@ -4,7 +4,7 @@
 use mathlib.Core.Path.{_≡_, refl, sym, ap, ap₂, subst, _∙_}
 use mathlib.Core.Bool.{Bool, true, false, not, _&&_}
 use mathlib.Core.List.{List, [], _∷_, _++_, map}
-use Prim.Native.Nat.{ℕ, _+_, _-_, _*_, _^_, _≤_, _<_}
+use Prim.Native.Nat.{ℕ, _+_, _-_, _*_, _^_, _≤_}
 use native.Mathlib.Omega.{arith}
 use borrow.Author.Tests.{le-leb}
 use lib.Dec.{ltb, leb}
@@ -238,9 +238,6 @@ module _ (p : Plain) (f : Fit p) where
               ∙ over-zero words
               ∙ sym (read-shown (mapAt l c) list);
         }
-
-    pub issue-slot : firstOf (readTests p (Issue reader) list) ≡ accept → slot < 8
-    issue-slot e = issue-ok T J (s .head) reader list (accepted-done _ (issue-checks ∙ e)) .slot-in
 
   -- a slot that closes
   module _ (slot : ℕ) where

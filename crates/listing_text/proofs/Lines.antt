@@ -11,7 +11,7 @@ use Rattle.entry.specs.Word.{offerOf, priceOf}
 use Rattle.words.proofs.Pieces.{start-at, wrote-piece, completed}
 use Rattle.listing_text.specs.Codes.{codes}
 use Rattle.listing_text.specs.Decimal.{decimalOf}
-use Rattle.listing_text.specs.Listing.{headerOf, lineOf, linesOf, textOf, refusalText}
+use Rattle.listing_text.specs.Listing.{headerOf, lineOf, linesOf, textOf}
 use Rattle.listing_text.specs.Stored.{Stored}
 use Rattle.listing_text.proofs.Digits.{digits-32, digits-64}
 
@@ -44,10 +44,6 @@ module _ (n : ℕ) (h : n < 2 ^ 32) where
   pub header-length : (count : ℕ) → count < 2 ^ 64 → length (headerOf n count) ≤ 45
   unfolding headerOf codes
   header-length count k = simp length-append (omega (arith, digits-32 n h, digits-64 count k))
-
-  pub refusal-length : length (refusalText n) ≤ 19
-  unfolding refusalText codes
-  refusal-length = simp length-append (omega (arith, digits-32 n h))
 
 pub line-length : (w : ℕ) → length (lineOf w) ≤ 22
 unfolding lineOf codes
