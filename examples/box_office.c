@@ -1,11 +1,12 @@
 /* Two of document 01's moments from C: a read that starts before the state that it serves (5), and a flush into a table
- * of one word (12). Then every call on no memory at all. It stops with status 1 at an answer that is not the expected
+ * of one word (12). Then every call on no table and no journal, and head and tally of any words. It stops with status 1 at an answer that is not the expected
  * one. */
 #include "cechnuol.h"
 
 #include <inttypes.h>
 #include <stdio.h>
 #include <stdlib.h>
+#include <string.h>
 
 /* A store with all that it is lent. */
 struct store {
@@ -17,10 +18,11 @@ struct store {
 };
 
 /* What a query is lent, and what every other call on a store is lent: the tally too. */
-#define TO_READ(s) (s)->table, (s)->table_words, (s)->journal, 16, (s)->head, CECHNUOL_HEAD_WORDS
-#define LENT(s) TO_READ(s), (s)->tally, CECHNUOL_TALLY_WORDS
-#define NOTHING_TO_READ NULL, 0, NULL, 0, NULL, 0
-#define NOTHING NOTHING_TO_READ, NULL, 0
+#define TO_READ(s) (s)->table, (s)->table_words, (s)->journal, 16, (s)->head
+#define LENT(s) TO_READ(s), (s)->tally
+/* The same with no word of table and journal. */
+#define NOTHING_TO_READ(s) NULL, 0, NULL, 0, (s)->head
+#define NOTHING(s) NOTHING_TO_READ(s), (s)->tally
 
 static void expect(uint64_t got, uint64_t want, const char *what)
 {
@@ -78,22 +80,20 @@ static void on_nothing(void)
     static struct store s = {.table_words = 4};
     uint64_t value = 7;
     puts("null pointers with length 0");
-    expect(cechnuol_clear(NOTHING), CECHNUOL_LENGTHS, "clear");
-    expect(cechnuol_load(NOTHING, NULL, 0), CECHNUOL_LENGTHS, "load");
-    expect(cechnuol_write_image(NOTHING_TO_READ, NULL, 0, &value), CECHNUOL_LENGTHS, "write_image");
-    expect(cechnuol_restart(NOTHING, NULL, 0), CECHNUOL_LENGTHS, "restart");
-    expect(cechnuol_commit(NOTHING, NULL, 0), CECHNUOL_LENGTHS, "commit");
-    expect(cechnuol_roll_back(NOTHING, 0), CECHNUOL_LENGTHS, "roll_back");
-    expect(cechnuol_flush(NOTHING, 0), CECHNUOL_LENGTHS, "flush");
-    expect(cechnuol_look_up(NOTHING_TO_READ, 0, 0, &value), CECHNUOL_LENGTHS, "look_up");
-    expect(cechnuol_issue(NOTHING, 0, NULL, 0), CECHNUOL_LENGTHS, "issue");
-    expect(cechnuol_forward(NOTHING, 0, 0, NULL, 0), CECHNUOL_LENGTHS, "forward");
-    expect(cechnuol_release(NOTHING, 0), CECHNUOL_LENGTHS, "release");
+    expect(cechnuol_clear(NOTHING(&s)), CECHNUOL_LENGTHS, "clear");
+    expect(cechnuol_load(NOTHING(&s), NULL, 0), CECHNUOL_LENGTHS, "load");
+    expect(cechnuol_write_image(NOTHING_TO_READ(&s), NULL, 0, &value), CECHNUOL_LENGTHS, "write_image");
+    expect(cechnuol_restart(NOTHING(&s), NULL, 0), CECHNUOL_LENGTHS, "restart");
+    expect(cechnuol_commit(NOTHING(&s), NULL, 0), CECHNUOL_LENGTHS, "commit");
+    expect(cechnuol_roll_back(NOTHING(&s), 0), CECHNUOL_LENGTHS, "roll_back");
+    expect(cechnuol_flush(NOTHING(&s), 0), CECHNUOL_LENGTHS, "flush");
+    expect(cechnuol_look_up(NOTHING_TO_READ(&s), 0, 0, &value), CECHNUOL_LENGTHS, "look_up");
+    expect(cechnuol_issue(NOTHING(&s), 0, NULL, 0), CECHNUOL_LENGTHS, "issue");
+    expect(cechnuol_forward(NOTHING(&s), 0, 0, NULL, 0), CECHNUOL_LENGTHS, "forward");
+    expect(cechnuol_release(NOTHING(&s), 0), CECHNUOL_LENGTHS, "release");
     expect(value, 7, "a value that no call gave");
     expect(cechnuol_price_batch(NULL, 0, NULL, 0, NULL, 0, &value), CECHNUOL_OK, "price_batch of no orders");
     expect(value, 0, "its count");
-    expect(cechnuol_clear(s.table, 4, s.journal, 16, NULL, 0, s.tally, 3), CECHNUOL_UNSOUND, "clear with no head");
-    expect(cechnuol_clear(s.table, 4, s.journal, 16, s.head, 84, NULL, 0), CECHNUOL_UNSOUND, "clear with no tally");
     expect(cechnuol_clear(LENT(&s)), CECHNUOL_OK, "clear");
     expect(cechnuol_load(LENT(&s), NULL, 0), CECHNUOL_BAD_IMAGE, "load of no bytes");
     expect(cechnuol_commit(LENT(&s), NULL, 0), CECHNUOL_OK, "commit of an empty list");
@@ -101,11 +101,27 @@ static void on_nothing(void)
     expect(cechnuol_forward(LENT(&s), 0, 1, NULL, 0), CECHNUOL_OK, "forward of an empty read set");
 }
 
+/* Clear and load take head and tally as they find them; to every other call, words that no head has are not sound. */
+static void on_any_words(void)
+{
+    static struct store s = {.table_words = 4};
+    puts("a head and a tally of any words");
+    memset(s.head, 0xFF, sizeof s.head);
+    memset(s.tally, 0xFF, sizeof s.tally);
+    expect(cechnuol_release(LENT(&s), 0), CECHNUOL_UNSOUND, "release");
+    expect(cechnuol_load(LENT(&s), NULL, 0), CECHNUOL_BAD_IMAGE, "load of no bytes");
+    expect(s.head[CECHNUOL_TIP], UINT64_MAX, "the head after a refusal");
+    expect(cechnuol_clear(LENT(&s)), CECHNUOL_OK, "clear");
+    expect(s.head[CECHNUOL_TIP], 0, "the head after it");
+    expect(s.tally[CECHNUOL_FLUSHED], 0, "the tally after it");
+}
+
 int main(void)
 {
     an_early_read();
     a_table_of_one_word();
     on_nothing();
+    on_any_words();
     puts("all as expected");
     return 0;
 }

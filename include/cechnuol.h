@@ -3,19 +3,23 @@
  *
  * Link with libcechnuol's static library, target/staticlib/libcapi.a (`rt staticlib capi`). Every function here is
  * proved to meet its contract in crates/capi for every content and every length of what it is lent; the duties of the
- * caller are those of C: each pointer and length name memory of the caller's, and what one call is lent does not
- * overlap. A length of 0 may come with a null pointer.
+ * caller are those of C: each pointer and length name memory of the caller's, head and tally point to all of their
+ * words, and what one call is lent does not overlap. A length of 0 may come with a null pointer; head and tally are
+ * never null.
  *
  * Lent memory. The caller owns all of it; the unit keeps nothing between calls.
  *   table    1 to 8,000 words (document 01: the book)
  *   journal  1 to 4,096 words (the change memory)
- *   head     CECHNUOL_HEAD_WORDS words, laid out below
- *   tally    CECHNUOL_TALLY_WORDS words: steps committed, rolled back, flushed
+ *   head     an array of CECHNUOL_HEAD_WORDS words, laid out below
+ *   tally    an array of CECHNUOL_TALLY_WORDS words: steps committed, rolled back, flushed
  *   words    a list or a read set, whole
  *   bytes    an image to be loaded, whole, or memory for one to be written
  *
- * A new store: lend any table, journal, head and tally of the right lengths to cechnuol_clear or cechnuol_load; what
- * they hold before does not matter.
+ * Head and tally are arrays of fixed size, lent by one pointer each: no length is passed, so none can be wrong. The
+ * prototypes name the sizes, by which a compiler can warn of a shorter array.
+ *
+ * A new store: lend any table and journal of the right lengths, any head and any tally to cechnuol_clear or
+ * cechnuol_load; what they hold before does not matter, and nothing of it is tested.
  *
  * Queries. cechnuol_look_up and cechnuol_write_image take a store to read only: table, journal and head are const, and
  * no tally is lent. They store nothing but their output: the price, or the bytes and the count. So the store may lie in
@@ -26,8 +30,8 @@
  * lent is as it came. cechnuol_look_up alone also answers CECHNUOL_NO_PRICE. A value (a price, a count) goes to the
  * word that is lent for it, on CECHNUOL_OK only.
  *
- * A head of another length, head words that do not fit their fields, and a tally of another length where one is lent
- * are ground 2, after ground 1.
+ * Head words that do not fit their fields, a state number of 2^32 or more or a flag above 1, are words that no head
+ * has: ground 2, after ground 1, from every call but cechnuol_clear and cechnuol_load. A tally is never tested.
  *
  * Stack. A flush needs up to 160 KiB of it, whatever it is lent; any other call less than 32 KiB.
  */
@@ -86,20 +90,21 @@ enum {
 
 /* The parameters that every call that may change a store begins with. */
 #define CECHNUOL_STORE \
-    uint64_t *table, size_t table_words, uint64_t *journal, size_t journal_words, uint64_t *head, size_t head_words, \
-        uint64_t *tally, size_t tally_words
+    uint64_t *table, size_t table_words, uint64_t *journal, size_t journal_words, uint64_t head[CECHNUOL_HEAD_WORDS], \
+        uint64_t tally[CECHNUOL_TALLY_WORDS]
 
 /* The parameters that every query begins with: a store to read only, without its tally. */
 #define CECHNUOL_STORE_TO_READ \
-    const uint64_t *table, size_t table_words, const uint64_t *journal, size_t journal_words, const uint64_t *head, \
-        size_t head_words
+    const uint64_t *table, size_t table_words, const uint64_t *journal, size_t journal_words, \
+        const uint64_t head[CECHNUOL_HEAD_WORDS]
 
 uint64_t cechnuol_clear(CECHNUOL_STORE);
 uint64_t cechnuol_load(CECHNUOL_STORE, uint8_t *bytes, size_t byte_count);
 /* A query. The image of the checkpoint goes to the start of the bytes, and its length in bytes to *count; nothing else
  * is stored, and the store is only read. */
 uint64_t cechnuol_write_image(CECHNUOL_STORE_TO_READ, uint8_t *bytes, size_t byte_count, uint64_t *count);
-/* The same image, which is then loaded: the checkpoint becomes the tip, all slots close. */
+/* The same image, which is then loaded: tip and floor become the checkpoint, the steps above it are gone, and all slots
+ * close. */
 uint64_t cechnuol_restart(CECHNUOL_STORE, uint8_t *bytes, size_t byte_count);
 uint64_t cechnuol_commit(CECHNUOL_STORE, uint64_t *words, size_t word_count);
 uint64_t cechnuol_roll_back(CECHNUOL_STORE, uint32_t state);
@@ -116,15 +121,20 @@ uint64_t cechnuol_release(CECHNUOL_STORE, size_t slot);
 uint64_t cechnuol_price_batch(const uint64_t *reads, size_t read_count, const uint64_t *orders, size_t order_count,
                               uint64_t *out, size_t out_count, uint64_t *count);
 
-/* The entry word that puts an offer (below 2^31) at a price, and the one that removes it. */
-static inline uint64_t cechnuol_put(uint32_t offer, uint32_t price)
-{
-    return (uint64_t)1 << 63 | (uint64_t)offer << 32 | price;
-}
+/* An offer has 31 bits. */
+#define CECHNUOL_OFFER_MASK UINT32_C(0x7FFFFFFF)
 
+/* The entry word that removes an offer, and the one that puts it at a price. Of an offer of 2^31 or more the lowest 31
+ * bits are taken, as the proved builders take them (Entry::none and Entry::put in crates/entry), so that it never runs
+ * into the kind: no removal becomes a price. */
 static inline uint64_t cechnuol_remove(uint32_t offer)
 {
-    return (uint64_t)offer << 32;
+    return (uint64_t)(offer & CECHNUOL_OFFER_MASK) << 32;
+}
+
+static inline uint64_t cechnuol_put(uint32_t offer, uint32_t price)
+{
+    return (uint64_t)1 << 63 | cechnuol_remove(offer) | price;
 }
 
 /* What an entry word says: whether there is a price, the offer, and the price. */
@@ -135,7 +145,7 @@ static inline int cechnuol_has_price(uint64_t word)
 
 static inline uint32_t cechnuol_offer(uint64_t word)
 {
-    return (uint32_t)(word >> 32) & 0x7FFFFFFF;
+    return (uint32_t)(word >> 32) & CECHNUOL_OFFER_MASK;
 }
 
 static inline uint32_t cechnuol_price(uint64_t word)

@@ -33,6 +33,8 @@ FOLLOWS = re.compile(r"was not admitted \(it has holes|which is not proved")
 UNFIT = re.compile(
     r"has no `[^`]*` that can be named from here|^record `[^`]*` has no field|a dimension .*is expected here|is applied to an argument but|Scope: |Parse: "
     r"|is not in scope|expected type `[^`]*Need-[^`]*`,? *but this has type `[^`]*Need-"
+    # a walk of the MIR that takes another step than the code does, or finds another place there
+    r"|expected type `types\.(Run|Part)\.|^`prog\.Memory\.fieldAt "
 )
 # The verdict on a function that has no proof file, where the proof that the prover makes by itself leaves a fact open.
 NOT_FOUND = re.compile(r"no proof: .*`(search|omega)` does not close `")

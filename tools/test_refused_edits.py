@@ -106,6 +106,13 @@ class Logs(Repository):
             log = LOW_FAILS + unfit + verdicts("not proved", CALLS)
             self.assertOneFault(self.faults(LOW + HIGH, log), "its proof no longer fits the code")
 
+    def test_a_walk_that_no_longer_fits(self):
+        step = "as printed, the two types first differ where one has `[]` (expected)\n  expected type `types.Run.Walks {M = M} (types.Kit.Go {0}) W`"
+        place = "`prog.Memory.fieldAt 0 (mir.Syntax.tcons (mir.Syntax.tyInt mir.Syntax.w64) mir.Syntax.tnil) 0`\n  does not hold"
+        for text in (step, place):
+            log = f"{WHERE}/low/Proof.antt:9:5: error: `walk`: {text}\n" + verdicts("not proved", CALLS)
+            self.assertOneFault(self.faults(LOW, log), "its proof no longer fits the code")
+
     def test_a_name_that_the_log_does_not_have(self):
         self.assertOneFault(self.faults(LOW, "fn sums::parts::high: proved\n"), "the log has no such function")
 

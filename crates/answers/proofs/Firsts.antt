@@ -10,7 +10,7 @@ use Rattle.answers.specs.declared.answer.Answer.{Answer}
 use Rattle.answers.specs.declared.answer.Answer.the-variants.{Refused as Away}
 use Rattle.answers.specs.declared.answer.Check.{Check}
 use Rattle.answers.specs.declared.answer.Check.the-variants.{Passed, Refused}
-use Rattle.answers.specs.Answers.{saidBy, answered, Gives}
+use Rattle.answers.specs.Answers.{saidBy, saidByCheck, answered, Gives, Checks}
 use Rattle.answers.specs.First.{Test, met, first, ifPassed}
 
 pub none-met : first [] ≡ Passed
@@ -75,6 +75,10 @@ old-is e new old = rw e
 -- an answer that is the one meant gives it in document 01's terms too
 pub gives : {a b : Answer} → a ≡ b → Gives a b
 gives e = (e, ap saidBy e)
+
+-- and so does a check
+pub checks : {a b : Check} → a ≡ b → Checks a b
+checks e = (e, ap saidByCheck e)
 
 -- the answer of a call that was turned away, and of one that was accepted
 pub gives-refused : {c : Check} {r : Ground} → c ≡ Refused r → (answer : Answer) → Gives (Away r) (answered c answer)

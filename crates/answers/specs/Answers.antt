@@ -24,6 +24,11 @@ saidBy NoPrice = without
 saidBy (Count n) = accepted n
 saidBy (Refused ground) = refused (numberOf ground)
 
+-- the same of a check: nothing but that the call goes on, or the number of the ground
+abbrev pub saidByCheck : Check → Said
+saidByCheck Passed = accepted 0
+saidByCheck (Stopped ground) = refused (numberOf ground)
+
 -- whether a call was accepted, whether it was given a value, the value, and the number of the ground where it was turned away
 abbrev pub grantedB : Said → Bool
 grantedB (accepted n) = true
@@ -56,3 +61,7 @@ answered (Stopped ground) answer = Refused ground
 -- The promise of an answer: it is the one that is meant, and says the same in document 01's terms.
 abbrev pub Gives : Answer → Answer → Type 0
 Gives answer meant = (answer ≡ meant) × (saidBy answer ≡ saidBy meant)
+
+-- The same of a check.
+abbrev pub Checks : Check → Check → Type 0
+Checks check meant = (check ≡ meant) × (saidByCheck check ≡ saidByCheck meant)

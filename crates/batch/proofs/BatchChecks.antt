@@ -1,21 +1,22 @@
 -- The refusals before any order is executed, one by one, and what is known where none applies; the test of the output's length.
 -- Assumes nothing.
 use mathlib.Core.Path.{_≡_, refl, sym, _∙_, ap}
-use mathlib.Core.Bool.{Bool, true, false, _&&_, cond}
-use mathlib.Core.List.{List, _∷_, _++_, append-nil}
+use mathlib.Core.Bool.{Bool, true, false, not}
+use mathlib.Core.List.{List, [], _∷_, _++_, append-nil}
 use Prim.Native.Nat.{ℕ, zero, suc, _≤_, _<_}
 use native.Mathlib.Omega.{arith}
-use borrow.Author.Tests.{le-leb, lt-leb, leb-true}
-use lib.Dec.{leb}
+use borrow.Author.Tests.{le-leb, lt-leb, le-ltb, lt-ltb, ltb-false, not-false}
 use lib.ListN.{length, take, drop, replicate, drop-of-length-le}
 use Rattle.changes.specs.Lists.{listB, From}
 use Rattle.changes.proofs.ListTest.{list-facts}
 use Rattle.answers.specs.declared.ground.Ground.the-variants.{BadList, BadOrder, OfferNotRead, OutputShort}
 use Rattle.answers.specs.declared.ground.Ground.{Ground}
 use Rattle.answers.specs.Answers.{Said, accepted, refused}
+use Rattle.answers.specs.First.{met, first}
 use Rattle.answers.specs.Numbers.{numberOf}
 use Rattle.answers.specs.declared.answer.Check.{Check}
 use Rattle.answers.specs.declared.answer.Check.the-variants.{Passed, Refused}
+use Rattle.answers.proofs.Firsts.{first-met, first-not, none-met, passed-not}
 use Rattle.orders.specs.Orders.{allowedB}
 use Rattle.execution.specs.Tests.{allB, readB}
 use Rattle.execution.specs.Executing.{Executed, done, fails, priced, after}
@@ -25,36 +26,31 @@ use Rattle.execution.specs.Working.{Accepted, Located, Ready, Room}
 module _ (reads orders : List ℕ) where
   pub stop-list : listB reads ≡ false → checked reads orders ≡ Refused BadList
   unfolding checked
-  stop-list e = rw e
+  stop-list e = first-met _ _ _ (ap not e)
 
   module _ (list : listB reads ≡ true) where
     pub stop-many : 64 < length orders → checked reads orders ≡ Refused BadList
     unfolding checked
-    stop-many h = rw (list, lt-leb (length orders) 64 h)
+    stop-many h = first-not _ _ _ (ap not list) ∙ first-met _ _ _ (lt-ltb 64 (length orders) h)
 
     module _ (few : length orders ≤ 64) where
-      pub stop-order : allB allowedB orders ≡ false → checked reads orders ≡ Refused BadOrder
+      -- past ground 6
+      past-six : checked reads orders ≡ first (met (not (allB allowedB orders)) BadOrder
+          ∷ met (not (allB (readB reads) orders)) OfferNotRead ∷ [])
       unfolding checked
-      stop-order e = rw (list, le-leb (length orders) 64 few, e)
+      past-six = first-not _ _ _ (ap not list) ∙ first-not _ _ _ (le-ltb 64 (length orders) few)
+
+      pub stop-order : allB allowedB orders ≡ false → checked reads orders ≡ Refused BadOrder
+      stop-order e = past-six ∙ first-met _ _ _ (ap not e)
 
       module _ (allowed : allB allowedB orders ≡ true) where
         pub stop-read : allB (readB reads) orders ≡ false → checked reads orders ≡ Refused OfferNotRead
-        unfolding checked
-        stop-read e = rw (list, le-leb (length orders) 64 few, allowed, e)
+        stop-read e = past-six ∙ first-not _ _ _ (ap not allowed) ∙ first-met _ _ _ (ap not e)
 
         pub passes : allB (readB reads) orders ≡ true → checked reads orders ≡ Passed
-        unfolding checked
-        passes e = rw (list, le-leb (length orders) 64 few, allowed, e)
+        passes e = past-six ∙ first-not _ _ _ (ap not allowed) ∙ first-not _ _ _ (ap not e) ∙ none-met
 
 -- what is known of a batch that passes
-tests : (a b c d : Bool) → cond (a && b) (cond c (cond d Passed (Refused OfferNotRead)) (Refused BadOrder))
-    (Refused BadList) ≡ Passed → (a ≡ true) × (b ≡ true) × (d ≡ true)
-tests true true true true e = (refl, refl, refl)
-tests true true true false e = absurd (let z : _≡_ {A = ℕ} 0 1 = cc in omega arith)
-tests true true false d e = absurd (let z : _≡_ {A = ℕ} 0 1 = cc in omega arith)
-tests true false c d e = absurd (let z : _≡_ {A = ℕ} 0 1 = cc in omega arith)
-tests false b c d e = absurd (let z : _≡_ {A = ℕ} 0 1 = cc in omega arith)
-
 pub record Passing (reads orders : List ℕ) : Type 0 where
   pub short : length reads ≤ 64
   pub rises : From 0 reads
@@ -64,9 +60,17 @@ pub record Passing (reads orders : List ℕ) : Type 0 where
 pub passed : (reads orders : List ℕ) → checked reads orders ≡ Passed → Passing reads orders
 unfolding checked
 passed reads orders e =
-    let all = tests (listB reads) (leb (length orders) 64) (allB allowedB orders) (allB (readB reads) orders) e in
-    let facts = list-facts reads (all .0) in
-    record { short = facts .0; rises = facts .1; few = leb-true (length orders) 64 (all .1); named = all .2 }
+    let list = passed-not _ _ _ e in
+    let many = passed-not _ _ _ (list .1) in
+    let allowed = passed-not _ _ _ (many .1) in
+    let read = passed-not _ _ _ (allowed .1) in
+    let facts = list-facts reads (not-false (listB reads) (list .0)) in
+    record {
+      short = facts .0;
+      rises = facts .1;
+      few = ltb-false 64 (length orders) (many .0);
+      named = not-false (allB (readB reads) orders) (read .0);
+    }
 
 -- and what its execution relies on, the orders' positions noted
 pub accepted-at : (reads orders positions : List ℕ) → checked reads orders ≡ Passed → length positions ≡ 64

@@ -9,6 +9,7 @@ ghost use Prim.Native.Nat.{_≤_};
 ghost use lib.ListN.{length};
 ghost use Rattle.orders.specs.Orders.{allowedB};
 ghost use Rattle.execution.specs.Tests.{allB};
+ghost use Rattle.answers.specs.Answers.{Checks};
 ghost use Rattle.batch.specs.Batches.{checked};
 ghost use Rattle.answers.specs.declared.answer.Check.the-variants.{Passed};
 ghost use Rattle.execution.specs.Working.{Located};
@@ -30,9 +31,9 @@ fn all_allowed(orders: &[u64]) -> bool
 
 // The first ground that turns the batch away, if there is one. Where there is none, the first positions are then those of the
 // orders' offers in the read set.
-pub fn check_batch(reads: &[u64], orders: &[u64], positions: &mut [usize]) -> Check
+pub(crate) fn check_batch(reads: &[u64], orders: &[u64], positions: &mut [usize]) -> Check
     requires { ⌜ 64 ≤ length (now positions) ⌝ }
-    ensures { λ r. ⌜ (r ≡ checked (now (reads .entry)) (now (orders .entry)))
+    ensures { λ r. ⌜ Checks r (checked (now (reads .entry)) (now (orders .entry)))
         × (r ≡ Passed → Located (now (reads .entry)) (now (orders .entry)) (now (positions .exit)) (length (now (orders .entry)))) ⌝ }
 {
     if !is_list(reads) {

@@ -6,7 +6,7 @@ use Prim.Native.Nat.{ℕ}
 use Rattle.answers.specs.declared.answer.Answer.{Answer}
 use Rattle.answers.specs.declared.answer.Check.{Check}
 use Rattle.answers.specs.Answers.{answered, Gives}
-use Rattle.answers.specs.First.{ifPassed}
+use Rattle.answers.specs.First.{Test, first, ifPassed}
 use Rattle.layout.specs.declared.head.Head.{Head}
 
 -- the memory of a store with its head, and the words and bytes that are the call's own
@@ -35,27 +35,34 @@ pub record Left : Type 0 where
   pub answer : Answer
   pub lent : Lent
 
--- what a call means: the check that may turn it away, and what it answers and leaves where the check passes
+-- what a call means: the grounds that concern it, in their order, and what it answers and leaves where none is met
 pub record Meaning : Type 0 where
-  pub check : Check
+  pub grounds : List Test
   pub accepted : Left
 
-abbrev pub means : Check → Answer → Lent → Meaning
-means check answer l = record { check = check; accepted = record { answer = answer; lent = l } }
+abbrev pub means : List Test → Answer → Lent → Meaning
+means grounds answer l = record { grounds = grounds; accepted = record { answer = answer; lent = l } }
 
--- a query leaves the store as it is: what it means is its check, its answer, and what it leaves of the words and bytes
+-- "Checked in this order, those that concern the call"
+abbrev pub checkOf : Meaning → Check
+checkOf m = first (m .grounds)
+
+-- a query leaves the store as it is: what it means is its grounds, its answer, and what it leaves of the words and bytes
 pub record Asking : Type 0 where
-  pub check : Check
+  pub grounds : List Test
   pub answer : Answer
   pub words : List ℕ
   pub bytes : List ℕ
 
 abbrev pub asks : Lent → Asking → Meaning
-asks l a = means (a .check) (a .answer) (withBytes (withWords l (a .words)) (a .bytes))
+asks l a = means (a .grounds) (a .answer) (withBytes (withWords l (a .words)) (a .bytes))
 
 -- "everything lent and the head keep their values" where the call is turned away
+abbrev pub settledBy : Check → Left → Lent → Left
+settledBy check made l = record { answer = answered check (made .answer); lent = ifPassed check (made .lent) l }
+
 abbrev pub settled : Meaning → Lent → Left
-settled m l = record { answer = answered (m .check) (m .accepted .answer); lent = ifPassed (m .check) (m .accepted .lent) l }
+settled m l = settledBy (checkOf m) (m .accepted) l
 
 -- The promise of a call: its answer is the one that is meant, and so is all that it leaves.
 abbrev pub Performs : Left → Answer → List ℕ → List ℕ → List ℕ → List ℕ → Head → Type 0

@@ -18,36 +18,37 @@ use Rattle.answers.specs.declared.call.Reset.the-variants.{Clear, Load, Restart
 use Rattle.answers.specs.declared.call.Step.{Step as StepCall}
 use Rattle.answers.specs.declared.call.Step.the-variants.{Commit, RollBack, Flush}
 use Rattle.image.specs.Image.{countIn, numberIn, wordsIn}
+use Rattle.soundness.specs.Checks.{lengthGrounds}
 use Rattle.layout.specs.States.{heldOf, mapHere}
 use Rattle.views.specs.Laid.{padded}
 use Rattle.views.specs.Trim.{trimmedHead, trimmedJournal}
 use Rattle.slots.specs.Slots.{opened, closedAt}
-use Rattle.snapshot.specs.Snapshots.{clearCheck, loadCheck, writeCheck, imageHere}
+use Rattle.snapshot.specs.Snapshots.{loadGrounds, writeGrounds, imageHere}
 use Rattle.snapshot.specs.Fresh.{freshHead}
-use Rattle.commits.specs.Commit.{commitCheck, usedOf, withList, withStep}
-use Rattle.rollbacks.specs.RollBack.{rollCheck, keptOf, cutAt, cutTo}
-use Rattle.flushes.specs.Flush.{flushCheck, flushedHead}
-use Rattle.lookups.specs.LookUp.{lookUpCheck, quoteOf}
-use Rattle.issues.specs.Issue.{issueCheck}
-use Rattle.forwards.specs.Forward.{forwardCheck, stepsFor}
-use Rattle.releases.specs.Release.{releaseCheck}
+use Rattle.commits.specs.Commit.{commitGrounds, usedOf, withList, withStep}
+use Rattle.rollbacks.specs.RollBack.{rollGrounds, keptOf, cutAt, cutTo}
+use Rattle.flushes.specs.Flush.{flushGrounds, flushedHead}
+use Rattle.lookups.specs.LookUp.{lookUpGrounds, quoteOf}
+use Rattle.issues.specs.Issue.{issueGrounds}
+use Rattle.forwards.specs.Forward.{forwardGrounds, stepsFor}
+use Rattle.releases.specs.Release.{releaseGrounds}
 use Rattle.calls.specs.Lent.{Lent, withStore, withWords, withBytes, Left, Meaning, means, Asking, asks, settled}
 
 module _ (l : Lent) where
   -- the calls that make a store anew
   abbrev pub resetOf : ResetCall → Meaning
   resetOf Clear =
-      means (clearCheck (l .table) (l .journal)) Done
+      means (lengthGrounds (length (l .table)) (length (l .journal))) Done
       (withStore l (replicate (length (l .table)) 0) (replicate (length (l .journal)) 0) (freshHead 0 0))
   resetOf Load =
-      means (loadCheck (l .table) (l .journal) (l .bytes)) Done
+      means (loadGrounds (length (l .table)) (length (l .journal)) (l .bytes)) Done
       (withStore l
       (padded (length (l .table)) (wordsIn (l .bytes)))
       (replicate (length (l .journal)) 0)
       (freshHead (countIn (l .bytes)) (numberIn (l .bytes))))
   resetOf Restart =
       let image = imageHere (l .table) (l .head) in
-      means (writeCheck (l .table) (l .journal) (l .head) (length (l .bytes))) Done
+      means (writeGrounds (l .table) (l .journal) (l .head) (length (l .bytes))) Done
       (withBytes
       (withStore l (padded (length (l .table)) (wordsIn image)) (replicate (length (l .journal)) 0)
       (freshHead (countIn image) (numberIn image)))
@@ -57,46 +58,46 @@ module _ (l : Lent) where
   abbrev pub stepOf : StepCall → Meaning
   stepOf Commit =
       let used = usedOf (l .head) in
-      means (commitCheck (l .table) (l .journal) (l .head) (l .words)) Done
+      means (commitGrounds (l .table) (l .journal) (l .head) (l .words)) Done
       (withStore l (l .table) (withList (l .journal) used (l .words)) (withStep (l .head) (heldOf (l .head)) (used + length (l .words))))
   stepOf (RollBack state) =
       let kept = keptOf (l .head) state in
-      means (rollCheck (l .table) (l .journal) (l .head) state) Done
+      means (rollGrounds (l .table) (l .journal) (l .head) state) Done
       (withStore l (l .table) (cutAt (l .journal) (startOf (l .head .ends) kept)) (cutTo (l .head) kept state))
   stepOf (Flush state) =
       let map = mapHere (l .table) (l .journal) (l .head) state in
       let head = flushedHead (l .head) (length map) state in
-      means (flushCheck (l .table) (l .journal) (l .head) state) Done
+      means (flushGrounds (l .table) (l .journal) (l .head) state) Done
       (withStore l (padded (length (l .table)) map) (trimmedJournal head (l .journal)) (trimmedHead head))
 
   -- the calls that open and close slots
   abbrev pub readCallOf : ReadCall → Meaning
   readCallOf (Issue reader) =
-      means (issueCheck (l .table) (l .journal) (l .head) reader (l .words)) Done
+      means (issueGrounds (l .table) (l .journal) (l .head) reader (l .words)) Done
       (withWords
       (withStore l (l .table) (l .journal) (opened (l .head) (reader .slot)))
       (readOf (take (l .head .used) (l .table)) (l .words)))
   readCallOf (Forward reader state) =
       let head = closedAt (l .head) (reader .slot) in
-      means (forwardCheck (l .table) (l .journal) (l .head) reader state (l .words)) Done
+      means (forwardGrounds (l .table) (l .journal) (l .head) reader state (l .words)) Done
       (withWords
       (withStore l (l .table) (trimmedJournal head (l .journal)) (trimmedHead head))
       (over (l .words) (composeAll (stepsFor (l .journal) (l .head) reader state))))
   readCallOf (Release reader) =
       let head = closedAt (l .head) (reader .slot) in
-      means (releaseCheck (l .table) (l .journal) (l .head) reader) Done
+      means (releaseGrounds (l .table) (l .journal) (l .head) reader) Done
       (withStore l (l .table) (trimmedJournal head (l .journal)) (trimmedHead head))
 
   -- the calls that change nothing of a store
   abbrev pub queryOf : Query → Asking
   queryOf (LookUp asked) = record {
-    check = lookUpCheck (l .table) (l .journal) (l .head) asked;
+    grounds = lookUpGrounds (l .table) (l .journal) (l .head) asked;
     answer = quoteOf (find (asked .offer) (mapHere (l .table) (l .journal) (l .head) (asked .state)));
     words = l .words;
     bytes = l .bytes;
   }
   queryOf WriteImage = record {
-    check = writeCheck (l .table) (l .journal) (l .head) (length (l .bytes));
+    grounds = writeGrounds (l .table) (l .journal) (l .head) (length (l .bytes));
     answer = Count (6 + 8 * l .head .used);
     words = l .words;
     bytes = imageHere (l .table) (l .head) ++ drop (6 + 8 * l .head .used) (l .bytes);

@@ -1,11 +1,9 @@
--- What a call on lent memory answers and leaves, where head and tally are not fit and where they are.
+-- What a call on lent memory answers and leaves, where the words of the head do not fit and where they do.
 -- Assumes nothing.
 use mathlib.Core.Path.{_≡_, refl, sym, ap, ap₂, _∙_}
 use mathlib.Core.Bool.{Bool, true, false, cond}
 use mathlib.Core.List.{List}
 use Prim.Native.Nat.{ℕ}
-use borrow.Author.Tests.{eqb-true}
-use lib.Dec.{eqb}
 use lib.ListN.{length}
 use Rattle.answers.specs.declared.answer.Answer.{Answer}
 use Rattle.answers.specs.declared.answer.Answer.the-variants.{Refused}
@@ -14,39 +12,32 @@ use Rattle.answers.specs.declared.call.Call.the-variants.{Ask}
 use Rattle.answers.specs.declared.call.Query.{Query}
 use Rattle.answers.specs.declared.ground.Ground.the-variants.{Lengths, Unsound}
 use Rattle.answers.specs.declared.tally.Tally.{Tally}
-use Rattle.answers.specs.Answers.{acceptedB, saidBy}
+use Rattle.answers.specs.Answers.{acceptedB, saidBy, Gives}
+use Rattle.answers.proofs.Firsts.{gives}
 use Rattle.layout.specs.declared.head.Head.{Head}
 use Rattle.layout.specs.Clauses.{lengthsB}
-use Rattle.layout.proofs.Holds.{all-first, all-rest}
 use Rattle.calls.specs.Lent.{Lent, lent, Performs}
 use Rattle.calls.specs.Meaning.{performed}
 use Rattle.unit.specs.declared.serve.Served.{Served}
 use Rattle.unit.specs.Serve as Unit
 use Rattle.unit.specs.Serve.{served}
-use Rattle.head_words.specs.HeadWords.{headSize, headOf, headB, wordsOf}
+use Rattle.head_words.specs.HeadWords.{headOf, headB, wordsOf}
 use Rattle.lent.specs.Codes.{codeOf, valueOf}
-use Rattle.lent.specs.Lent.{lentB, unfit, tallyOf, tallyWords, answerTo, Leaves, Serves, Asks, Tells}
+use Rattle.lent.specs.Lent.{fitB, unfit, tallyOf, tallyWords, answerTo, Leaves, Serves, Asks, Tells}
 use Rattle.lent.proofs.Choices.{chosen, passed}
 
 refused-by : (t : Bool) → acceptedB (cond t (Refused Unsound) (Refused Lengths)) ≡ false
 refused-by true = refl
 refused-by false = refl
 
-module _ (head tally : List ℕ) (call : Call) (e : lentB head tally call ≡ true) where
-  pub head-long : length head ≡ headSize
-  head-long = eqb-true (length head) headSize (all-first (eqb (length head) headSize) _ e)
-
-  pub tally-long : length tally ≡ 3
-  tally-long = eqb-true (length tally) 3 (all-first (eqb (length tally) 3) _ (all-rest (eqb (length head) headSize) _ e))
-
 module _ (table journal words bytes head tally : List ℕ) (call : Call) where
-  pub not-served : {r : Answer} → lentB head tally call ≡ false → r ≡ unfit (length table) (length journal)
+  pub not-served : {r : Answer} → fitB head call ≡ false → Gives r (unfit (length table) (length journal))
       → Leaves table journal words bytes head tally call r table journal words bytes head tally
   not-served {r} unfits e =
-      let answered : r ≡ answerTo table journal words bytes head tally call = e ∙ sym (passed unfits _ _) in
+      let answered : r ≡ answerTo table journal words bytes head tally call = e .0 ∙ sym (passed unfits _ _) in
       let away : acceptedB (answerTo table journal words bytes head tally call)
-      ≡ false = ap acceptedB (sym answered ∙ e) ∙ refused-by (lengthsB (length table) (length journal)) in (
-        answered,
+      ≡ false = ap acceptedB (sym answered ∙ e .0) ∙ refused-by (lengthsB (length table) (length journal)) in (
+        gives answered,
         sym (passed unfits _ _),
         sym (passed unfits _ _),
         sym (passed unfits _ _),
@@ -57,11 +48,11 @@ module _ (table journal words bytes head tally : List ℕ) (call : Call) where
       )
 
   pub was-served : {r : Answer} {s : Served} {u : Head} {y : Tally} {t j w b h a : List ℕ}
-      → lentB head tally call ≡ true
+      → fitB head call ≡ true
       → u ≡ headOf head
       → y ≡ tallyOf tally
-      → Unit.Serves y (lent table journal words bytes u) call s t j w b
-      → r ≡ s .reply .answer
+      → Unit.ServesCore y (lent table journal words bytes u) call s t j w b
+      → Gives r (s .reply .answer)
       → h ≡ cond (acceptedB (s .reply .answer)) (wordsOf (s .reply .head)) head
       → a ≡ tallyWords (s .tally)
       → Leaves table journal words bytes head tally call r t j w b h a
@@ -71,7 +62,7 @@ module _ (table journal words bytes head tally : List ℕ) (call : Call) where
       ∙ ap₂ (λ (x : Tally) (z : Head). served x (l z) call) ey eu in
       let answered : s .reply .answer
       ≡ answerTo table journal words bytes head tally call = ap (λ (x : Served). x .reply .answer) whole ∙ sym (chosen fits _ _) in (
-        er ∙ answered,
+        gives (er .0 ∙ answered),
         es .1 ∙ ap (λ (x : Head). performed (l x) call .lent .table) eu ∙ sym (chosen fits _ _),
         es .2 ∙ ap (λ (x : Head). performed (l x) call .lent .journal) eu ∙ sym (chosen fits _ _),
         es .3 ∙ ap (λ (x : Head). performed (l x) call .lent .words) eu ∙ sym (chosen fits _ _),
@@ -83,16 +74,13 @@ module _ (table journal words bytes head tally : List ℕ) (call : Call) where
   -- the code in place of the answer, and the store alone
   pub serves : {r : Answer} {code : ℕ} {t j w b h a : List ℕ} → code ≡ codeOf (saidBy r)
       → Leaves table journal words bytes head tally call r t j w b h a → Serves table journal words bytes head tally call code t j h a
-  serves coded left = (coded ∙ ap (λ (a : Answer). codeOf (saidBy a)) (left .0), left .1, left .2, left .5, left .6)
+  serves coded left = (coded ∙ ap (λ (a : Answer). codeOf (saidBy a)) (left .0 .0), left .1, left .2, left .5, left .6)
 
 -- a query: where the head is not fit, and where it is
-pub head-fits : (head : List ℕ) → headB head ≡ true → length head ≡ headSize
-head-fits head e = eqb-true (length head) headSize (all-first (eqb (length head) headSize) _ e)
-
 module _ (table journal words bytes head : List ℕ) (query : Query) where
-  pub not-asked : {r : Answer} → headB head ≡ false → r ≡ unfit (length table) (length journal)
+  pub not-asked : {r : Answer} → headB head ≡ false → Gives r (unfit (length table) (length journal))
       → Asks table journal words bytes head query r words bytes
-  not-asked unfits e = (e ∙ sym (passed unfits _ _), sym (passed unfits _ _), sym (passed unfits _ _))
+  not-asked unfits e = (gives (e .0 ∙ sym (passed unfits _ _)), sym (passed unfits _ _), sym (passed unfits _ _))
 
   pub was-asked : {r : Answer} {u : Head} {w b : List ℕ}
       → headB head ≡ true
@@ -100,7 +88,7 @@ module _ (table journal words bytes head : List ℕ) (query : Query) where
       → Performs (performed (lent table journal words bytes u) (Ask query)) r table journal w b u
       → Asks table journal words bytes head query r w b
   was-asked fits eu es = (
-    es .0 .0 ∙ ap (λ (x : Head). performed (lent table journal words bytes x) (Ask query) .answer) eu ∙ sym (chosen fits _ _),
+    gives (es .0 .0 ∙ ap (λ (x : Head). performed (lent table journal words bytes x) (Ask query) .answer) eu ∙ sym (chosen fits _ _)),
     es .3 ∙ ap (λ (x : Head). performed (lent table journal words bytes x) (Ask query) .lent .words) eu ∙ sym (chosen fits _ _),
     es .4 ∙ ap (λ (x : Head). performed (lent table journal words bytes x) (Ask query) .lent .bytes) eu ∙ sym (chosen fits _ _),
   )
@@ -112,6 +100,6 @@ module _ (table journal words bytes head : List ℕ) (query : Query) where
       → Asks table journal words bytes head query r w b
       → Tells table journal words bytes head query code value old
   tells old coded valued asked = (
-    coded ∙ ap (λ (a : Answer). codeOf (saidBy a)) (asked .0),
-    valued ∙ ap (λ (a : Answer). valueOf (saidBy a) old) (asked .0),
+    coded ∙ ap (λ (a : Answer). codeOf (saidBy a)) (asked .0 .0),
+    valued ∙ ap (λ (a : Answer). valueOf (saidBy a) old) (asked .0 .0),
   )

@@ -4,11 +4,13 @@ use answers::answer::Answer;
 use answers::call::Call;
 use answers::call::Query;
 use calls::ask::ask;
+use head_words::HEAD_WORDS;
 use head_words::is_head;
 use head_words::unpack;
 use lent::codes::code_of;
-use lent::fit::is_lent;
+use lent::fit::is_fit;
 use lent::fit::unfit_answer;
+use lent::storing::TALLY_WORDS;
 use lent::storing::put_served;
 use lent::storing::tally_in;
 use unit::serve::serve_core;
@@ -22,15 +24,15 @@ pub(crate) fn call_on(
     journal: &mut [u64],
     words: &mut [u64],
     bytes: &mut [u8],
-    head: &mut [u64],
-    tally: &mut [u64],
+    head: &mut [u64; HEAD_WORDS],
+    tally: &mut [u64; TALLY_WORDS],
     call: Call,
 ) -> Answer
     ensures { λ r. ⌜ Leaves (now (table .entry)) (now (journal .entry)) (now (words .entry)) (now (bytes .entry))
         (now (head .entry)) (now (tally .entry)) call r (now (table .exit)) (now (journal .exit)) (now (words .exit))
         (now (bytes .exit)) (now (head .exit)) (now (tally .exit)) ⌝ }
 {
-    if !is_lent(head, tally, call) {
+    if !is_fit(head, call) {
         return unfit_answer(table.len(), journal.len());
     }
     let served = serve_core(
@@ -49,8 +51,8 @@ pub(crate) fn call_on(
 pub(crate) fn serve_words(
     table: &mut [u64],
     journal: &mut [u64],
-    head: &mut [u64],
-    tally: &mut [u64],
+    head: &mut [u64; HEAD_WORDS],
+    tally: &mut [u64; TALLY_WORDS],
     words: &mut [u64],
     call: Call,
 ) -> u64
@@ -69,8 +71,8 @@ pub(crate) fn serve_words(
 pub(crate) fn serve_store(
     table: &mut [u64],
     journal: &mut [u64],
-    head: &mut [u64],
-    tally: &mut [u64],
+    head: &mut [u64; HEAD_WORDS],
+    tally: &mut [u64; TALLY_WORDS],
     call: Call,
 ) -> u64
     ensures { λ r. ⌜ Serves (now (table .entry)) (now (journal .entry)) [] [] (now (head .entry)) (now (tally .entry))
@@ -86,7 +88,7 @@ pub(crate) fn ask_on(
     journal: &[u64],
     words: &mut [u64],
     bytes: &mut [u8],
-    head: &[u64],
+    head: &[u64; HEAD_WORDS],
     query: Query,
 ) -> Answer
     ensures { λ r. ⌜ Asks (now (table .entry)) (now (journal .entry)) (now (words .entry)) (now (bytes .entry))

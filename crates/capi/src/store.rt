@@ -10,8 +10,10 @@ use answers::call::Read;
 use answers::call::Reader;
 use answers::call::Reset;
 use answers::call::Step;
+use head_words::HEAD_WORDS;
 use lent::codes::code_of;
 use lent::codes::value_of;
+use lent::storing::TALLY_WORDS;
 ghost use mathlib.Core.Path.{_≡_};
 ghost use mathlib.Core.List.{[]};
 ghost use Rattle.lent.specs.Asked.{clear, load, restart, commit, rollBack, flush, issue, forward, release, lookUp, writeImage};
@@ -22,8 +24,8 @@ ghost use Rattle.lent.specs.Lent.{Serves, Tells, wordsAfter, bytesAfter, bytesW
 pub extern "C" fn cechnuol_clear(
     table: &mut [u64],
     journal: &mut [u64],
-    head: &mut [u64],
-    tally: &mut [u64],
+    head: &mut [u64; HEAD_WORDS],
+    tally: &mut [u64; TALLY_WORDS],
 ) -> u64
     ensures { λ r. ⌜ Serves (now (table .entry)) (now (journal .entry)) [] [] (now (head .entry)) (now (tally .entry))
         clear r (now (table .exit)) (now (journal .exit)) (now (head .exit)) (now (tally .exit)) ⌝ }
@@ -36,8 +38,8 @@ pub extern "C" fn cechnuol_clear(
 pub extern "C" fn cechnuol_load(
     table: &mut [u64],
     journal: &mut [u64],
-    head: &mut [u64],
-    tally: &mut [u64],
+    head: &mut [u64; HEAD_WORDS],
+    tally: &mut [u64; TALLY_WORDS],
     bytes: &mut [u8],
 ) -> u64
     ensures { λ r. ⌜ Serves (now (table .entry)) (now (journal .entry)) [] (now (bytes .entry)) (now (head .entry))
@@ -64,7 +66,7 @@ pub extern "C" fn cechnuol_load(
 pub extern "C" fn cechnuol_write_image(
     table: &[u64],
     journal: &[u64],
-    head: &[u64],
+    head: &[u64; HEAD_WORDS],
     bytes: &mut [u8],
     count: &mut u64,
 ) -> u64
@@ -84,8 +86,8 @@ pub extern "C" fn cechnuol_write_image(
 pub extern "C" fn cechnuol_restart(
     table: &mut [u64],
     journal: &mut [u64],
-    head: &mut [u64],
-    tally: &mut [u64],
+    head: &mut [u64; HEAD_WORDS],
+    tally: &mut [u64; TALLY_WORDS],
     bytes: &mut [u8],
 ) -> u64
     ensures { λ r. ⌜ Serves (now (table .entry)) (now (journal .entry)) [] (now (bytes .entry)) (now (head .entry))
@@ -112,8 +114,8 @@ pub extern "C" fn cechnuol_restart(
 pub extern "C" fn cechnuol_commit(
     table: &mut [u64],
     journal: &mut [u64],
-    head: &mut [u64],
-    tally: &mut [u64],
+    head: &mut [u64; HEAD_WORDS],
+    tally: &mut [u64; TALLY_WORDS],
     words: &mut [u64],
 ) -> u64
     ensures { λ r. ⌜ Serves (now (table .entry)) (now (journal .entry)) (now (words .entry)) [] (now (head .entry))
@@ -130,8 +132,8 @@ pub extern "C" fn cechnuol_commit(
 pub extern "C" fn cechnuol_roll_back(
     table: &mut [u64],
     journal: &mut [u64],
-    head: &mut [u64],
-    tally: &mut [u64],
+    head: &mut [u64; HEAD_WORDS],
+    tally: &mut [u64; TALLY_WORDS],
     state: u32,
 ) -> u64
     ensures { λ r. ⌜ Serves (now (table .entry)) (now (journal .entry)) [] [] (now (head .entry)) (now (tally .entry))
@@ -151,8 +153,8 @@ pub extern "C" fn cechnuol_roll_back(
 pub extern "C" fn cechnuol_flush(
     table: &mut [u64],
     journal: &mut [u64],
-    head: &mut [u64],
-    tally: &mut [u64],
+    head: &mut [u64; HEAD_WORDS],
+    tally: &mut [u64; TALLY_WORDS],
     state: u32,
 ) -> u64
     ensures { λ r. ⌜ Serves (now (table .entry)) (now (journal .entry)) [] [] (now (head .entry)) (now (tally .entry))
@@ -166,7 +168,7 @@ pub extern "C" fn cechnuol_flush(
 pub extern "C" fn cechnuol_look_up(
     table: &[u64],
     journal: &[u64],
-    head: &[u64],
+    head: &[u64; HEAD_WORDS],
     offer: u32,
     state: u32,
     price: &mut u64,
@@ -194,8 +196,8 @@ pub extern "C" fn cechnuol_look_up(
 pub extern "C" fn cechnuol_issue(
     table: &mut [u64],
     journal: &mut [u64],
-    head: &mut [u64],
-    tally: &mut [u64],
+    head: &mut [u64; HEAD_WORDS],
+    tally: &mut [u64; TALLY_WORDS],
     slot: usize,
     words: &mut [u64],
 ) -> u64
@@ -220,8 +222,8 @@ pub extern "C" fn cechnuol_issue(
 pub extern "C" fn cechnuol_forward(
     table: &mut [u64],
     journal: &mut [u64],
-    head: &mut [u64],
-    tally: &mut [u64],
+    head: &mut [u64; HEAD_WORDS],
+    tally: &mut [u64; TALLY_WORDS],
     slot: usize,
     state: u32,
     words: &mut [u64],
@@ -247,8 +249,8 @@ pub extern "C" fn cechnuol_forward(
 pub extern "C" fn cechnuol_release(
     table: &mut [u64],
     journal: &mut [u64],
-    head: &mut [u64],
-    tally: &mut [u64],
+    head: &mut [u64; HEAD_WORDS],
+    tally: &mut [u64; TALLY_WORDS],
     slot: usize,
 ) -> u64
     ensures { λ r. ⌜ Serves (now (table .entry)) (now (journal .entry)) [] [] (now (head .entry)) (now (tally .entry))

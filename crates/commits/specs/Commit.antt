@@ -10,7 +10,7 @@ use Rattle.changes.specs.Lists.{listB}
 use Rattle.changes.specs.Runs.{startOf}
 use Rattle.answers.specs.declared.answer.Check.{Check}
 use Rattle.answers.specs.declared.ground.Ground.the-variants.{BadList, LastState, StepsFull, JournalFull}
-use Rattle.answers.specs.First.{met, first, ifPassed}
+use Rattle.answers.specs.First.{Test, met, first, ifPassed}
 use Rattle.layout.specs.declared.head.Head.{Head}
 use Rattle.layout.specs.Heads.{withSteps}
 use Rattle.soundness.specs.Checks.{storeGrounds}
@@ -20,20 +20,21 @@ use Rattle.layout.specs.States.{heldOf}
 abbrev pub usedOf : Head → ℕ
 usedOf head = startOf (head .ends) (heldOf head)
 
+-- grounds 12 and 13: "The tip is 2^32 − 1 at a commit.", "64 steps are held at a commit."
+abbrev pub stepGrounds : Head → List Test
+stepGrounds head = met (eqb (head .tip) 4294967295) LastState ∷ met (eqb (heldOf head) 64) StepsFull ∷ []
+
 -- grounds 1, 2, 6, 12, 13, 14
-abbrev pub commitCheck : List ℕ → List ℕ → Head → List ℕ → Check
-commitCheck table journal head list =
-    first
-    (storeGrounds table journal head
+abbrev pub commitGrounds : List ℕ → List ℕ → Head → List ℕ → List Test
+commitGrounds table journal head list =
+    storeGrounds table journal head
     -- "A list breaks its rules"
-    ++ (met (not (listB list)) BadList
-    -- "The tip is 2^32 − 1 at a commit."
-    ∷ met (eqb (head .tip) 4294967295) LastState
-    -- "64 steps are held at a commit."
-    ∷ met (eqb (heldOf head) 64) StepsFull
+    ++ (met (not (listB list)) BadList ∷ stepGrounds head
     -- "The commit's words exceed the unused change words."
-    ∷ met (ltb (length journal - usedOf head) (length list)) JournalFull
-    ∷ []))
+    ++ (met (ltb (length journal - usedOf head) (length list)) JournalFull ∷ []))
+
+abbrev pub commitCheck : List ℕ → List ℕ → Head → List ℕ → Check
+commitCheck table journal head list = first (commitGrounds table journal head list)
 
 -- "A commit writes only the unused end of change memory."
 abbrev pub withList : List ℕ → ℕ → List ℕ → List ℕ

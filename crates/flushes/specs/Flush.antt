@@ -11,7 +11,7 @@ use Rattle.answers.specs.declared.answer.Answer.the-variants.{Count}
 use Rattle.answers.specs.declared.answer.Check.{Check}
 use Rattle.answers.specs.declared.ground.Ground.the-variants.{TableFull}
 use Rattle.answers.specs.Answers.{answered}
-use Rattle.answers.specs.First.{met, first, ifPassed}
+use Rattle.answers.specs.First.{Test, met, first, ifPassed}
 use Rattle.layout.specs.declared.head.Head.{Head}
 use Rattle.layout.specs.Heads.{withTable}
 use Rattle.layout.specs.States.{mapHere}
@@ -21,12 +21,14 @@ use Rattle.views.specs.View.{padded}
 
 -- grounds 1, 2, 11 ("below the anchor or above the tip"), 16 ("The map to be flushed or loaded has more offers than the book has
 -- words"): only the map at the state named counts, not those on the way to it
-abbrev pub flushCheck : List ℕ → List ℕ → Head → ℕ → Check
-flushCheck table journal head state =
-    first
-    (storeGrounds table journal head
+abbrev pub flushGrounds : List ℕ → List ℕ → Head → ℕ → List Test
+flushGrounds table journal head state =
+    storeGrounds table journal head
     ++ stateGrounds head state
-    ++ (met (ltb (length table) (length (mapHere table journal head state))) TableFull ∷ []))
+    ++ (met (ltb (length table) (length (mapHere table journal head state))) TableFull ∷ [])
+
+abbrev pub flushCheck : List ℕ → List ℕ → Head → ℕ → Check
+flushCheck table journal head state = first (flushGrounds table journal head state)
 
 -- the words that the table uses after a flush, or the ground that turns it away
 abbrev pub flushSize : List ℕ → List ℕ → Head → ℕ → Answer

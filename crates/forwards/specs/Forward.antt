@@ -11,7 +11,7 @@ use Rattle.changes.specs.ReadSets.{over}
 use Rattle.answers.specs.declared.answer.Check.{Check}
 use Rattle.answers.specs.declared.call.Reader.{Reader}
 use Rattle.answers.specs.declared.ground.Ground.the-variants.{SlotClosed, BadList}
-use Rattle.answers.specs.First.{met, first, ifPassed}
+use Rattle.answers.specs.First.{Test, met, first, ifPassed}
 use Rattle.layout.specs.declared.head.Head.{Head}
 use Rattle.soundness.specs.Checks.{storeGrounds, stateGrounds}
 use Rattle.layout.specs.States.{stepsBetween}
@@ -19,12 +19,14 @@ use Rattle.views.specs.Trim.{trimmedHead, trimmedJournal}
 use Rattle.slots.specs.Slots.{slotGrounds, closedAt}
 
 -- grounds 1, 2, 3, 5, 6 ("A list breaks its rules"), 11 ("below the anchor or above the tip")
-abbrev pub forwardCheck : List ℕ → List ℕ → Head → Reader → ℕ → List ℕ → Check
-forwardCheck table journal head reader state words =
-    first
-    (storeGrounds table journal head
+abbrev pub forwardGrounds : List ℕ → List ℕ → Head → Reader → ℕ → List ℕ → List Test
+forwardGrounds table journal head reader state words =
+    storeGrounds table journal head
     ++ slotGrounds reader
-    ++ (met (not (getD (head .taken) (reader .slot) false)) SlotClosed ∷ met (not (listB words)) BadList ∷ stateGrounds head state))
+    ++ (met (not (getD (head .taken) (reader .slot) false)) SlotClosed ∷ met (not (listB words)) BadList ∷ stateGrounds head state)
+
+abbrev pub forwardCheck : List ℕ → List ℕ → Head → Reader → ℕ → List ℕ → Check
+forwardCheck table journal head reader state words = first (forwardGrounds table journal head reader state words)
 
 -- the steps from the slot's number, which may lie below the checkpoint, to the state
 abbrev pub stepsFor : List ℕ → Head → Reader → ℕ → List (List ℕ)

@@ -1,8 +1,8 @@
 -- The test that each word is below a number, as a loop meets it.
 -- Assumes nothing.
-use mathlib.Core.Path.{_≡_, ap, _∙_}
+use mathlib.Core.Path.{_≡_, refl, ap, _∙_}
 use mathlib.Core.Bool.{true, false}
-use mathlib.Core.List.{List, _∷_}
+use mathlib.Core.List.{List, [], _∷_}
 use Prim.Native.Nat.{ℕ, _+_, _≤_, _<_}
 use borrow.Author.Tests.{lt-ltb, le-ltb}
 use lib.ListN.{length, getD, drop, drop-of-length-le}
@@ -14,9 +14,13 @@ module _ (bound w : ℕ) (l : List ℕ) where
   unfolding belowB
   below-stop h = rw (le-ltb w bound h)
 
-  below-on : w < bound → belowB bound (w ∷ l) ≡ belowB bound l
+  pub below-on : w < bound → belowB bound (w ∷ l) ≡ belowB bound l
   unfolding belowB
   below-on h = rw (lt-ltb w bound h)
+
+pub below-none : (bound : ℕ) → belowB bound [] ≡ true
+unfolding belowB
+below-none bound = refl
 
 module _ (bound : ℕ) (l : List ℕ) (i : ℕ) where
   pub below-at-end : length l ≤ i → belowB bound (drop i l) ≡ true

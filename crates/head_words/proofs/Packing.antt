@@ -1,10 +1,10 @@
 -- A head that is put into its words.
 -- Assumes nothing.
-use mathlib.Core.Path.{_≡_, refl, sym, subst, _∙_}
+use mathlib.Core.Path.{_≡_, refl, sym, ap, subst, _∙_}
 use mathlib.Core.List.{List, [], _∷_, _++_, map, append-assoc}
 use Prim.Native.Nat.{ℕ, _+_, _≤_}
 use native.Mathlib.Omega.{arith}
-use lib.ListN.{length, length-map, take, drop, set}
+use lib.ListN.{length, length-map, take, drop, set, length-set}
 use Rattle.layout.specs.declared.head.Head.{Head}
 use Rattle.words.proofs.Writing.{Writing, start, wrote}
 use Rattle.words.proofs.Pieces.{wrote-piece}
@@ -13,6 +13,15 @@ use Rattle.head_words.specs.HeadWords.{headSize, wordOf}
 -- room for a part of the head
 pub room : (n : ℕ) {m : ℕ} → m ≡ headSize → n ≤ headSize → n ≤ m
 room n e l = omega arith
+
+-- four words are put and their number stays
+pub put-long : (l : List ℕ) {first : List ℕ} (a b c d n : ℕ) → first ≡ set (set (set (set l 0 a) 1 b) 2 c) 3 d
+    → length first ≡ n → length l ≡ n
+put-long l a b c d n p e =
+    sym (length-set (set (set (set l 0 a) 1 b) 2 c) 3 d ∙ length-set (set (set l 0 a) 1 b) 2 c
+    ∙ length-set (set l 0 a) 1 b ∙ length-set l 0 a)
+    ∙ sym (ap length p)
+    ∙ e
 
 -- the words of the fields that tell what a store holds; they come first
 abbrev pub told : Head → List ℕ

@@ -3,20 +3,21 @@
 use mathlib.Core.Path.{_≡_, refl, sym, ap, ap₂, _∙_}
 use mathlib.Core.Bool.{Bool, true, false}
 use mathlib.Core.List.{List, [], _∷_, _++_, map, append-assoc, append-nil}
-use Prim.Native.Nat.{ℕ, zero, suc, _+_, _<_}
+use Prim.Native.Nat.{ℕ, zero, suc, _+_, _≤_, _<_}
 use native.Mathlib.Omega.{arith}
-use native.Mathlib.Nat.{mod-eq-of-lt}
-use borrow.Author.Tests.{eqb-true, ltb-true}
-use lib.Dec.{eqb, ltb}
-use lib.ListN.{length, length-map, getD, take, drop, take-append-drop, drop-of-length-le}
-use lib.Seq.{take-at, drop-at, drop-drop}
+use native.Mathlib.Nat.{mod-eq-of-lt, mod-lt}
+use borrow.Author.Tests.{ltb-true, lt-ltb}
+use lib.Dec.{ltb}
+use lib.ListN.{length, length-map, length-append, length-drop, getD, take, drop, take-append-drop, drop-of-length-le}
+use lib.Seq.{take-at, drop-at, drop-drop, length-take-le}
 use Rattle.changes.proofs.ListTest.{and-both}
 use Rattle.layout.specs.declared.head.Head.{Head}
 use Rattle.layout.specs.Heads.{headWith}
-use Rattle.layout.proofs.Holds.{all-first, all-rest}
+use Rattle.layout.proofs.Holds.{all-first, all-rest, first-holds, last-test}
 use Rattle.words.proofs.Parts.{next}
+use Rattle.head_words.proofs.Below.{below-none, below-on}
 use Rattle.head_words.proofs.Packing.{told}
-use Rattle.head_words.specs.HeadWords.{headSize, limit, flagOf, wordOf, numberIn, from, headOf, wordsOf, belowB, headB}
+use Rattle.head_words.specs.HeadWords.{headSize, limit, flagOf, wordOf, numberIn, from, headOf, wordsOf, belowB, headB, Fits}
 
 module _ (bound w : ℕ) (l : List ℕ) (e : belowB bound (w ∷ l) ≡ true) where
   below-first : w < bound
@@ -53,20 +54,16 @@ word-flags [] = refl
 word-flags (t ∷ l) = ap₂ (λ (s : Bool) (r : List Bool). s ∷ r) (word-flag t) (word-flags l)
 
 -- words that fit come back
-module _ (w : List ℕ) (e : headB w ≡ true) where
-  long : length w ≡ headSize
-  long = eqb-true (length w) headSize (all-first (eqb (length w) headSize) _ e)
-
+module _ (w : List ℕ) (long : length w ≡ headSize) (e : headB w ≡ true) where
   states-fit : belowB limit (from 1 3 w) ≡ true
-  states-fit = all-first (belowB limit (from 1 3 w)) _ (all-rest (eqb (length w) headSize) _ e)
+  states-fit = all-first (belowB limit (from 1 3 w)) _ e
 
   flags-fit : belowB 2 (from 4 8 w) ≡ true
-  flags-fit = all-first (belowB 2 (from 4 8 w)) _ (all-rest (belowB limit (from 1 3 w)) _ (all-rest (eqb (length w) headSize) _ e))
+  flags-fit = all-first (belowB 2 (from 4 8 w)) _ (all-rest (belowB limit (from 1 3 w)) _ e)
 
   issued-fit : belowB limit (from 12 8 w) ≡ true
   issued-fit =
-      all-first (belowB limit (from 12 8 w)) _
-      (all-rest (belowB 2 (from 4 8 w)) _ (all-rest (belowB limit (from 1 3 w)) _ (all-rest (eqb (length w) headSize) _ e)))
+      all-first (belowB limit (from 12 8 w)) _ (all-rest (belowB 2 (from 4 8 w)) _ (all-rest (belowB limit (from 1 3 w)) _ e))
 
   three : drop 1 w ≡ getD w 1 0 ∷ getD w 2 0 ∷ getD w 3 0 ∷ drop 4 w
   three =
@@ -120,17 +117,7 @@ module _ (w : List ℕ) (e : headB w ≡ true) where
       ∙ ap (λ (r : List ℕ). told (headOf w) ++ r) (sym (drop-of-length-le w {i = 84} (omega (arith, long))))
       ∙ told-back
 
--- a head whose fields fit comes back
-pub record Fits (head : Head) : Type 0 where
-  pub oldest-low : head .oldest < limit
-  pub checkpoint-low : head .checkpoint < limit
-  pub tip-low : head .tip < limit
-  pub eight-taken : length (head .taken) ≡ 8
-  pub eight-issued : length (head .issued) ≡ 8
-  pub issued-low : belowB limit (head .issued) ≡ true
-  pub all-ends : length (head .ends) ≡ 64
-
--- the fields that tell what a store holds, read from their words, whatever comes behind
+-- a head whose fields fit comes back: the fields that tell what a store holds, read from their words, whatever comes behind
 module _ (head : Head) (f : Fits head) (behind : List ℕ) where
   abbrev words : List ℕ
   words = told head ++ behind
@@ -178,3 +165,79 @@ module _ (head : Head) (f : Fits head) (behind : List ℕ) where
 
 pub head-back : (head : Head) → Fits head → headOf (wordsOf head) ≡ head
 head-back head f = ap headOf (sym (append-nil (wordsOf head))) ∙ told-read head f []
+
+-- where each field stands in the words
+pub word-used : (head : Head) → getD (wordsOf head) 0 0 ≡ head .used
+word-used head = refl
+
+pub word-oldest : (head : Head) → getD (wordsOf head) 1 0 ≡ head .oldest
+word-oldest head = refl
+
+pub word-checkpoint : (head : Head) → getD (wordsOf head) 2 0 ≡ head .checkpoint
+word-checkpoint head = refl
+
+pub word-tip : (head : Head) → getD (wordsOf head) 3 0 ≡ head .tip
+word-tip head = refl
+
+pub words-taken : (head : Head) → Fits head → from 4 8 (wordsOf head) ≡ map wordOf (head .taken)
+words-taken head f = ap (from 4 8) (sym (append-nil (wordsOf head))) ∙ taken-part head f []
+
+pub words-issued : (head : Head) → Fits head → from 12 8 (wordsOf head) ≡ head .issued
+words-issued head f = ap (from 12 8) (sym (append-nil (wordsOf head))) ∙ issued-part head f []
+
+pub words-ends : (head : Head) → Fits head → from 20 64 (wordsOf head) ≡ head .ends
+words-ends head f = ap (from 20 64) (sym (append-nil (wordsOf head))) ∙ ends-part head f []
+
+-- a head whose fields fit has 84 words, which fit
+pub words-long : (head : Head) → Fits head → length (wordsOf head) ≡ headSize
+words-long head f =
+    let first = head .used ∷ head .oldest ∷ head .checkpoint ∷ head .tip ∷ [] in
+    let flags = map wordOf (head .taken) in
+    omega (
+      arith,
+      length-append first flags,
+      length-append (first ++ flags) (head .issued),
+      length-append
+          (first ++ flags ++ head .issued) (head .ends),
+      length-map (head .taken) wordOf,
+      f .eight-taken,
+      f .eight-issued,
+      f .all-ends,
+    )
+
+flags-below : (l : List Bool) → belowB 2 (map wordOf l) ≡ true
+flags-below [] = below-none 2
+flags-below (true ∷ l) = below-on 2 1 (map wordOf l) (omega arith) ∙ flags-below l
+flags-below (false ∷ l) = below-on 2 0 (map wordOf l) (omega arith) ∙ flags-below l
+
+pub head-words-fit : (head : Head) → Fits head → headB (wordsOf head) ≡ true
+head-words-fit head f =
+    first-holds (belowB limit (head .oldest ∷ head .checkpoint ∷ head .tip ∷ [])) _
+    (below-on limit (head .oldest) _ (f .oldest-low)
+    ∙ below-on limit (head .checkpoint) _ (f .checkpoint-low)
+    ∙ below-on limit (head .tip) _ (f .tip-low)
+    ∙ below-none limit)
+    ∙ first-holds (belowB 2 (from 4 8 (wordsOf head))) _ (ap (belowB 2) (words-taken head f) ∙ flags-below (head .taken))
+    ∙ last-test (belowB limit (from 12 8 (wordsOf head)))
+    ∙ ap (belowB limit) (words-issued head f)
+    ∙ f .issued-low
+
+-- whatever 84 words hold, the fields of the head that is read from them fit
+numbers-low : (l : List ℕ) → belowB limit (map numberIn l) ≡ true
+unfolding belowB
+numbers-low [] = refl
+numbers-low (w ∷ l) = rw (lt-ltb (numberIn w) limit (mod-lt w (omega arith))) (numbers-low l)
+
+part-long : (w : List ℕ) (i n : ℕ) → i + n ≤ length w → length (from i n w) ≡ n
+part-long w i n h = length-take-le n (drop i w) (omega (arith, length-drop i w))
+
+pub words-fits : (w : List ℕ) → length w ≡ headSize → Fits (headOf w)
+words-fits w long = record {
+  oldest-low = mod-lt (getD w 1 0) (omega arith);
+  checkpoint-low = mod-lt (getD w 2 0) (omega arith);
+  tip-low = mod-lt (getD w 3 0) (omega arith);
+  eight-taken = length-map (from 4 8 w) flagOf ∙ part-long w 4 8 (omega (arith, long));
+  eight-issued = length-map (from 12 8 w) numberIn ∙ part-long w 12 8 (omega (arith, long));
+  issued-low = numbers-low (from 12 8 w);
+  all-ends = part-long w 20 64 (omega (arith, long));
+}

@@ -1,8 +1,9 @@
 -- The head as a C program lends it: 84 words, which are used, oldest, checkpoint, tip, taken (8), issued (8) and ends (64).
 -- Assumes nothing.
+use mathlib.Core.Path.{_≡_}
 use mathlib.Core.Bool.{Bool, true, cond, _&&_}
 use mathlib.Core.List.{List, [], _∷_, _++_, map}
-use Prim.Native.Nat.{ℕ, _%_}
+use Prim.Native.Nat.{ℕ, _%_, _<_}
 use lib.Dec.{eqb, ltb}
 use lib.ListN.{length, getD, take, drop}
 use Rattle.layout.specs.declared.head.Head.{Head}
@@ -57,12 +58,21 @@ unfoldable pub belowB : ℕ → List ℕ → Bool
 belowB bound [] = true
 belowB bound (w ∷ words) = ltb w bound && belowB bound words
 
--- the words fit their fields: state numbers of 32 bits, flags of one
+-- the words fit their fields: state numbers of 32 bits, flags of one (that they are 84 is a fact of their type)
 abbrev pub headB : List ℕ → Bool
 headB words =
     allOf
-    (eqb (length words) headSize
-    ∷ belowB limit (from 1 3 words)
+    (belowB limit (from 1 3 words)
     ∷ belowB 2 (from 4 8 words)
     ∷ belowB limit (from 12 8 words)
     ∷ [])
+
+-- a head whose fields fit their words
+pub record Fits (head : Head) : Type 0 where
+  pub oldest-low : head .oldest < limit
+  pub checkpoint-low : head .checkpoint < limit
+  pub tip-low : head .tip < limit
+  pub eight-taken : length (head .taken) ≡ 8
+  pub eight-issued : length (head .issued) ≡ 8
+  pub issued-low : belowB limit (head .issued) ≡ true
+  pub all-ends : length (head .ends) ≡ 64

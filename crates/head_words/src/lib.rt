@@ -4,7 +4,7 @@ ghost use mathlib.Core.Path.{_≡_};
 ghost use mathlib.Core.List.{map, _++_};
 ghost use Prim.Native.Nat.{_+_, _≤_};
 ghost use lib.ListN.{length, take, drop, set};
-ghost use Rattle.head_words.specs.HeadWords.{headSize, flagOf, wordOf, numberIn, headOf, wordsOf, belowB, headB};
+ghost use Rattle.head_words.specs.HeadWords.{flagOf, wordOf, numberIn, headOf, wordsOf, belowB, headB};
 
 // How many words a head has.
 pub const HEAD_WORDS: usize = 84;
@@ -27,19 +27,17 @@ fn are_below(words: &[u64], bound: u64) -> bool
 }
 
 // Whether the words fit the fields of a head.
-pub fn is_head(words: &[u64]) -> bool
+pub fn is_head(words: &[u64; HEAD_WORDS]) -> bool
     ensures { λ r. ⌜ r ≡ headB (now (words .entry)) ⌝ }
 {
-    if words.len() != HEAD_WORDS {
+    let all = &words[..];
+    if !are_below(&all[1..4], LIMIT) {
         return false;
     }
-    if !are_below(&words[1..4], LIMIT) {
+    if !are_below(&all[4..12], 2) {
         return false;
     }
-    if !are_below(&words[4..12], 2) {
-        return false;
-    }
-    are_below(&words[12..20], LIMIT)
+    are_below(&all[12..20], LIMIT)
 }
 
 fn flags_of(words: &[u64]) -> [bool; 8]
@@ -82,18 +80,18 @@ fn ends_of(words: &[u64]) -> [usize; 64]
 }
 
 // The head that the words hold.
-pub fn unpack(words: &[u64]) -> Head
-    requires { ⌜ length (now words) ≡ headSize ⌝ }
+pub fn unpack(words: &[u64; HEAD_WORDS]) -> Head
     ensures { λ r. ⌜ r ≡ headOf (now (words .entry)) ⌝ }
 {
+    let all = &words[..];
     Head {
         used: words[0] as usize,
         oldest: (words[1] % LIMIT) as u32,
         checkpoint: (words[2] % LIMIT) as u32,
         tip: (words[3] % LIMIT) as u32,
-        taken: flags_of(&words[4..12]),
-        issued: numbers_of(&words[12..20]),
-        ends: ends_of(&words[20..84]),
+        taken: flags_of(&all[4..12]),
+        issued: numbers_of(&all[12..20]),
+        ends: ends_of(&all[20..84]),
     }
 }
 
@@ -139,8 +137,7 @@ fn put_ends(ends: &[usize], words: &mut [u64], at: usize)
 }
 
 // Puts the numbers of a head into the first four words.
-fn put_first(used: usize, oldest: u32, checkpoint: u32, tip: u32, words: &mut [u64])
-    requires { ⌜ length (now words) ≡ headSize ⌝ }
+fn put_first(used: usize, oldest: u32, checkpoint: u32, tip: u32, words: &mut [u64; HEAD_WORDS])
     ensures { λ r. ⌜ now (words .exit) ≡ set (set (set (set (now (words .entry)) 0 used) 1 oldest) 2 checkpoint) 3 tip ⌝ }
 {
     words[0] = used as u64;
@@ -150,8 +147,7 @@ fn put_first(used: usize, oldest: u32, checkpoint: u32, tip: u32, words: &mut [u
 }
 
 // Puts a head into its words.
-pub fn pack(head: Head, words: &mut [u64])
-    requires { ⌜ length (now words) ≡ headSize ⌝ }
+pub fn pack(head: Head, words: &mut [u64; HEAD_WORDS])
     ensures { λ r. ⌜ now (words .exit) ≡ wordsOf head ⌝ }
 {
     put_first(head.used, head.oldest, head.checkpoint, head.tip, words);

@@ -5,6 +5,6 @@ pub mod Loads
 pub mod StepCalls
 pub mod ReadCalls
 pub mod Stored
-pub mod Theorem
+pub mod Following
 pub mod Outstanding
 pub mod Views

@@ -5,7 +5,6 @@ use mathlib.Core.Bool.{true, not}
 use mathlib.Core.List.{List, [], _∷_}
 use Prim.Native.Nat.{ℕ, zero, suc, _+_, _-_}
 use native.Mathlib.Omega.{arith}
-use borrow.Author.Tests.{le-leb}
 use lib.Dec.{ltb}
 use lib.ListN.{length, getD, take, drop, replicate}
 use lib.Seq.{take-nil, drop-nil}
@@ -13,23 +12,19 @@ use Rattle.changes.specs.Lists.{All}
 use Rattle.answers.specs.declared.answer.Check.{Check}
 use Rattle.answers.specs.declared.answer.Check.the-variants.{Passed}
 use Rattle.answers.specs.declared.call.Reset.the-variants.{Load}
-use Rattle.answers.specs.Answers.{answered}
-use Rattle.answers.specs.First.{ifPassed}
 use Rattle.answers.proofs.Firsts.{first-not}
 use Rattle.image.specs.Image.{imageB, numberIn, wordsIn}
 use Rattle.image.proofs.Words.{words-in-length}
 use Rattle.layout.specs.Clauses.{lengthsB}
 use Rattle.views.specs.View.{Store, viewTable, encode, Good}
-use Rattle.layout.proofs.Holds.{first-holds, all-none}
 use Rattle.snapshot.specs.Snapshots.{loadCheck}
 use Rattle.snapshot.specs.Fresh.{freshHead}
 use Rattle.snapshot.specs.FreshView.{freshView}
 use Rattle.snapshot.proofs.ImagesAccepted.{load-ok}
 use Rattle.snapshot.proofs.OnViews.{load-leaves}
-use Rattle.history.specs.Condition3.{InRange}
 use Rattle.history.specs.Plain.{met, closed, firstOf, leastOf, Line, listsBetween, loadChecked, loadedPlain}
 use Rattle.history.specs.Traces.{nothing, lentWith, storeIn, lengthsOf}
-use Rattle.calls.specs.Lent.{Left}
+use Rattle.calls.specs.Lent.{Left, settledBy}
 use Rattle.calls.specs.Meaning.{resetOf}
 use Rattle.history.proofs.Stored.{storeOf, verdictOf, verdict-of}
 use Rattle.history.proofs.Outstanding.{Kept, Outstanding, of-closed}
@@ -43,21 +38,12 @@ between-none l a b e =
     ∙ take-nil (b - a)
 
 -- what a load leaves, by its check
-abbrev pub settledBy : Check → Store → List ℕ → Left
-settledBy c s image =
+abbrev pub loadedBy : Check → Store → List ℕ → Left
+loadedBy c s image =
     let l = lentWith s [] image in
-    let made = resetOf l Load .accepted in
-    record { answer = answered c (made .answer); lent = ifPassed c (made .lent) l }
+    settledBy c (resetOf l Load .accepted) l
 
-module _ (lent : Store) (image : List ℕ) (r : InRange lent) where
-  range : lengthsB (length (lent .table)) (length (lent .journal)) ≡ true
-  range =
-      first-holds _ _ (le-leb 1 (length (lent .table)) (r .table-least))
-      ∙ first-holds _ _ (le-leb (length (lent .table)) 8000 (r .table-most))
-      ∙ first-holds _ _ (le-leb 1 (length (lent .journal)) (r .journal-least))
-      ∙ first-holds _ _ (le-leb (length (lent .journal)) 4096 (r .journal-most))
-      ∙ all-none
-
+module _ (lent : Store) (image : List ℕ) (range : lengthsB (length (lent .table)) (length (lent .journal)) ≡ true) where
   -- ground 1 does not arise, and 15 and 16 are the plain list's
   pub load-checks : verdictOf (loadCheck (lent .table) (lent .journal) image) ≡ loadChecked (lengthsOf lent) image
   load-checks =
@@ -82,7 +68,7 @@ module _ (lent : Store) (image : List ℕ) (r : InRange lent) where
       (numberIn image)
 
   module _ (e : loadCheck (lent .table) (lent .journal) image ≡ Passed) where
-    pub load-after : storeIn (settledBy Passed lent image .lent) ≡ storeOf (loadedPlain (lengthsOf lent) image)
+    pub load-after : storeIn (loadedBy Passed lent image .lent) ≡ storeOf (loadedPlain (lengthsOf lent) image)
     load-after = load-leaves (lent .table) (lent .journal) image e .is ∙ ap (encode (freshHead 0 0)) fresh-view
 
     pub load-fit : Fit (loadedPlain (lengthsOf lent) image)

@@ -10,8 +10,7 @@ use lib.ListN.{length, getD}
 use Rattle.answers.specs.declared.answer.Check.{Check}
 use Rattle.answers.specs.declared.answer.Check.the-variants.{Passed, Refused}
 use Rattle.answers.specs.declared.ground.Ground.the-variants.{Lengths, Unsound}
-use Rattle.answers.specs.Answers.{answered}
-use Rattle.answers.specs.First.{Test, met, first, ifPassed}
+use Rattle.answers.specs.First.{Test, met, first}
 use Rattle.answers.specs.Numbers.{numberOf}
 use Rattle.answers.proofs.Firsts.{first-not}
 use Rattle.layout.specs.Clauses.{lengthsB}
@@ -23,7 +22,7 @@ use Rattle.views.proofs.Views.{encoded-shaped, encoded-sound, decoded, reframed
 use Rattle.snapshot.specs.Fresh.{freshHead}
 use Rattle.commits.specs.Commit.{usedOf}
 use Rattle.step_views.proofs.CommitViews.{held-is, used-is}
-use Rattle.calls.specs.Lent.{Left, Meaning}
+use Rattle.calls.specs.Lent.{Left, Meaning, checkOf, settledBy}
 use Rattle.calls.specs.Meaning.{meaning}
 use Rattle.history.specs.Named.{unitCall, Call, Transition}
 use Rattle.history.specs.Plain.{Test as PlainTest, met as asked, Verdict, accept, refuse, firstOf, responseBy, leftBy}
@@ -123,22 +122,20 @@ transitionBy p call v = record { response = responseBy v (given p call); next = 
 
 -- the unit's transition by its check
 abbrev transitionSettled : Plain → Call → List ℕ → Left → Check → Transition Store
-transitionSettled p call words made c =
-    transitionOf (call .named) (record
-    { answer = answered c (made .answer); lent = ifPassed c (made .lent) (lentWith (storeOf p) words (call .bytes)) })
+transitionSettled p call words made c = transitionOf (call .named) (settledBy c made (lentWith (storeOf p) words (call .bytes)))
 
 -- The unit's transition is the plain list's where the grounds give the same, and an accepted call does what it does on the plain list: a
 -- call that is turned away leaves all as it came on both sides.
 pub settle : (p : Plain) (call : Call) (words : List ℕ)
     → let m = meaning (lentWith (storeOf p) words (call .bytes)) (unitCall (call .named)) in
-    verdictOf (m .check) ≡ checked p call
-    → (m .check ≡ Passed → transitionOf (call .named) (m .accepted) ≡ transitionBy p call accept)
+    verdictOf (checkOf m) ≡ checked p call
+    → (checkOf m ≡ Passed → transitionOf (call .named) (m .accepted) ≡ transitionBy p call accept)
     → storeTransition (storeOf p) call words ≡ transitionBy p call (checked p call)
-settle p call words same done = go (m .check) refl
+settle p call words same done = go (checkOf m) refl
   where
     m : Meaning
     m = meaning (lentWith (storeOf p) words (call .bytes)) (unitCall (call .named))
 
-    go : (c : Check) → m .check ≡ c → storeTransition (storeOf p) call words ≡ transitionBy p call (checked p call)
+    go : (c : Check) → checkOf m ≡ c → storeTransition (storeOf p) call words ≡ transitionBy p call (checked p call)
     go Passed e = ap (transitionSettled p call words (m .accepted)) e ∙ done e ∙ ap (transitionBy p call) (sym (ap verdictOf e) ∙ same)
     go (Refused r) e = ap (transitionSettled p call words (m .accepted)) e ∙ ap (transitionBy p call) (sym (ap verdictOf e) ∙ same)

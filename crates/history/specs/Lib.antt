@@ -1,4 +1,3 @@
 pub mod Named
 pub mod Plain
 pub mod Traces
-pub mod Condition3

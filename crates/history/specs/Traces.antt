@@ -1,8 +1,8 @@
--- Traces: a load and then a list of calls, on a store and on the plain list. The store's side is what the unit's calls answer and leave, by
--- the definition that the contracts of `calls::perform` and `unit::serve` cite.
+-- Traces: a load and then a list of calls on a store, and the calls on the plain list. The store's side is what the unit's calls answer
+-- and leave, by the definition that the contracts of `calls::perform` and `unit::serve` cite.
 -- Assumes nothing.
 use mathlib.Core.Bool.{cond}
-use mathlib.Core.List.{List, [], _∷_, map}
+use mathlib.Core.List.{List, [], _∷_}
 use Prim.Native.Nat.{ℕ}
 use lib.ListN.{length, getD, set, replicate}
 use Rattle.answers.specs.declared.call.Call.the-variants.{Reset}
@@ -14,7 +14,7 @@ use Rattle.calls.specs.Lent.{Lent, lent, Left}
 use Rattle.calls.specs.Meaning.{performed}
 use Rattle.history.specs.Named.{Named, step, read, ask, unitCall, Call, Response, refused, done, noPrice, filled, quote, report}
 use Rattle.history.specs.Named.{responseTo, Transition, acceptedB}
-use Rattle.history.specs.Plain.{Verdict, accept, refuse, Plain, plainTransition, loadChecked, loadedPlain}
+use Rattle.history.specs.Plain.{Plain, plainTransition}
 
 -- a call, with words that are lent to it as read set if it is a forward on a slot that is not open
 pub record Asked : Type 0 where
@@ -26,7 +26,7 @@ pub data ReadSet : Type 0 where
   nothing : ReadSet
   holds : List ℕ → ReadSet
 
--- "each forward on an open slot is given what the slot's last accepted issue filled"
+-- "each forward on an open place the read set that the place's last accepted issue filled, unaltered"
 abbrev pub holdsOr : ReadSet → List ℕ → List ℕ
 holdsOr nothing words = words
 holdsOr (holds l) words = l
@@ -105,17 +105,6 @@ abbrev pub storeTrace : Store → List ℕ → List Asked → Answers
 storeTrace s image asked =
     let left = loaded s image in
     afterLoad (saidBy (left .answer)) (storeResponses (storeIn (left .lent)) (replicate 8 nothing) asked)
-
--- "The plain list of whole maps is fed the load's image, the calls' arguments except a forward's read set, and the lengths lent"
-abbrev pub afterVerdict : Verdict → List Response → Answers
-afterVerdict accept responses = record { load = done; responses = responses }
-afterVerdict (refuse n) responses = record { load = refused n; responses = [] }
-
-abbrev pub plainTrace : Limits → List ℕ → List Call → Answers
-plainTrace limits image calls = afterVerdict (loadChecked limits image) (plainResponses (loadedPlain limits image) calls)
-
-abbrev pub callsOf : List Asked → List Call
-callsOf = map (λ (a : Asked). a .call)
 
 abbrev pub lengthsOf : Store → Limits
 lengthsOf s = record { table = length (s .table); journal = length (s .journal) }

@@ -1,1 +1,1 @@
-// The plain list of whole maps, traces of calls, and condition 3. Definitions and theorems only; there is no code.
+// The plain list of whole maps, traces of calls, and what condition 3 stands on. Definitions and theorems only; there is no code.

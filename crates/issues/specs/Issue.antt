@@ -10,21 +10,23 @@ use Rattle.changes.specs.ReadSets.{readOf}
 use Rattle.answers.specs.declared.answer.Check.{Check}
 use Rattle.answers.specs.declared.call.Reader.{Reader}
 use Rattle.answers.specs.declared.ground.Ground.the-variants.{SlotTaken, BadList}
-use Rattle.answers.specs.First.{met, first, ifPassed}
+use Rattle.answers.specs.First.{Test, met, first, ifPassed}
 use Rattle.layout.specs.declared.head.Head.{Head}
 use Rattle.soundness.specs.Checks.{storeGrounds}
 use Rattle.slots.specs.Slots.{slotGrounds, opened}
 
 -- grounds 1, 2, 3, 4, 6 ("A list breaks its rules, an issue's list has a kind 1 word")
-abbrev pub issueCheck : List ℕ → List ℕ → Head → Reader → List ℕ → Check
-issueCheck table journal head reader list =
-    first
-    (storeGrounds table journal head
+abbrev pub issueGrounds : List ℕ → List ℕ → Head → Reader → List ℕ → List Test
+issueGrounds table journal head reader list =
+    storeGrounds table journal head
     ++ slotGrounds reader
     ++ (met (getD (head .taken) (reader .slot) false) SlotTaken
     ∷ met (not (listB list)) BadList
     ∷ met (not (noPutB list)) BadList
-    ∷ []))
+    ∷ [])
+
+abbrev pub issueCheck : List ℕ → List ℕ → Head → Reader → List ℕ → Check
+issueCheck table journal head reader list = first (issueGrounds table journal head reader list)
 
 abbrev pub issueHead : List ℕ → List ℕ → Head → Reader → List ℕ → Head
 issueHead table journal head reader list = ifPassed (issueCheck table journal head reader list) (opened head (reader .slot)) head

@@ -16,6 +16,7 @@ ghost use Rattle.changes.specs.Calculus.{find as found, composeAll};
 ghost use Rattle.changes.specs.Lists.{From};
 ghost use Rattle.changes.specs.ReadSets.{foundOr, over};
 ghost use Rattle.changes.specs.Runs.{stepOf, runOf, Marked};
+ghost use Rattle.lists.specs.Searches.{Finds};
 ghost use Rattle.last_changes.specs.Filter.{Noted};
 ghost use Rattle.last_changes.specs.Steps.{Rising};
 
@@ -32,7 +33,7 @@ fn find_in_step(journal: &[u64], ends: &[usize], step: usize, offer: u32) -> Fou
 // The last change of the offer among the steps from `from` up to `to`, exclusive, sought from the newest back.
 pub fn last_change(journal: &[u64], ends: &[usize], from: usize, to: usize, offer: u32) -> Found
     requires { ⌜ Rising (now journal) (now ends) from to ⌝ }
-    ensures { λ r. ⌜ r ≡ found offer (composeAll (runOf (now (journal .entry)) (now (ends .entry)) from (to - from))) ⌝ }
+    ensures { λ r. ⌜ Finds r (found offer (composeAll (runOf (now (journal .entry)) (now (ends .entry)) from (to - from)))) ⌝ }
 {
     let mut k = to;
     while from < k {

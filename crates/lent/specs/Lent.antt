@@ -4,7 +4,6 @@ use mathlib.Core.Path.{_≡_}
 use mathlib.Core.Bool.{Bool, true, false, cond}
 use mathlib.Core.List.{List, [], _∷_}
 use Prim.Native.Nat.{ℕ}
-use lib.Dec.{eqb}
 use lib.ListN.{length, getD}
 use Rattle.answers.specs.declared.answer.Answer.{Answer}
 use Rattle.answers.specs.declared.answer.Answer.the-variants.{Refused}
@@ -15,14 +14,13 @@ use Rattle.answers.specs.declared.call.Reset.{Reset as ResetCall}
 use Rattle.answers.specs.declared.call.Reset.the-variants.{Clear, Load, Restart}
 use Rattle.answers.specs.declared.ground.Ground.the-variants.{Lengths, Unsound}
 use Rattle.answers.specs.declared.tally.Tally.{Tally}
-use Rattle.answers.specs.Answers.{acceptedB, saidBy}
+use Rattle.answers.specs.Answers.{acceptedB, saidBy, Gives}
 use Rattle.answers.specs.Counts.{counts}
 use Rattle.layout.specs.Clauses.{lengthsB}
-use Rattle.layout.specs.Tests.{allOf}
 use Rattle.calls.specs.Lent.{Left, lent}
 use Rattle.calls.specs.Meaning.{performed}
 use Rattle.unit.specs.Serve.{tallyOn}
-use Rattle.head_words.specs.HeadWords.{headSize, headOf, wordsOf, headB}
+use Rattle.head_words.specs.HeadWords.{headOf, wordsOf, headB}
 use Rattle.lent.specs.Codes.{codeOf, valueOf}
 
 -- "The store isn't sound (clear and load don't test this)."
@@ -37,9 +35,9 @@ testsStore (Step call) = true
 testsStore (Read call) = true
 testsStore (Ask query) = true
 
--- a head of all its words and a tally of 3, and words that fit the head's fields where the call tests the store
-abbrev pub lentB : List ℕ → List ℕ → Call → Bool
-lentB head tally call = allOf (eqb (length head) headSize ∷ eqb (length tally) 3 ∷ cond (testsStore call) (headB head) true ∷ [])
+-- words that fit the head's fields where the call tests the store: words that no head has are not sound
+abbrev pub fitB : List ℕ → Call → Bool
+fitB head call = cond (testsStore call) (headB head) true
 
 abbrev pub tallyOf : List ℕ → Tally
 tallyOf words = counts (getD words 0 0) (getD words 1 0) (getD words 2 0)
@@ -47,7 +45,7 @@ tallyOf words = counts (getD words 0 0) (getD words 1 0) (getD words 2 0)
 abbrev pub tallyWords : Tally → List ℕ
 tallyWords tally = tally .committed ∷ tally .«rolled_back» ∷ tally .flushed ∷ []
 
--- where the head or the tally is not fit to be lent: ground 1 first, else ground 2
+-- where the head's words do not fit: ground 1 first, else ground 2
 abbrev pub unfit : ℕ → ℕ → Answer
 unfit table journal = cond (lengthsB table journal) (Refused Unsound) (Refused Lengths)
 
@@ -57,19 +55,19 @@ onWords table journal words bytes head call = performed (lent table journal word
 
 module _ (table journal words bytes head tally : List ℕ) (call : Call) where
   abbrev pub answerTo : Answer
-  answerTo = cond (lentB head tally call) (onWords table journal words bytes head call .answer) (unfit (length table) (length journal))
+  answerTo = cond (fitB head call) (onWords table journal words bytes head call .answer) (unfit (length table) (length journal))
 
   abbrev pub tableAfter : List ℕ
-  tableAfter = cond (lentB head tally call) (onWords table journal words bytes head call .lent .table) table
+  tableAfter = cond (fitB head call) (onWords table journal words bytes head call .lent .table) table
 
   abbrev pub journalAfter : List ℕ
-  journalAfter = cond (lentB head tally call) (onWords table journal words bytes head call .lent .journal) journal
+  journalAfter = cond (fitB head call) (onWords table journal words bytes head call .lent .journal) journal
 
   abbrev pub wordsAfter : List ℕ
-  wordsAfter = cond (lentB head tally call) (onWords table journal words bytes head call .lent .words) words
+  wordsAfter = cond (fitB head call) (onWords table journal words bytes head call .lent .words) words
 
   abbrev pub bytesAfter : List ℕ
-  bytesAfter = cond (lentB head tally call) (onWords table journal words bytes head call .lent .bytes) bytes
+  bytesAfter = cond (fitB head call) (onWords table journal words bytes head call .lent .bytes) bytes
 
   -- a refused call leaves the head's words as they came, whatever they are
   abbrev pub headAfter : List ℕ
@@ -77,14 +75,14 @@ module _ (table journal words bytes head tally : List ℕ) (call : Call) where
 
   abbrev pub tallyWordsAfter : List ℕ
   tallyWordsAfter =
-      cond (lentB head tally call)
+      cond (fitB head call)
       (tallyWords (tallyOn (tallyOf tally) (lent table journal words bytes (headOf head)) call))
       tally
 
   -- The promise of a call that is lent all of these: its answer, and what it leaves of them.
   abbrev pub Leaves : Answer → List ℕ → List ℕ → List ℕ → List ℕ → List ℕ → List ℕ → Type 0
   Leaves answer table' journal' words' bytes' head' tally' =
-      (answer ≡ answerTo)
+      Gives answer answerTo
       × (table' ≡ tableAfter)
       × (journal' ≡ journalAfter)
       × (words' ≡ wordsAfter)
@@ -114,7 +112,7 @@ module _ (table journal words bytes head : List ℕ) (query : Query) where
 
   -- The promise of a query: its answer, and what it writes.
   abbrev pub Asks : Answer → List ℕ → List ℕ → Type 0
-  Asks answer words' bytes' = (answer ≡ answerToQuery) × (words' ≡ wordsWritten) × (bytes' ≡ bytesWritten)
+  Asks answer words' bytes' = Gives answer answerToQuery × (words' ≡ wordsWritten) × (bytes' ≡ bytesWritten)
 
   -- The promise of its function for C: its code, and its value in the word that is lent for it.
   abbrev pub Tells : ℕ → ℕ → ℕ → Type 0

@@ -1,4 +1,4 @@
-// Whether head and tally are fit to be lent, and the answer where they are not.
+// Whether the words of a head are fit to be lent to a call, and the answer where they are not.
 use answers::answer::Answer;
 use answers::call::Call;
 use answers::call::Reset;
@@ -7,10 +7,8 @@ use head_words::HEAD_WORDS;
 use head_words::is_head;
 use layout::clauses::lengths_fit;
 ghost use mathlib.Core.Path.{_≡_};
-ghost use Rattle.lent.specs.Lent.{resetTests, testsStore, lentB, unfit};
-
-// How many words a tally has.
-const TALLY_WORDS: usize = 3;
+ghost use Rattle.answers.specs.Answers.{Gives};
+ghost use Rattle.lent.specs.Lent.{resetTests, testsStore, fitB, unfit};
 
 // Whether a call that makes a store anew tests the one that was there.
 fn reset_tests(reset: Reset) -> bool
@@ -35,25 +33,19 @@ fn tests_store(call: Call) -> bool
     }
 }
 
-// Whether head and tally have their lengths, and the head its words where the call tests the store.
-pub fn is_lent(head: &[u64], tally: &[u64], call: Call) -> bool
-    ensures { λ r. ⌜ r ≡ lentB (now (head .entry)) (now (tally .entry)) call ⌝ }
+// Whether the words fit the head's fields, where the call tests the store.
+pub fn is_fit(head: &[u64; HEAD_WORDS], call: Call) -> bool
+    ensures { λ r. ⌜ r ≡ fitB (now (head .entry)) call ⌝ }
 {
-    if head.len() != HEAD_WORDS {
-        return false;
-    }
-    if tally.len() != TALLY_WORDS {
-        return false;
-    }
     if !tests_store(call) {
         return true;
     }
     is_head(head)
 }
 
-// The answer where head or tally is not fit.
+// The answer where the words do not fit.
 pub fn unfit_answer(table: usize, journal: usize) -> Answer
-    ensures { λ r. ⌜ r ≡ unfit table journal ⌝ }
+    ensures { λ r. ⌜ Gives r (unfit table journal) ⌝ }
 {
     if lengths_fit(table, journal) {
         return Answer::Refused(Ground::Unsound);

@@ -2,19 +2,22 @@
 use answers::answer::Answer;
 use answers::answer::is_accepted;
 use answers::tally::Tally;
+use head_words::HEAD_WORDS;
 use head_words::pack;
 use layout::head::Reply;
 use unit::serve::Served;
 ghost use mathlib.Core.Path.{_≡_};
 ghost use mathlib.Core.Bool.{cond};
 ghost use lib.ListN.{length};
-ghost use Rattle.answers.specs.Answers.{acceptedB};
-ghost use Rattle.head_words.specs.HeadWords.{headSize, wordsOf};
+ghost use Rattle.answers.specs.Answers.{acceptedB, Gives};
+ghost use Rattle.head_words.specs.HeadWords.{wordsOf};
 ghost use Rattle.lent.specs.Lent.{tallyOf, tallyWords};
 
+// How many words a tally has.
+pub const TALLY_WORDS: usize = 3;
+
 // The tally that the words hold.
-pub fn tally_in(words: &[u64]) -> Tally
-    requires { ⌜ length (now words) ≡ 3 ⌝ }
+pub fn tally_in(words: &[u64; TALLY_WORDS]) -> Tally
     ensures { λ r. ⌜ r ≡ tallyOf (now (words .entry)) ⌝ }
 {
     Tally {
@@ -35,9 +38,8 @@ fn put_tally(words: &mut [u64], tally: Tally)
 }
 
 // Puts the head of a reply into its words, where the call was accepted, and gives the answer.
-fn put_reply(words: &mut [u64], reply: Reply) -> Answer
-    requires { ⌜ length (now words) ≡ headSize ⌝ }
-    ensures { λ r. ⌜ (r ≡ reply .answer)
+fn put_reply(words: &mut [u64; HEAD_WORDS], reply: Reply) -> Answer
+    ensures { λ r. ⌜ Gives r (reply .answer)
         × (now (words .exit) ≡ cond (acceptedB (reply .answer)) (wordsOf (reply .head)) (now (words .entry))) ⌝ }
 {
     let answer = reply.answer;
@@ -49,9 +51,12 @@ fn put_reply(words: &mut [u64], reply: Reply) -> Answer
 }
 
 // Puts head and tally as a call left them into their words, and gives the answer.
-pub fn put_served(head: &mut [u64], tally: &mut [u64], served: Served) -> Answer
-    requires { ⌜ (length (now head) ≡ headSize) × (length (now tally) ≡ 3) ⌝ }
-    ensures { λ r. ⌜ (r ≡ served .reply .answer)
+pub fn put_served(
+    head: &mut [u64; HEAD_WORDS],
+    tally: &mut [u64; TALLY_WORDS],
+    served: Served,
+) -> Answer
+    ensures { λ r. ⌜ Gives r (served .reply .answer)
         × (now (head .exit) ≡ cond (acceptedB (served .reply .answer)) (wordsOf (served .reply .head)) (now (head .entry)))
         × (now (tally .exit) ≡ tallyWords (served .tally)) ⌝ }
 {

@@ -1,6 +1,6 @@
 -- The search by halving: words before low lie below the offer, and words past the size from there on lie above it.
 -- Assumes nothing.
-use mathlib.Core.Path.{_≡_, _∙_, sym, subst}
+use mathlib.Core.Path.{_≡_, _∙_, sym, ap, subst}
 use mathlib.Core.Bool.{Bool, true, false}
 use mathlib.Core.List.{List}
 use Prim.Native.Nat.{ℕ, _+_, _-_, _*_, _/_, _^_, _≤_, _<_}
@@ -11,10 +11,12 @@ use lib.Dec.{leb}
 use lib.ListN.{length, getD}
 use Rattle.entry.specs.Word.{offerOf, bitOf}
 use Rattle.changes.specs.Lists.{From}
+use Rattle.changes.specs.declared.search.Found.{Found}
 use Rattle.changes.specs.declared.search.Found.the-variants.{Nothing}
 use Rattle.changes.specs.Calculus.{find}
 use Rattle.changes.proofs.Find.{find-nowhere, not-below-at, rises-at}
 use Rattle.lists.specs.Positions.{OnlyAt}
+use Rattle.lists.specs.Searches.{saidByFound, Finds}
 
 pub record Halving (words : List ℕ) (offer low size : ℕ) : Type 0 where
   pub inside : low + size ≤ length words
@@ -96,3 +98,7 @@ module _ (words : List ℕ) (offer at : ℕ) (only : OnlyAt words offer at) wher
 
   pub other-there : (offerOf (getD words at 0) ≡ offer → ⊥) → find offer words ≡ Nothing
   other-there n = find-nowhere offer words (λ i l e. n (subst (λ (k : ℕ). offerOf (getD words k 0) ≡ offer) (only i l e) e))
+
+-- a search that finds what is meant says the same
+pub finds : {a b : Found} → a ≡ b → Finds a b
+finds e = (e, ap saidByFound e)

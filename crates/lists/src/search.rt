@@ -7,6 +7,7 @@ ghost use Rattle.entry.specs.Word.{bitOf};
 ghost use Rattle.changes.specs.Calculus.{find};
 ghost use Rattle.changes.specs.Lists.{From};
 ghost use Rattle.lists.specs.Positions.{OnlyAt};
+ghost use Rattle.lists.specs.Searches.{Finds};
 
 // 1 where an offer is not above another, else 0. A search multiplies by it, so that no iteration of it branches.
 fn reaches(there: u32, offer: u32) -> usize
@@ -34,7 +35,7 @@ pub fn position(words: &[u64], offer: u32) -> usize
 // The word at the offer.
 pub fn find(words: &[u64], offer: u32) -> Found
     requires { ⌜ From 0 (now words) ⌝ }
-    ensures { λ r. ⌜ r ≡ find offer (now (words .entry)) ⌝ }
+    ensures { λ r. ⌜ Finds r (find offer (now (words .entry))) ⌝ }
 {
     let at = position(words, offer);
     if words.len() <= at {

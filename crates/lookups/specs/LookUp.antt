@@ -1,6 +1,6 @@
 -- Lookup (document 01, "Laws of changes"): "Lookup gives an offer's price, or none, at a named state."
 -- Assumes nothing.
-use mathlib.Core.List.{List, _∷_, _++_}
+use mathlib.Core.List.{List, [], _∷_, _++_}
 use Prim.Native.Nat.{ℕ, _^_}
 use lib.Dec.{leb}
 use Rattle.entry.specs.Word.{priceOf}
@@ -13,7 +13,7 @@ use Rattle.answers.specs.declared.answer.Check.{Check}
 use Rattle.answers.specs.declared.call.LookUp.{LookUp}
 use Rattle.answers.specs.declared.ground.Ground.the-variants.{BadList}
 use Rattle.answers.specs.Answers.{answered}
-use Rattle.answers.specs.First.{met, first}
+use Rattle.answers.specs.First.{Test, met, first}
 use Rattle.layout.specs.declared.head.Head.{Head}
 use Rattle.layout.specs.States.{mapHere}
 use Rattle.soundness.specs.Checks.{storeGrounds, stateGrounds}
@@ -23,10 +23,17 @@ abbrev pub quoteOf : Found → Answer
 quoteOf (Word w) = Price (priceOf w)
 quoteOf Nothing = NoPrice
 
--- grounds 1, 2, 6 ("a looked-up offer is 2^31 or more"), 11
+-- ground 6: "a looked-up offer is 2^31 or more"
+abbrev pub offerGrounds : ℕ → List Test
+offerGrounds offer = met (leb (2 ^ 31) offer) BadList ∷ []
+
+-- grounds 1, 2, 6, 11
+abbrev pub lookUpGrounds : List ℕ → List ℕ → Head → LookUp → List Test
+lookUpGrounds table journal head asked =
+    storeGrounds table journal head ++ offerGrounds (asked .offer) ++ stateGrounds head (asked .state)
+
 abbrev pub lookUpCheck : List ℕ → List ℕ → Head → LookUp → Check
-lookUpCheck table journal head asked =
-    first (storeGrounds table journal head ++ (met (leb (2 ^ 31) (asked .offer)) BadList ∷ stateGrounds head (asked .state)))
+lookUpCheck table journal head asked = first (lookUpGrounds table journal head asked)
 
 -- the price or none where the call is accepted, else the ground
 abbrev pub lookUp : List ℕ → List ℕ → Head → LookUp → Answer

@@ -15,7 +15,7 @@ use Rattle.answers.specs.declared.ground.Ground.the-variants.{NoPrice, PriceRan
 use Rattle.orders.specs.declared.effects.Effect.{Effect}
 use Rattle.orders.specs.declared.effects.Effect.the-variants.{Change, Fails}
 use Rattle.orders.specs.Orders.{orderKind, orderAmount, orderOffer, Kind, lists, withdraws, raises, cuts, keeps, unknown, kindNamed}
-use Rattle.orders.specs.Effects.{sixteenths, putAt, withPrice, raised, lowered, kept, effectBy, effect}
+use Rattle.orders.specs.Effects.{sixteenths, putAt, withPrice, raised, lowered, kept, effectBy, effect, saidByEffect, Does}
 
 -- a share of a price is at most the price
 pub share-small : (p n : ℕ) → n ≤ 16 → p * n ≤ p * 16
@@ -67,6 +67,10 @@ module _ (offer amount w : ℕ) (put : kindOf w ≡ 1) where
 -- a word built from an offer that fits
 pub put-is : (r o p : ℕ) → r ≡ putOf (o % 2 ^ 31) p → o < 2 ^ 31 → r ≡ putOf o p
 put-is r o p e h = omega arith
+
+-- an effect that is the one meant says the same
+pub does : {a b : Effect} → a ≡ b → Does a b
+does e = (e, ap saidByEffect e)
 
 -- an order of a kind does as the kind says
 pub effect-as : (o : ℕ) (found : Found) {kind : Kind} → kindNamed (orderKind o) ≡ kind → effect o found

@@ -1,5 +1,6 @@
 -- What one order does, seen what is shown at its offer (document 01, "Batches" and grounds 9 and 10).
 -- Assumes nothing.
+use mathlib.Core.Path.{_≡_}
 use mathlib.Core.Bool.{cond}
 use Prim.Native.Nat.{ℕ, _+_, _-_, _*_, _/_, _^_, max}
 use lib.Dec.{leb, ltb}
@@ -7,9 +8,20 @@ use Rattle.entry.specs.Word.{priceOf, putOf, noneOf, isPut}
 use Rattle.changes.specs.declared.search.Found.{Found}
 use Rattle.changes.specs.declared.search.Found.the-variants.{Word, Nothing}
 use Rattle.answers.specs.declared.ground.Ground.the-variants.{BadOrder, NoPrice, PriceRange}
+use Rattle.answers.specs.Answers.{Said, accepted, refused}
+use Rattle.answers.specs.Numbers.{numberOf}
 use Rattle.orders.specs.declared.effects.Effect.{Effect}
 use Rattle.orders.specs.declared.effects.Effect.the-variants.{Change, Fails}
 use Rattle.orders.specs.Orders.{orderKind, orderAmount, orderOffer, Kind, lists, withdraws, raises, cuts, keeps, unknown, kindNamed}
+
+-- what an effect says in document 01's terms: the entry word, or the number of the ground
+abbrev pub saidByEffect : Effect → Said
+saidByEffect (Change w) = accepted w
+saidByEffect (Fails ground) = refused (numberOf ground)
+
+-- The promise of an effect: it is the one that is meant, and says the same.
+abbrev pub Does : Effect → Effect → Type 0
+Does done meant = (done ≡ meant) × (saidByEffect done ≡ saidByEffect meant)
 
 -- "the price becomes price × (kind − 15) / 16 rounded down, or the amount if that is more"
 unfoldable pub sixteenths : ℕ → ℕ → ℕ → ℕ

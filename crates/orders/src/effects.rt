@@ -5,7 +5,7 @@ use entry::Entry;
 ghost use mathlib.Core.Path.{_≡_};
 ghost use Prim.Native.Nat.{_^_, _≤_, _<_};
 ghost use Rattle.changes.specs.declared.search.Found.the-variants.{Word};
-ghost use Rattle.orders.specs.Effects.{sixteenths as sixteenthsOf, raised, lowered, kept, effect};
+ghost use Rattle.orders.specs.Effects.{sixteenths as sixteenthsOf, raised, lowered, kept, effect, Does};
 
 // The highest price.
 const MAX_PRICE: u64 = (1 << Entry::PRICE_BITS) - 1;
@@ -73,7 +73,7 @@ fn keep(kind: u32, offer: u32, amount: u32, shown: u64) -> Effect
 
 // The effect of an order where its offer is shown by a word.
 pub fn effect_of(order: u64, shown: u64) -> Effect
-    ensures { λ r. ⌜ r ≡ effect order (Word shown) ⌝ }
+    ensures { λ r. ⌜ Does r (effect order (Word shown)) ⌝ }
 {
     let kind = Order::kind_of(order);
     let amount = Order::amount_of(order);

@@ -6,15 +6,18 @@ use Prim.Native.Nat.{ℕ, _-_}
 use lib.ListN.{length, take, replicate}
 use Rattle.changes.specs.Runs.{startOf}
 use Rattle.answers.specs.declared.answer.Check.{Check}
-use Rattle.answers.specs.First.{first, ifPassed}
+use Rattle.answers.specs.First.{Test, first, ifPassed}
 use Rattle.layout.specs.declared.head.Head.{Head}
 use Rattle.layout.specs.Heads.{withSteps}
 use Rattle.soundness.specs.Checks.{storeGrounds, stateGrounds}
 use Rattle.layout.specs.States.{stepIndex}
 
 -- grounds 1, 2, 11
+abbrev pub rollGrounds : List ℕ → List ℕ → Head → ℕ → List Test
+rollGrounds table journal head state = storeGrounds table journal head ++ stateGrounds head state
+
 abbrev pub rollCheck : List ℕ → List ℕ → Head → ℕ → Check
-rollCheck table journal head state = first (storeGrounds table journal head ++ stateGrounds head state)
+rollCheck table journal head state = first (rollGrounds table journal head state)
 
 -- how many of the held steps lead to states up to this one
 abbrev pub keptOf : Head → ℕ → ℕ

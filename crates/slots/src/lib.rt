@@ -6,12 +6,13 @@ use layout::head::Head;
 use layout::head::SLOTS;
 ghost use mathlib.Core.Path.{_≡_};
 ghost use Prim.Native.Nat.{_<_};
+ghost use Rattle.answers.specs.Answers.{Checks};
 ghost use Rattle.answers.specs.First.{first};
 ghost use Rattle.slots.specs.Slots.{slotGrounds, opened, closedAt};
 
 // Whether the slot named is one of a store's.
 pub fn slot_check(reader: Reader) -> Check
-    ensures { λ r. ⌜ r ≡ first (slotGrounds reader) ⌝ }
+    ensures { λ r. ⌜ Checks r (first (slotGrounds reader)) ⌝ }
 {
     if SLOTS <= reader.slot {
         return Check::Refused(Ground::SlotRange);

@@ -1,5 +1,5 @@
--- Condition 2, of images: "every image written loads as the same map and number, and every image accepted is written back byte
--- for byte." The statements are about the very definitions that the contracts of load and write cite.
+-- Condition 2, of images: "every image written loads, into a book that holds it, as the same map and state number, and every image
+-- accepted is written back byte for byte." The statements are about the definitions that the contracts of load and write cite.
 -- Assumes nothing.
 use mathlib.Core.Path.{_≡_, sym, ap, ap₂, subst, _∙_}
 use mathlib.Core.Bool.{true, not}
@@ -140,23 +140,3 @@ module _ (table journal image out : List ℕ) (head : Head) (bytes : All Byte im
   load-then-write-bytes =
       let size : 6 + 8 * H .used ≡ length image = omega (arith, used-is, ok .image-ok .size) in
       new-is load-then-write (imageHere T H ++ drop (6 + 8 * H .used) out) out ∙ ap₂ (λ (i : List ℕ) (n : ℕ). i ++ drop n out) image-is size
-
--- After an accepted write, loading the image into other memory in range whose table holds it is accepted, and gives the
--- checkpoint's map under its number.
-module _ (table journal : List ℕ) (head : Head) (room : ℕ) (e : writeCheck table journal head room ≡ Passed)
-    (small : head .checkpoint < 2 ^ 32)
-    (table′ journal′ : List ℕ) (before : Head) (range : lengthsB (length table′) (length journal′) ≡ true)
-    (holds : head .used ≤ length table′) where
-  loads : loadCheck table′ journal′ (imageHere table head) ≡ Passed
-  loads = written-loads table journal head room e small (length table′) (length journal′) range holds
-
-  pub write-then-load-table : loadTable table′ journal′ (imageHere table head) ≡ padded (length table′) (take (head .used) table)
-  write-then-load-table =
-      new-is loads (padded (length table′) (wordsIn (imageHere table head))) table′
-      ∙ ap (padded (length table′)) (written-same table journal head room e small .1)
-
-  pub write-then-load-head : loadHead table′ journal′ (imageHere table head) before ≡ freshHead (head .used) (head .checkpoint)
-  write-then-load-head =
-      let count : countIn (imageHere table head) ≡ head .used = count-back (write-ok table journal head room e) small in
-      new-is loads (freshHead (countIn (imageHere table head)) (numberIn (imageHere table head))) before
-      ∙ ap₂ freshHead count (written-same table journal head room e small .0)

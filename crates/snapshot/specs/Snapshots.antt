@@ -46,9 +46,11 @@ abbrev pub loadJournal : List ℕ → List ℕ → List ℕ → List ℕ
 loadJournal table journal image = ifPassed (loadCheck table journal image) (replicate (length journal) 0) journal
 
 -- writing an image: grounds 1, 2, 17; "Writing an image with no state named writes the anchor's"
+abbrev pub writeGrounds : List ℕ → List ℕ → Head → ℕ → List Test
+writeGrounds table journal head room = storeGrounds table journal head ++ (met (ltb room (6 + 8 * head .used)) OutputShort ∷ [])
+
 abbrev pub writeCheck : List ℕ → List ℕ → Head → ℕ → Check
-writeCheck table journal head room =
-    first (storeGrounds table journal head ++ (met (ltb room (6 + 8 * head .used)) OutputShort ∷ []))
+writeCheck table journal head room = first (writeGrounds table journal head room)
 
 -- the count of the bytes written, or the ground
 abbrev pub writeAnswer : List ℕ → List ℕ → Head → ℕ → Answer

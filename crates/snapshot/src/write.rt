@@ -8,12 +8,12 @@ use soundness::store_check;
 ghost use mathlib.Core.Path.{_≡_};
 ghost use Prim.Native.Nat.{_+_, _*_};
 ghost use lib.ListN.{length};
-ghost use Rattle.answers.specs.Answers.{Gives};
+ghost use Rattle.answers.specs.Answers.{Gives, Checks};
 ghost use Rattle.snapshot.specs.Snapshots.{writeCheck, writeAnswer, writeBytes};
 
 // The first ground on which writing an image into so many bytes is turned away.
 pub fn write_check(table: &[u64], journal: &[u64], head: Head, room: usize) -> Check
-    ensures { λ r. ⌜ r ≡ writeCheck (now (table .entry)) (now (journal .entry)) head room ⌝ }
+    ensures { λ r. ⌜ Checks r (writeCheck (now (table .entry)) (now (journal .entry)) head room) ⌝ }
 {
     let whole = head;
     let store = store_check(table, journal, whole, &head.ends);

@@ -10,6 +10,7 @@ use layout::clauses::slots_fit;
 use layout::head::Head;
 use layout::states::held_count;
 ghost use mathlib.Core.Path.{_≡_};
+ghost use Rattle.answers.specs.Answers.{Checks};
 ghost use Rattle.answers.specs.First.{first};
 ghost use Rattle.soundness.specs.Checks.{storeGrounds, stateGrounds};
 ghost use Rattle.soundness.specs.Sound.{soundB};
@@ -42,7 +43,7 @@ pub fn is_sound(table: &[u64], journal: &[u64], head: Head, ends: &[usize]) -> b
 // Whether the lengths lent are in their ranges, and the store is sound.
 pub fn store_check(table: &[u64], journal: &[u64], head: Head, ends: &[usize]) -> Check
     requires { ⌜ now ends ≡ head .ends ⌝ }
-    ensures { λ r. ⌜ r ≡ first (storeGrounds (now (table .entry)) (now (journal .entry)) head) ⌝ }
+    ensures { λ r. ⌜ Checks r (first (storeGrounds (now (table .entry)) (now (journal .entry)) head)) ⌝ }
 {
     if !lengths_fit(table.len(), journal.len()) {
         return Check::Refused(Ground::Lengths);
@@ -55,7 +56,7 @@ pub fn store_check(table: &[u64], journal: &[u64], head: Head, ends: &[usize]) -
 
 // Whether a state lies from the checkpoint to the tip.
 pub fn state_check(head: Head, state: u32) -> Check
-    ensures { λ r. ⌜ r ≡ first (stateGrounds head state) ⌝ }
+    ensures { λ r. ⌜ Checks r (first (stateGrounds head state)) ⌝ }
 {
     if state < head.checkpoint {
         return Check::Refused(Ground::StateRange);

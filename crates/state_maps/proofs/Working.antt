@@ -5,9 +5,10 @@ use mathlib.Core.List.{List, _++_}
 use Prim.Native.Nat.{ℕ, _+_, _-_, _≤_}
 use native.Mathlib.Omega.{arith}
 use lib.ListN.{length, take, drop, length-take}
-use lib.Seq.{length-take-le, take-at}
+use lib.Seq.{length-take-le, take-at, drop-append-add, drop-drop}
 use Rattle.changes.specs.Calculus.{composeAll, apply}
-use Rattle.changes.specs.Runs.{startOf, runOf}
+use Rattle.changes.specs.Runs.{startOf, runOf, runWords}
+use Rattle.changes.proofs.Laws.{apply-length}
 use Rattle.changes.proofs.Running.{marked-fewer, run-length}
 use Rattle.runs.specs.Composed.{RunRoom, Composed}
 use Rattle.layout.specs.declared.head.Head.{Head}
@@ -69,6 +70,13 @@ module _ {table journal : List ℕ} {head : Head} {state : ℕ} (p : Shaped head
     steps-are : composeAll (runOf journal (head .ends) from (to - from)) ≡ composeAll (stepsBetween journal head (head .checkpoint) state)
     steps-are = ap₂ (λ (f t : ℕ). composeAll (runOf journal (head .ends) f (t - f))) ef et
 
+    -- what stays past the words of the run stays past those of the steps
+    stays : (a b : List ℕ) → drop (runWords (head .ends) from to) a ≡ drop (runWords (head .ends) from to) b
+        → drop (wordsTo head state) a ≡ drop (wordsTo head state) b
+    stays a b e =
+        let same : runWords (head .ends) from to ≡ wordsTo head state = ap₂ (λ (f t : ℕ). runWords (head .ends) f t) ef et in
+        ap (λ (k : ℕ). drop k a) (sym same) ∙ e ∙ ap (λ (k : ℕ). drop k b) same
+
     -- the steps composed into a buffer
     module _ {changes₀ spare₀ changes spare : List ℕ} {n : ℕ}
         (c : Composed journal (head .ends) from to changes₀ spare₀ changes spare n) where
@@ -77,6 +85,9 @@ module _ {table journal : List ℕ} {head : Head} {state : ℕ} (p : Shaped head
 
       pub changes-long : n ≡ length (take n changes)
       changes-long = sym (length-take-le n changes count-in)
+
+      pub changes-stay : drop (wordsTo head state) changes ≡ drop (wordsTo head state) changes₀
+      changes-stay = stays changes changes₀ (c .out-behind)
 
       pub has-room : {out room : ℕ} → MapRoom head state out room → length spare ≡ room
           → length (take (head .used) table) + length (take n changes) ≤ length spare
@@ -93,3 +104,30 @@ module _ {table journal : List ℕ} {head : Head} {state : ℕ} (p : Shaped head
             ap (take r) em
             ∙ take-at (apply (take (head .used) table) (take n changes)) (drop r spare) r (sym er)
             ∙ ap (apply (take (head .used) table)) (c .front ∙ steps-are)
+
+        pub map-stays : drop (head .used + wordsTo head state) map ≡ drop (head .used + wordsTo head state) spare₀
+        map-stays =
+            let made = apply (take (head .used) table) (take n changes) in
+            let past = head .used + wordsTo head state - length made in
+            let few : length made ≤ head .used + wordsTo head state =
+            omega (
+              arith,
+              apply-length (take (head .used) table) (take n changes),
+              used-long,
+              changes-long,
+              c .size,
+              ap length steps-are,
+              run-few,
+            ) in
+            let all : head .used + wordsTo head state ≡ length made + past = omega arith in
+            let over : r + past ≡ wordsTo head state + head .used = omega (arith, er) in
+            let turned : wordsTo head state + head .used ≡ head .used + wordsTo head state = omega arith in
+            ap (drop (head .used + wordsTo head state)) em
+            ∙ ap (λ (k : ℕ). drop k (made ++ drop r spare)) all
+            ∙ drop-append-add made (drop r spare) past
+            ∙ drop-drop past r spare
+            ∙ ap (λ (k : ℕ). drop k spare) over
+            ∙ sym (drop-drop (head .used) (wordsTo head state) spare)
+            ∙ ap (drop (head .used)) (stays spare spare₀ (c .spare-behind))
+            ∙ drop-drop (head .used) (wordsTo head state) spare₀
+            ∙ ap (λ (k : ℕ). drop k spare₀) turned

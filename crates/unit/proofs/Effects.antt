@@ -20,7 +20,7 @@ use Rattle.answers.specs.declared.call.Step.{Step as StepCall}
 use Rattle.answers.specs.declared.call.Step.the-variants.{Commit, RollBack, Flush}
 use Rattle.answers.specs.declared.tally.Tally.{Tally}
 use Rattle.answers.specs.Answers.{acceptedB, answered}
-use Rattle.answers.specs.First.{ifPassed}
+use Rattle.answers.specs.First.{first, ifPassed}
 use Rattle.answers.specs.Counts.{resetsB, counts, stepCounts, countsOf}
 use Rattle.image.specs.Image.{countIn, numberIn}
 use Rattle.layout.specs.declared.head.Head.{Head}
@@ -34,7 +34,7 @@ use Rattle.flushes.specs.Flush.{flushedHead}
 use Rattle.flushes.proofs.Flushing.{flush-ok}
 use Rattle.rollbacks.specs.RollBack.{keptOf, cutTo}
 use Rattle.rollbacks.proofs.RollBackAccepted.{roll-ok}
-use Rattle.calls.specs.Lent.{Lent, Left, Meaning, asks, settled}
+use Rattle.calls.specs.Lent.{Lent, withWords, withBytes, Left, Meaning, checkOf, settledBy, settled}
 use Rattle.calls.specs.Meaning.{resetOf, stepOf, readCallOf, queryOf, performed}
 
 -- from one head to another by so many steps committed, rolled back and flushed
@@ -56,7 +56,7 @@ module _ (l : Lent) (count : Tally) where
 
   begins : (m : Meaning) → acceptedB (m .accepted .answer) ≡ true → m .accepted .lent .head .tip ≡ m .accepted .lent .head .checkpoint
       → Effect (acceptedB (settled m l .answer)) true count (l .head) (settled m l .lent .head)
-  begins m = begins-by (m .check) (m .accepted)
+  begins m = begins-by (checkOf m) (m .accepted)
 
   goes-by : (c : Check) (made : Left) → acceptedB (made .answer) ≡ true
       → (c ≡ Passed → l .head .checkpoint ≤ l .head .tip → Moves count (l .head) (made .lent .head))
@@ -65,16 +65,16 @@ module _ (l : Lent) (count : Tally) where
   goes-by (Refused r) made y f = turned refl refl
 
   goes : (m : Meaning) → acceptedB (m .accepted .answer) ≡ true
-      → (m .check ≡ Passed → l .head .checkpoint ≤ l .head .tip → Moves count (l .head) (m .accepted .lent .head))
+      → (checkOf m ≡ Passed → l .head .checkpoint ≤ l .head .tip → Moves count (l .head) (m .accepted .lent .head))
       → Effect (acceptedB (settled m l .answer)) false count (l .head) (settled m l .lent .head)
-  goes m = goes-by (m .check) (m .accepted)
+  goes m = goes-by (checkOf m) (m .accepted)
 
 still : (accepted : Bool) (head : Head) → Effect accepted false (counts 0 0 0) head head
 still true head = moved refl refl (λ h. record { order = h; steps = refl })
 still false head = turned refl refl
 
 stays : (l : Lent) (c : Check) (answer : Answer) (words bytes : List ℕ)
-    → let left = settled (asks l (record { check = c; answer = answer; words = words; bytes = bytes })) l in
+    → let left = settledBy c (record { answer = answer; lent = withBytes (withWords l words) bytes }) l in
     Effect (acceptedB (left .answer)) false (counts 0 0 0) (l .head) (left .lent .head)
 stays l Passed answer words bytes = still (acceptedB answer) (l .head)
 stays l (Refused r) answer words bytes = still false (l .head)
@@ -144,4 +144,4 @@ effect l (Step call) = steps l call
 effect l (Read call) = reads l call
 effect l (Ask query) =
     let a = queryOf l query in
-    stays l (a .check) (a .answer) (a .words) (a .bytes)
+    stays l (first (a .grounds)) (a .answer) (a .words) (a .bytes)

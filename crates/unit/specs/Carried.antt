@@ -1,5 +1,5 @@
--- What is carried from call to call of `serve`: "each lent tally, memory and head as the call before left them", and the counts
--- "defined from the accepted calls".
+-- What is carried from call to call of `serve`: "each lent the tally, memory and head as the call before left them", and the counts,
+-- "each defined from the accepted calls".
 -- Assumes nothing.
 use mathlib.Core.Bool.{Bool, _&&_, cond}
 use mathlib.Core.List.{List, [], _∷_}

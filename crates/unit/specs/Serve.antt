@@ -24,8 +24,8 @@ served tally l call = record { reply = replyOf (performed l call); tally = tally
 
 -- The promise of a call that takes the tally by value: reply and tally are those that are meant, the answer says the same in document
 -- 01's terms, and all that was lent is left as it is meant.
-abbrev pub Serves : Tally → Lent → Call → Served → List ℕ → List ℕ → List ℕ → List ℕ → Type 0
-Serves tally l call got table journal words bytes =
+abbrev pub ServesCore : Tally → Lent → Call → Served → List ℕ → List ℕ → List ℕ → List ℕ → Type 0
+ServesCore tally l call got table journal words bytes =
     ((got ≡ served tally l call) × (saidBy (got .reply .answer) ≡ saidBy (performed l call .answer)))
     × (table ≡ performed l call .lent .table)
     × (journal ≡ performed l call .lent .journal)

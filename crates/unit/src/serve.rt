@@ -6,7 +6,7 @@ use calls::perform::perform;
 use layout::head::Head;
 use layout::head::Reply;
 ghost use Rattle.calls.specs.Lent.{lent};
-ghost use Rattle.unit.specs.Serve.{Serves, Replies};
+ghost use Rattle.unit.specs.Serve.{ServesCore, Replies};
 
 // The reply to a call, and the tally after it.
 pub struct Served {
@@ -24,7 +24,7 @@ pub fn serve_core(
     head: Head,
     call: Call,
 ) -> Served
-    ensures { λ r. ⌜ Serves tally
+    ensures { λ r. ⌜ ServesCore tally
         (lent (now (table .entry)) (now (journal .entry)) (now (words .entry)) (now (bytes .entry)) head) call r
         (now (table .exit)) (now (journal .exit)) (now (words .exit)) (now (bytes .exit)) ⌝ }
 {

@@ -1,7 +1,7 @@
 //! Stores prepared to be measured: a map in the table and steps over it, made by calls of the unit.
 
 use crate::baseline::{word, Head};
-use ffi::Lent;
+use ffi::{Lent, HEAD_WORDS};
 use model::rng::Rng;
 use std::collections::BTreeSet;
 
@@ -35,7 +35,7 @@ pub struct Scene {
 /// The journal of a store, its head as words and as the baseline has it, and the offers with a price at its tip.
 pub struct Variant {
     pub journal: Vec<u64>,
-    pub words: Vec<u64>,
+    pub words: [u64; HEAD_WORDS],
     pub head: Head,
     present: Offers,
 }

@@ -2,7 +2,7 @@
 
 use crate::baseline::{self, Memory, Refusal};
 use crate::scene::{Scene, Variant};
-use ffi::Lent;
+use ffi::{Lent, TALLY_WORDS};
 
 /// A store whose calls answer the codes of the C interface.
 pub trait Subject: 'static {
@@ -29,7 +29,7 @@ pub trait Subject: 'static {
 impl Subject for Lent {
     fn of(scene: &Scene) -> Lent {
         let Variant { journal, words, .. } = scene.variant(0);
-        Lent { table: scene.table.clone(), journal: journal.clone(), head: words.clone(), tally: vec![0; 3] }
+        Lent { table: scene.table.clone(), journal: journal.clone(), head: *words, tally: [0; TALLY_WORDS] }
     }
 
     fn table(&mut self) -> &mut [u64] {
@@ -41,7 +41,7 @@ impl Subject for Lent {
     }
 
     fn set_head(&mut self, variant: &Variant) {
-        self.head.copy_from_slice(&variant.words);
+        self.head = variant.words;
     }
 
     fn clear(&mut self) -> u64 {

@@ -1,7 +1,7 @@
 //! The static library of the proved unit (include/cechnuol.h), called safely, and held to the model.
 //!
-//! The functions have no `requires`: what C owes is that each pointer and length name memory of the caller's and that
-//! no two overlap, and Rust's slices say so. Nothing checks the declarations below against crates/capi; the tests and
+//! The functions have no `requires`: what C owes is that each pointer and length name memory of the caller's, that head
+//! and tally have all their words, and that no two overlap; Rust's slices and arrays say so. Nothing checks the declarations below against crates/capi; the tests and
 //! [`differ`] do.
 
 pub mod differ;
@@ -21,7 +21,7 @@ macro_rules! declared {
         extern "C" {
             $(fn $name(
                 table: *mut u64, table_words: usize, journal: *mut u64, journal_words: usize,
-                head: *mut u64, head_words: usize, tally: *mut u64, tally_words: usize,
+                head: *mut [u64; HEAD_WORDS], tally: *mut [u64; TALLY_WORDS],
                 $($extra: $kind),*
             ) -> u64;)*
         }
@@ -34,7 +34,7 @@ macro_rules! declared_queries {
         extern "C" {
             $(fn $name(
                 table: *const u64, table_words: usize, journal: *const u64, journal_words: usize,
-                head: *const u64, head_words: usize, $($extra: $kind),*
+                head: *const [u64; HEAD_WORDS], $($extra: $kind),*
             ) -> u64;)*
         }
     };
@@ -74,18 +74,17 @@ extern "C" {
 pub struct Lent {
     pub table: Vec<u64>,
     pub journal: Vec<u64>,
-    pub head: Vec<u64>,
-    pub tally: Vec<u64>,
+    pub head: [u64; HEAD_WORDS],
+    pub tally: [u64; TALLY_WORDS],
 }
 
 macro_rules! call {
     ($store:ident, $name:ident $(, $extra:expr)*) => {
-        // The slices come from four vectors that are borrowed for the call, and from arguments that are borrowed
-        // mutably too.
+        // Table, journal, head and tally are borrowed for the call, and so are the arguments, all of them mutably.
         unsafe {
             $name(
                 $store.table.as_mut_ptr(), $store.table.len(), $store.journal.as_mut_ptr(), $store.journal.len(),
-                $store.head.as_mut_ptr(), $store.head.len(), $store.tally.as_mut_ptr(), $store.tally.len(),
+                &mut $store.head, &mut $store.tally,
                 $($extra),*
             )
         }
@@ -97,16 +96,16 @@ macro_rules! call {
 pub struct Readable<'a> {
     pub table: &'a [u64],
     pub journal: &'a [u64],
-    pub head: &'a [u64],
+    pub head: &'a [u64; HEAD_WORDS],
 }
 
 macro_rules! query {
     ($store:ident, $name:ident $(, $extra:expr)*) => {
-        // The store's slices are borrowed for the call, and the output is borrowed mutably.
+        // Table, journal and head are borrowed for the call, and the output is borrowed mutably.
         unsafe {
             $name(
                 $store.table.as_ptr(), $store.table.len(), $store.journal.as_ptr(), $store.journal.len(),
-                $store.head.as_ptr(), $store.head.len(), $($extra),*
+                $store.head, $($extra),*
             )
         }
     };
@@ -128,8 +127,8 @@ impl Lent {
         Lent {
             table: vec![0; table],
             journal: vec![0; journal],
-            head: vec![0; HEAD_WORDS],
-            tally: vec![0; TALLY_WORDS],
+            head: [0; HEAD_WORDS],
+            tally: [0; TALLY_WORDS],
         }
     }
 

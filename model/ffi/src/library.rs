@@ -48,7 +48,7 @@ impl Holding for Library {
     }
 
     fn head(&self) -> Vec<u64> {
-        self.lent.head.clone()
+        self.lent.head.to_vec()
     }
 
     fn set_head(&mut self, field: HeadField) {

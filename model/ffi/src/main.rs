@@ -11,7 +11,7 @@ use std::time::Instant;
 
 /// Calls in a script.
 const SCRIPT: usize = 1000;
-/// How many calls in a hundred are first made with a head or tally that no script can have.
+/// How many calls in a hundred are first made with a head that no script can have.
 const PROBES: usize = 6;
 
 #[derive(Default)]

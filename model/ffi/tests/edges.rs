@@ -1,16 +1,15 @@
-//! Every short length and the ends of each range, empty slices among them.
+//! Every short length and the ends of each range, empty slices among them; and any words for head and tally.
 
 use ffi::differ::{expected, Pair};
 use ffi::said::{say, UNTOUCHED};
-use ffi::{price_batch, Lent};
+use ffi::{price_batch, Lent, HEAD_WORDS, TALLY_WORDS};
 use model::script::{Command, Memory, Poke};
 use model::unit::{Call, Filled, Unit};
 use model::word::entry;
 
 const TABLES: [usize; 8] = [0, 1, 2, 3, 7999, 8000, 8001, 8192];
 const JOURNALS: [usize; 8] = [0, 1, 2, 3, 4095, 4096, 4097, 4608];
-const HEADS: [usize; 8] = [0, 1, 2, 3, 83, 84, 85, 168];
-const TALLIES: [usize; 6] = [0, 1, 2, 3, 4, 84];
+const WORDS: [u64; 6] = [0, 1, 2, 7, 1 << 32, u64::MAX];
 
 /// A call of each kind, with lists, read sets and outputs of a length.
 fn calls(words: usize) -> Vec<Call> {
@@ -32,28 +31,92 @@ fn calls(words: usize) -> Vec<Call> {
     ]
 }
 
-/// Every length of table, journal, head and tally, with every call: ground 1 first, then ground 2 for head and tally. A
-/// query is lent no tally; it finds a head of 84 sevens unfit.
+/// Every length of table and journal, with every call that tests the store: ground 1 first, then ground 2 for a head of
+/// 84 sevens, whose flags do not fit.
 #[test]
 fn every_length_of_a_store() {
     for (table, journal) in TABLES.iter().flat_map(|&table| JOURNALS.map(|journal| (table, journal))) {
-        for (head, tally) in HEADS.iter().flat_map(|&head| TALLIES.map(|tally| (head, tally))) {
-            if (head, tally) == (84, 3) {
-                continue;
-            }
-            let fits = (1..=8000).contains(&table) && (1..=4096).contains(&journal);
-            let before = Lent {
-                table: vec![7; table],
-                journal: vec![7; journal],
-                head: vec![7; head],
-                tally: vec![7; tally],
-            };
+        let fits = (1..=8000).contains(&table) && (1..=4096).contains(&journal);
+        let before = Lent {
+            table: vec![7; table],
+            journal: vec![7; journal],
+            head: [7; HEAD_WORDS],
+            tally: [7; TALLY_WORDS],
+        };
+        let mut lent = before.clone();
+        for call in calls(1).iter().filter(|call| tests_store(call)) {
+            let said = say(&mut lent, &mut [], call, &Filled::default());
+            assert_eq!(said.code, if fits { 2 } else { 1 }, "{table} {journal} {call:?}");
+            assert!(lent == before, "{table} {journal} {call:?}");
+        }
+    }
+}
+
+fn tests_store(call: &Call) -> bool {
+    !matches!(call, Call::Clear | Call::Load | Call::PriceBatch { .. })
+}
+
+/// "Clear and load don't test this": any words for head and tally are accepted, and written anew. A refusal, on ground
+/// 1 or of an image, leaves them.
+#[test]
+fn clear_and_load_take_any_head_and_tally() {
+    let image = [0, 0, 0, 7, 0, 1, 0x80, 0, 0, 5, 0, 0, 0x04, 0xB0];
+    for (head, tally) in WORDS.iter().flat_map(|&head| WORDS.map(|tally| (head, tally))) {
+        let lend = |table: usize| Lent {
+            table: vec![7; table],
+            journal: vec![7; 4],
+            head: [head; HEAD_WORDS],
+            tally: [tally; TALLY_WORDS],
+        };
+        let mut lent = lend(2);
+        assert_eq!(lent.clear(), 0);
+        assert_eq!(lent, Lent::of_lengths(2, 4));
+        let mut lent = lend(2);
+        assert_eq!(lent.load(&mut image.clone()), 0);
+        let mut loaded = Lent::of_lengths(2, 4);
+        loaded.table[0] = entry(5, Some(1200));
+        loaded.head[..4].copy_from_slice(&[1, 7, 7, 7]);
+        assert_eq!(lent, loaded);
+        for (table, code) in [(0, 1), (2, 15)] {
+            let mut lent = lend(table);
+            assert_eq!(lent.load(&mut image[..13].to_vec()), code);
+            assert_eq!(lent, lend(table));
+        }
+        let mut lent = lend(0);
+        assert_eq!(lent.clear(), 1);
+        assert_eq!(lent, lend(0));
+    }
+}
+
+/// "The tally is not tested": a call counts on from any words that are there, and a count stops at its largest value.
+#[test]
+fn any_tally_is_counted_on() {
+    for tally in WORDS {
+        let mut lent = Lent::of_lengths(2, 4);
+        assert_eq!(lent.clear(), 0);
+        lent.tally = [tally; TALLY_WORDS];
+        assert_eq!(lent.commit(&mut []), 0);
+        assert_eq!(lent.tally, [tally.saturating_add(1), tally, tally]);
+        assert_eq!(lent.roll_back(0), 0);
+        assert_eq!(lent.tally, [tally.saturating_add(1), tally.saturating_add(1), tally]);
+    }
+}
+
+/// A head whose words do not fit their fields is turned away by every call that tests the store: a flag above 1, a state
+/// number of 2^32 or more.
+#[test]
+fn words_that_no_head_has() {
+    let mut fresh = Lent::of_lengths(2, 4);
+    assert_eq!(fresh.clear(), 0);
+    let flags = (4..12).flat_map(|at| [2, 256, 1 << 32, u64::MAX].map(|word| (at, word)));
+    let states = (1..4).chain(12..20).flat_map(|at| [1 << 32, 7 << 32, 1 << 63].map(|word| (at, word)));
+    for (at, word) in flags.chain(states) {
+        let mut before = fresh.clone();
+        before.head[at] = word;
+        for call in calls(1).iter().filter(|call| tests_store(call)) {
             let mut lent = before.clone();
-            for call in calls(1).iter().filter(|call| !matches!(call, Call::PriceBatch { .. })) {
-                let said = say(&mut lent, &mut [], call, &Filled::default());
-                assert_eq!(said.code, if fits { 2 } else { 1 }, "{table} {journal} {head} {tally} {call:?}");
-                assert!(lent == before, "{table} {journal} {head} {tally} {call:?}");
-            }
+            let said = say(&mut lent, &mut [0; 6], call, &Filled::default());
+            assert_eq!((said.code, lent), (2, before.clone()), "{at} {word} {call:?}");
         }
     }
 }

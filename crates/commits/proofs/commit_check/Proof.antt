@@ -27,14 +27,14 @@ enum-told-2 : tie.Need-enum-told-2
 enum-told-2 c = search needs
 
 returns : tie.Need-returns
-returns c = stops _ _ (c .before .before .store-check .ensures) (c .enum-told2 .given .1)
+returns c = stops _ _ (c .before .before .store-check .ensures .0) (c .enum-told2 .given .1)
 
 is-list-requires : tie.Need-is-list-requires
 is-list-requires c κs = search needs
 
 returns-2 : tie.Need-returns-2
 returns-2 c =
-    sym (goes-on _ _ (c .before .before .before .before .store-check .ensures) (c .before .before .enum-told .given .1)
+    sym (goes-on _ _ (c .before .before .before .before .store-check .ensures .0) (c .before .before .enum-told .given .1)
     ∙ first-met _ _ _ (ap not (sym (c .before .is-list .ensures)) ∙ (c .if1 .taken)))
 
 returns-3 : tie.Need-returns-3
@@ -43,7 +43,7 @@ returns-3 c =
     let c5 = c3 .before .before in
     let args = c5 .before .before .before .before .before .before .before .args in
     sym
-    (goes-on _ _ (c5 .store-check .ensures) (c3 .enum-told .given .1)
+    (goes-on _ _ (c5 .store-check .ensures .0) (c3 .enum-told .given .1)
     ∙ first-not _ _ _ (ap not (sym (c .before .before .is-list .ensures)) ∙ (c .before .if1 .left))
     ∙ first-met _ _ _ (eq-eqb (args .t3 .tip) 4294967295 (c .if2 .taken)))
 
@@ -52,7 +52,7 @@ held-count-requires c κs =
     let c3 = c .before .before .before in
     let c5 = c3 .before .before in
     let args = c5 .before .before .before .before .before .before .before .args in
-    let ok = store-ok (args .table .now) (args .journal .now) (args .t3) (c5 .store-check .ensures) (c3 .enum-told .given .1) in
+    let ok = store-ok (args .table .now) (args .journal .now) (args .t3) (c5 .store-check .ensures .0) (c3 .enum-told .given .1) in
     omega (arith, ok .sound .low, ok .sound .high)
 
 is-full-requires : tie.Need-is-full-requires
@@ -67,7 +67,7 @@ returns-4 c =
     let c8 = c6 .before .before in
     let args = c8 .before .before .before .before .before .before .before .args in
     sym
-    (goes-on _ _ (c8 .store-check .ensures) (c6 .enum-told .given .1)
+    (goes-on _ _ (c8 .store-check .ensures .0) (c6 .enum-told .given .1)
     ∙ first-not _ _ _ (ap not (sym (c5 .is-list .ensures)) ∙ (c4 .if1 .left))
     ∙ first-not _ _ _ (ne-eqb (args .t3 .tip) 4294967295 (c3 .if2 .left))
     ∙ first-met _ _ _ (ap (λ (k : ℕ). eqb k 64) (sym (c .before .before .held-count .ensures))
@@ -79,7 +79,7 @@ end-of-requires c κs =
     let c9 = c5 .before .before .before .before in
     let c11 = c9 .before .before in
     let args = c11 .before .before .before .before .before .before .before .args in
-    let ok = store-ok (args .table .now) (args .journal .now) (args .t3) (c11 .store-check .ensures) (c9 .enum-told .given .1) in
+    let ok = store-ok (args .table .now) (args .journal .now) (args .t3) (c11 .store-check .ensures .0) (c9 .enum-told .given .1) in
     omega (arith, ok .sound .few, (c5 .held-count .ensures))
 
 exceeds-requires : tie.Need-exceeds-requires
@@ -88,7 +88,7 @@ exceeds-requires c κs =
     let c10 = c6 .before .before .before .before in
     let c12 = c10 .before .before in
     let args = c12 .before .before .before .before .before .before .before .args in
-    let ok = store-ok (args .table .now) (args .journal .now) (args .t3) (c12 .store-check .ensures) (c10 .enum-told .given .1) in
+    let ok = store-ok (args .table .now) (args .journal .now) (args .t3) (c12 .store-check .ensures .0) (c10 .enum-told .given .1) in
     omega (
       arith,
       inside (ok .sound) (heldOf (args .t3)) (le-refl (heldOf (args .t3))),
@@ -109,7 +109,7 @@ returns-5 c =
     let args = c14 .before .before .before .before .before .before .before .args in
     let used = (c .before .before .end-of .ensures) ∙ ap (startOf (args .t3 .ends)) (c8 .held-count .ensures) in
     sym
-    (goes-on _ _ (c14 .store-check .ensures) (c12 .enum-told .given .1)
+    (goes-on _ _ (c14 .store-check .ensures .0) (c12 .enum-told .given .1)
     ∙ first-not _ _ _ (ap not (sym (c11 .is-list .ensures)) ∙ (c10 .if1 .left))
     ∙ first-not _ _ _ (ne-eqb (args .t3 .tip) 4294967295 (c9 .if2 .left))
     ∙ first-not _ _ _ (ap (λ (k : ℕ). eqb k 64) (sym (c8 .held-count .ensures)) ∙ sym (c7 .is-full .ensures) ∙ (c6 .if3 .left))
@@ -129,7 +129,7 @@ returns-6 c =
     let args = c14 .before .before .before .before .before .before .before .args in
     let used = (c .before .before .end-of .ensures) ∙ ap (startOf (args .t3 .ends)) (c8 .held-count .ensures) in
     sym
-    (goes-on _ _ (c14 .store-check .ensures) (c12 .enum-told .given .1)
+    (goes-on _ _ (c14 .store-check .ensures .0) (c12 .enum-told .given .1)
     ∙ first-not _ _ _ (ap not (sym (c11 .is-list .ensures)) ∙ (c10 .if1 .left))
     ∙ first-not _ _ _ (ne-eqb (args .t3 .tip) 4294967295 (c9 .if2 .left))
     ∙ first-not _ _ _ (ap (λ (k : ℕ). eqb k 64) (sym (c8 .held-count .ensures)) ∙ sym (c7 .is-full .ensures) ∙ (c6 .if3 .left))

@@ -25,9 +25,11 @@ start d = d .before .before .before .before .before .before .before .before .bef
 known : (d : tie.After-enum-told2)
     → HeldState (start d .args .table .now) (start d .args .journal .now) (start d .args .t3) (start d .args .state)
 known d =
+    let d3 = d .before .before .before in
+    let d5 = d3 .before .before in
     held-known _ _ _ _
-    (d .before .before .state-check .ensures
-    ∙ sym (goes-on _ _ (d .before .before .before .before .before .store-check .ensures) (d .before .before .before .enum-told .given .1)))
+    (d .before .before .state-check .ensures .0
+    ∙ sym (goes-on _ _ (d5 .store-check .ensures .0) (d3 .enum-told .given .1)))
     (d .enum-told2 .given .1)
 
 -- the shape of the head that is lent
@@ -53,7 +55,7 @@ returns c =
     let c3 = c .before .before .before in
     let args = c3 .before .before .before .before .before .before .before .args in
     held-not (args .table .now) (args .journal .now) (args .t3) (args .state)
-    (stops _ _ (c3 .store-check .ensures) (c .before .store .given .1)) (c .before .store .given .1)
+    (stops _ _ (c3 .store-check .ensures .0) (c .before .store .given .1)) (c .before .store .given .1)
 
 enum-told : tie.Need-enum-told
 enum-told c = search needs
@@ -74,7 +76,7 @@ returns-2 c =
     let c6 = c4 .before .before in
     let args = c6 .before .before .before .before .before .before .before .args in
     held-not (args .table .now) (args .journal .now) (args .t3) (args .state)
-    ((c3 .state-check .ensures) ∙ sym (goes-on _ _ (c6 .store-check .ensures) (c4 .enum-told .given .1))) (c .before .range .given .1)
+    ((c3 .state-check .ensures .0) ∙ sym (goes-on _ _ (c6 .store-check .ensures .0) (c4 .enum-told .given .1))) (c .before .range .given .1)
 
 enum-told-2 : tie.Need-enum-told-2
 enum-told-2 c = search needs

@@ -1,16 +1,11 @@
 -- `head_words::is_head` meets its contract.
 -- Assumes nothing.
 use mathlib.Core.Path.{_∙_, sym}
-use borrow.Author.Tests.{eq-eqb, ne-eqb, not-true, not-false}
-use lib.ListN.{length}
+use borrow.Author.Tests.{not-true, not-false}
 use Rattle.layout.proofs.Holds.{first-fails, first-holds, last-test}
-use Rattle.head_words.specs.HeadWords.{headSize}
 use borrow.Author.Needs.{needs}
 use Rattle.head_words.proofs.is_head.Statement.{statement}
 use Rattle.head_words.proofs.is_head.Tie as tie
-
-returns : tie.Need-returns
-returns c = sym (first-fails _ _ (ne-eqb (length ((c .before .before .args .words .now))) headSize (c .if1 .taken)))
 
 sub-are-below : tie.Need-sub-are-below
 sub-are-below c = search needs
@@ -24,12 +19,8 @@ part-are-below-end c = search needs
 are-below-requires : tie.Need-are-below-requires
 are-below-requires c κs = search needs
 
-returns-2 : tie.Need-returns-2
-returns-2 c =
-    let c3 = c .before .before .before in
-    let args = c3 .before .before .args in
-    sym (first-holds _ _ (eq-eqb (length (args .words .now)) headSize (c3 .if1 .left))
-    ∙ first-fails _ _ (sym (c .before .are-below .ensures) ∙ not-true _ (c .if2 .taken)))
+returns : tie.Need-returns
+returns c = sym (first-fails _ _ (sym (c .before .are-below .ensures) ∙ not-true _ (c .if1 .taken)))
 
 sub-are-below-2 : tie.Need-sub-are-below-2
 sub-are-below-2 c = search needs
@@ -43,15 +34,10 @@ part-are-below-end-2 c = search needs
 are-below-requires-2 : tie.Need-are-below-requires-2
 are-below-requires-2 c κs = search needs
 
-returns-3 : tie.Need-returns-3
-returns-3 c =
-    let c3 = c .before .before .before in
-    let c4 = c3 .before in
-    let c6 = c4 .before .before in
-    let args = c6 .before .before .args in
-    sym (first-holds _ _ (eq-eqb (length (args .words .now)) headSize (c6 .if1 .left))
-    ∙ first-holds _ _ (sym (c4 .are-below .ensures) ∙ not-false _ (c3 .if2 .left))
-    ∙ first-fails _ _ (sym (c .before .are-below2 .ensures) ∙ not-true _ (c .if3 .taken)))
+returns-2 : tie.Need-returns-2
+returns-2 c =
+    sym (first-holds _ _ (sym (c .before .before .before .before .are-below .ensures) ∙ not-false _ (c .before .before .before .if1 .left))
+    ∙ first-fails _ _ (sym (c .before .are-below2 .ensures) ∙ not-true _ (c .if2 .taken)))
 
 sub-are-below-3 : tie.Need-sub-are-below-3
 sub-are-below-3 c = search needs
@@ -65,35 +51,31 @@ part-are-below-end-3 c = search needs
 are-below-requires-3 : tie.Need-are-below-requires-3
 are-below-requires-3 c κs = search needs
 
-returns-4 : tie.Need-returns-4
-returns-4 c =
+returns-3 : tie.Need-returns-3
+returns-3 c =
     let c3 = c .before .before .before in
     let c5 = c3 .before .before in
     let c6 = c5 .before in
-    let c8 = c6 .before .before in
-    let args = c8 .before .before .args in
     (c .are-below3 .ensures) ∙ sym
-    (first-holds _ _ (eq-eqb (length (args .words .now)) headSize (c8 .if1 .left))
-    ∙ first-holds _ _ (sym (c6 .are-below .ensures) ∙ not-false _ (c5 .if2 .left))
-    ∙ first-holds _ _ (sym (c3 .are-below2 .ensures) ∙ not-false _ (c .before .before .if3 .left)) ∙ last-test _)
+    (first-holds _ _ (sym (c6 .are-below .ensures) ∙ not-false _ (c5 .if1 .left))
+    ∙ first-holds _ _ (sym (c3 .are-below2 .ensures) ∙ not-false _ (c .before .before .if2 .left)) ∙ last-test _)
 
 pub is-head-spec : {M : Type 1} → statement M
 is-head-spec =
     tie.close
     (tie.spec
-    returns
     sub-are-below
     part-are-below-start
     part-are-below-end
     are-below-requires
-    returns-2
+    returns
     sub-are-below-2
     part-are-below-start-2
     part-are-below-end-2
     are-below-requires-2
-    returns-3
+    returns-2
     sub-are-below-3
     part-are-below-start-3
     part-are-below-end-3
     are-below-requires-3
-    returns-4)
+    returns-3)

@@ -70,7 +70,7 @@ returns : tie.Need-returns
 returns c =
     let c3 = c .before .before .before in
     let args = c3 .before .before .before .args in
-    (c .find .ensures) ∙ ap (find (args .offer))
+    (c .find .ensures .0) ∙ ap (find (args .offer))
     (step-part (args .journal .now) (args .ends .now) (args .step) (c3 .end-of .result)
     (c .before .before .end-of2 .result) (c3 .end-of .ensures) (c .before .before .end-of2 .ensures))
 

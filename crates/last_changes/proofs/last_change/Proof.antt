@@ -1,6 +1,7 @@
 -- `last_changes::last_change` meets its contract: the steps that were searched have no word at the offer.
 -- Assumes nothing.
 use Prim.Native.Nat.{_-_}
+use Rattle.lists.proofs.Halving.{finds}
 use Rattle.last_changes.proofs.Seeking.{Seeking, seeking, sought, newest-marked, newest-rises, found-there, not-there}
 use borrow.Author.Needs.{needs}
 use native.Mathlib.Omega.{arith}
@@ -33,7 +34,7 @@ returns : tie.Need-returns Inv-loop μ-loop
 returns c =
     let c3 = c .before .before .before in
     let c4 = c3 .before in
-    found-there (c4 .loop .inv) (c3 .loop-test .taken) _ (c .before .before .find-in-step .ensures) _ ((c .enum-told2 .given .1))
+    finds (found-there (c4 .loop .inv) (c3 .loop-test .taken) _ (c .before .before .find-in-step .ensures) _ ((c .enum-told2 .given .1)))
 
 loop-less : tie.Need-loop-less Inv-loop μ-loop
 loop-less c = omega arith
@@ -45,7 +46,7 @@ loop-again c =
     not-there (c4 .loop .inv) (c3 .loop-test .taken) _ (c .before .before .find-in-step .ensures) ((c .enum-told .given .1))
 
 returns-2 : tie.Need-returns-2 Inv-loop μ-loop
-returns-2 c = sought (c .before .loop .inv) (omega arith)
+returns-2 c = finds (sought (c .before .loop .inv) (omega arith))
 
 pub last-change-spec : {M : Type 1} → statement M
 last-change-spec =

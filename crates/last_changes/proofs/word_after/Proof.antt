@@ -46,7 +46,7 @@ returns-2 c =
     let c4 = c3 .before in
     let args = c4 .before .before .before .before .before .before .before .args in
     ap (λ f. foundOr f (args .word))
-    (sym (c .before .later .given .1) ∙ (c3 .last-change .ensures)
+    (sym (c .before .later .given .1) ∙ (c3 .last-change .ensures .0)
     ∙ ap (λ n. find n (composeAll (runOf (args .journal .now) (args .ends .now) (args .from)
     ((args .to) - (args .from))))) (c4 .offer-of .ensures))
 
@@ -55,7 +55,7 @@ returns-3 c =
     let c3 = c .before .before .before in
     let args = c3 .before .before .before .before .before .before .before .args in
     ap (λ f. foundOr f (args .word))
-    (sym (c .enum-told .given .1) ∙ (c .before .before .last-change .ensures)
+    (sym (c .enum-told .given .1) ∙ (c .before .before .last-change .ensures .0)
     ∙ ap (λ n. find n (composeAll (runOf (args .journal .now) (args .ends .now) (args .from)
     ((args .to) - (args .from))))) (c3 .offer-of .ensures))
 

@@ -19,13 +19,13 @@ enum-told-2 : tie.Need-enum-told-2
 enum-told-2 c = search needs
 
 returns : tie.Need-returns
-returns c = stops _ _ (c .before .before .store-check .ensures) (c .enum-told2 .given .1)
+returns c = stops _ _ (c .before .before .store-check .ensures .0) (c .enum-told2 .given .1)
 
 returns-2 : tie.Need-returns-2
 returns-2 c =
     let c4 = c .before .before .before .before in
     let args = c4 .before .before .before .before .before .before .args in
-    sym (goes-on _ _ (c4 .store-check .ensures) (c .before .before .enum-told .given .1)
+    sym (goes-on _ _ (c4 .store-check .ensures .0) (c .before .before .enum-told .given .1)
     ∙ first-met _ _ _ (le-leb (2 ^ 31) (args .asked .offer) (omega arith)))
 
 state-check-requires : tie.Need-state-check-requires
@@ -36,8 +36,8 @@ returns-3 c =
     let c3 = c .before .before .before in
     let c5 = c3 .before .before in
     let args = c5 .before .before .before .before .before .before .args in
-    (c .state-check .ensures)
-    ∙ sym (goes-on _ _ (c5 .store-check .ensures) (c3 .enum-told .given .1)
+    (c .state-check .ensures .0)
+    ∙ sym (goes-on _ _ (c5 .store-check .ensures .0) (c3 .enum-told .given .1)
     ∙ first-not _ _ _ (lt-leb (2 ^ 31) (args .asked .offer) (omega arith)))
 
 pub look-up-check-spec : {M : Type 1} → statement M

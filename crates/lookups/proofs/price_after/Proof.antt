@@ -28,10 +28,10 @@ returns c =
     let c3 = c .before .before .before in
     let c7 = c3 .before .before .before .before in
     let args = c7 .args in
-    (c .quote-of .ensures) ∙ ap (λ f. quoteOf (ifPut f)) (c3 .last-change .ensures)
+    (c .quote-of .ensures) ∙ ap (λ f. quoteOf (ifPut f)) (c3 .last-change .ensures .0)
     ∙ ap quoteOf (by-change (args .offer) (args .base .now)
     (composeAll (runOf (args .journal .now) (args .ends .now) (args .from) ((args .to) - (args .from)))) (c7 .pre .0)
-    (between-rises (c7 .pre .1)) _ (sym (c3 .last-change .ensures) ∙ (c .before .enum-told2 .given .1)))
+    (between-rises (c7 .pre .1)) _ (sym (c3 .last-change .ensures .0) ∙ (c .before .enum-told2 .given .1)))
 
 find-requires : tie.Need-find-requires
 find-requires c κs = (c .before .before .before .before .before .before .pre .0 .rises)
@@ -44,10 +44,10 @@ returns-2 c =
     let c4 = c .before .before .before .before in
     let c8 = c4 .before .before .before .before in
     let args = c8 .args in
-    (c .quote-of2 .ensures) ∙ ap (λ f. quoteOf (ifPut f)) (c .before .find .ensures)
+    (c .quote-of2 .ensures) ∙ ap (λ f. quoteOf (ifPut f)) (c .before .find .ensures .0)
     ∙ ap quoteOf (by-map (args .offer) (args .base .now)
     (composeAll (runOf (args .journal .now) (args .ends .now) (args .from) ((args .to) - (args .from)))) (c8 .pre .0)
-    (between-rises (c8 .pre .1)) (sym (c4 .last-change .ensures) ∙ (c .before .before .enum-told .given .1)))
+    (between-rises (c8 .pre .1)) (sym (c4 .last-change .ensures .0) ∙ (c .before .before .enum-told .given .1)))
 
 pub price-after-spec : {M : Type 1} → statement M
 price-after-spec =

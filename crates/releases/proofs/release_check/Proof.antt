@@ -17,7 +17,7 @@ enum-told-2 : tie.Need-enum-told-2
 enum-told-2 c = search needs
 
 returns : tie.Need-returns
-returns c = stops _ _ (c .before .before .store-check .ensures) (c .enum-told2 .given .1)
+returns c = stops _ _ (c .before .before .store-check .ensures .0) (c .enum-told2 .given .1)
 
 slot-check-requires : tie.Need-slot-check-requires
 slot-check-requires c κs = search needs
@@ -30,13 +30,15 @@ enum-told-4 c = search needs
 
 returns-2 : tie.Need-returns-2
 returns-2 c =
-    stops _ _ (c .before .before .slot-check .ensures) (c .enum-told4 .given .1)
-    ∙ sym (goes-on _ _ (c .before .before .before .before .before .store-check .ensures) (c .before .before .before .enum-told .given .1))
+    let c3 = c .before .before .before in
+    let c5 = c3 .before .before in
+    stops _ _ (c .before .before .slot-check .ensures .0) (c .enum-told4 .given .1)
+    ∙ sym (goes-on _ _ (c5 .store-check .ensures .0) (c3 .enum-told .given .1))
 
 array-read-if1 : tie.Need-array-read-if1
 array-read-if1 c =
     let args = c .before .before .before .before .before .before .before .before .before .before .before .before .args in
-    slot-ok (args .reader) (c .before .before .slot-check .ensures) (c .enum-told3 .given .1)
+    slot-ok (args .reader) (c .before .before .slot-check .ensures .0) (c .enum-told3 .given .1)
 
 returns-3 : tie.Need-returns-3
 returns-3 c =
@@ -44,8 +46,8 @@ returns-3 c =
     let c4 = c3 .before in
     let c6 = c4 .before .before in
     sym
-    (goes-on _ _ (c6 .store-check .ensures) (c4 .enum-told .given .1)
-    ∙ goes-on _ _ (c3 .slot-check .ensures) (c .before .enum-told3 .given .1)
+    (goes-on _ _ (c6 .store-check .ensures .0) (c4 .enum-told .given .1)
+    ∙ goes-on _ _ (c3 .slot-check .ensures .0) (c .before .enum-told3 .given .1)
     ∙ first-met _ _ _ (c .if1 .taken))
 
 returns-4 : tie.Need-returns-4
@@ -54,8 +56,8 @@ returns-4 c =
     let c4 = c3 .before in
     let c6 = c4 .before .before in
     sym
-    (goes-on _ _ (c6 .store-check .ensures) (c4 .enum-told .given .1)
-    ∙ goes-on _ _ (c3 .slot-check .ensures) (c .before .enum-told3 .given .1)
+    (goes-on _ _ (c6 .store-check .ensures .0) (c4 .enum-told .given .1)
+    ∙ goes-on _ _ (c3 .slot-check .ensures .0) (c .before .enum-told3 .given .1)
     ∙ first-not _ _ _ (c .if1 .left)
     ∙ none-met)
 

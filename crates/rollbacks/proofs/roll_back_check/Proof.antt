@@ -16,14 +16,14 @@ enum-told-2 : tie.Need-enum-told-2
 enum-told-2 c = search needs
 
 returns : tie.Need-returns
-returns c = stops _ _ (c .before .before .store-check .ensures) (c .enum-told2 .given .1)
+returns c = stops _ _ (c .before .before .store-check .ensures .0) (c .enum-told2 .given .1)
 
 state-check-requires : tie.Need-state-check-requires
 state-check-requires c κs = search needs
 
 returns-2 : tie.Need-returns-2
 returns-2 c =
-    (c .state-check .ensures) ∙ sym (goes-on _ _ (c .before .before .before .store-check .ensures) (c .before .enum-told .given .1))
+    (c .state-check .ensures .0) ∙ sym (goes-on _ _ (c .before .before .before .store-check .ensures .0) (c .before .enum-told .given .1))
 
 pub roll-back-check-spec : {M : Type 1} → statement M
 roll-back-check-spec =

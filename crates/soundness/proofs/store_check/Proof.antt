@@ -2,7 +2,7 @@
 -- Assumes nothing.
 use mathlib.Core.Path.{_∙_, sym, ap}
 use mathlib.Core.Bool.{not}
-use Rattle.answers.proofs.Firsts.{first-met, first-not, none-met}
+use Rattle.answers.proofs.Firsts.{checks, first-met, first-not, none-met}
 use borrow.Author.Needs.{needs}
 use Rattle.soundness.proofs.store_check.Statement.{statement}
 use Rattle.soundness.proofs.store_check.Tie as tie
@@ -11,23 +11,23 @@ lengths-fit-requires : tie.Need-lengths-fit-requires
 lengths-fit-requires c κs = search needs
 
 returns : tie.Need-returns
-returns c = sym (first-met _ _ _ (ap not (sym (c .before .lengths-fit .ensures)) ∙ (c .if1 .taken)))
+returns c = checks (sym (first-met _ _ _ (ap not (sym (c .before .lengths-fit .ensures)) ∙ (c .if1 .taken))))
 
 is-sound-requires : tie.Need-is-sound-requires
 is-sound-requires c κs = search needs
 
 returns-2 : tie.Need-returns-2
 returns-2 c =
-    sym
+    checks (sym
     (first-not _ _ _ (ap not (sym (c .before .before .before .lengths-fit .ensures)) ∙ (c .before .before .if1 .left))
-    ∙ first-met _ _ _ (ap not (sym (c .before .is-sound .ensures)) ∙ (c .if2 .taken)))
+    ∙ first-met _ _ _ (ap not (sym (c .before .is-sound .ensures)) ∙ (c .if2 .taken))))
 
 returns-3 : tie.Need-returns-3
 returns-3 c =
-    sym
+    checks (sym
     (first-not _ _ _ (ap not (sym (c .before .before .before .lengths-fit .ensures)) ∙ (c .before .before .if1 .left))
     ∙ first-not _ _ _ (ap not (sym (c .before .is-sound .ensures)) ∙ (c .if2 .left))
-    ∙ none-met)
+    ∙ none-met))
 
 pub store-check-spec : {M : Type 1} → statement M
 store-check-spec =

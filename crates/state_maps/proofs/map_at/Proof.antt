@@ -2,7 +2,8 @@
 -- Assumes nothing.
 use native.Mathlib.Omega.{arith}
 use Rattle.views.specs.View.{Shaped}
-use Rattle.state_maps.proofs.Working.{state-facts, used-long, run-room, count-in, changes-long, has-room, size-is, map-is}
+use Rattle.state_maps.proofs.Working.{state-facts, used-long, run-room, count-in, changes-long, has-room, size-is}
+use Rattle.state_maps.proofs.Working.{map-is, changes-stay, map-stays}
 use borrow.Author.Needs.{needs}
 use Rattle.state_maps.proofs.map_at.Statement.{statement}
 use Rattle.state_maps.proofs.map_at.Tie as tie
@@ -67,13 +68,16 @@ returns : tie.Need-returns
 returns c =
     let d = c .before .before .before .before .before .before .before .before .before .before in
     let ok = state-facts (d .before .before .before .before .before .before .before .before .before .before .before .before .pre .0) in
-    let p = shape (d .before .before .before .before .before .before .before .before .before) in (
-      size-is p ok (d .before .before .before .before .before .before .before .step-index .ensures)
-          (d .before .before .before .before .before .before .step-index2 .ensures) (d .compose-run .ensures) _ _
-          (c .before .before .apply .ensures .0) (c .before .before .apply .ensures .1),
-      map-is p ok (d .before .before .before .before .before .before .before .step-index .ensures)
-          (d .before .before .before .before .before .before .step-index2 .ensures) (d .compose-run .ensures) _ _
-          (c .before .before .apply .ensures .0) (c .before .before .apply .ensures .1),
+    let p = shape (d .before .before .before .before .before .before .before .before .before) in
+    let from = d .before .before .before .before .before .before .before .step-index .ensures in
+    let to = d .before .before .before .before .before .before .step-index2 .ensures in
+    let run = d .compose-run .ensures in
+    let size = c .before .before .apply .ensures .0 in
+    let map = c .before .before .apply .ensures .1 in (
+      size-is p ok from to run _ _ size map,
+      map-is p ok from to run _ _ size map,
+      changes-stay p ok from to run,
+      map-stays p ok from to run _ _ size map,
     )
 
 pub map-at-spec : {M : Type 1} → statement M

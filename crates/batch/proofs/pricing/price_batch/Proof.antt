@@ -25,13 +25,13 @@ slice-aggregate-changes-of c = search needs
 changes-of-requires : tie.Need-changes-of-requires
 changes-of-requires c κs =
     let c5 = c .before .before .before .before .before in
-    accepted-at _ _ _ (sym (c5 .check-batch .ensures .0) ∙ (c .before .before .enum-told .given .1)) (omega arith)
+    accepted-at _ _ _ (sym (c5 .check-batch .ensures .0 .0) ∙ (c .before .before .enum-told .given .1)) (omega arith)
     ((c5 .check-batch .ensures .1) (c .before .before .enum-told .given .1))
 
 returns : tie.Need-returns
 returns c =
     let c4 = c .before .before .before .before in
-    tell-fails _ (sym (batch-stopped _ _ _ (sym (c4 .check-batch .ensures .0) ∙ (c .before .ground .given .1))))
+    tell-fails _ (sym (batch-stopped _ _ _ (sym (c4 .check-batch .ensures .0 .0) ∙ (c .before .ground .given .1))))
 
 same-length : tie.Need-same-length
 same-length c = search needs
@@ -40,7 +40,7 @@ returns-2 : tie.Need-returns-2
 returns-2 c =
     let c5 = c .before .before .before .before .before in
     let c8 = c5 .before .before .before in
-    tell-same (sym (batch-executes _ _ _ (sym (c8 .check-batch .ensures .0) ∙ (c5 .enum-told .given .1)))) _
+    tell-same (sym (batch-executes _ _ _ (sym (c8 .check-batch .ensures .0 .0) ∙ (c5 .enum-told .given .1)))) _
     (c .before .before .changes-of .ensures)
 
 pub price-batch-spec : {M : Type 1} → statement M

@@ -1,8 +1,7 @@
 -- `ask::ask` meets its contract: each arm has what its call promises.
 -- Assumes nothing.
 use Rattle.answers.specs.declared.call.Query.the-variants.{LookUp, WriteImage}
-use Rattle.calls.specs.Lent.{asks}
-use Rattle.calls.specs.Lent.{lent}
+use Rattle.calls.specs.Lent.{lent, asks, checkOf}
 use Rattle.calls.specs.Meaning.{queryOf}
 use Rattle.calls.proofs.Settling.{kept, settles}
 use borrow.Author.Needs.{needs}
@@ -15,8 +14,8 @@ look-up c =
     let l = lent (args .table .now) (args .journal .now) (args .words .now) (args .bytes .now) (args .head) in
     let m = asks l (queryOf l (LookUp ((c .before .before .query .given .0 .0)))) in
     rw ((c .before .before .query .given .1))
-    (settles m l (c .look-up .ensures) (kept (m .check) (l .table)) (kept (m .check) (l .journal))
-    (kept (m .check) (l .words)) (kept (m .check) (l .bytes)) (kept (m .check) (l .head)))
+    (settles m l (c .look-up .ensures) (kept (checkOf m) (l .table)) (kept (checkOf m) (l .journal))
+    (kept (checkOf m) (l .words)) (kept (checkOf m) (l .bytes)) (kept (checkOf m) (l .head)))
 
 write-image : tie.Need-returns-2
 write-image c =
@@ -25,8 +24,8 @@ write-image c =
     let l = lent (args .table .now) (args .journal .now) (args .words .now) (args .bytes .now) (args .head) in
     let m = asks l (queryOf l WriteImage) in
     rw ((c4 .enum-told .given .1))
-    (settles m l (c .before .before .write-image .ensures .0) (kept (m .check) (l .table))
-    (kept (m .check) (l .journal)) (kept (m .check) (l .words)) (c .before .before .write-image .ensures .1) (kept (m .check) (l .head)))
+    (settles m l (c .before .before .write-image .ensures .0) (kept (checkOf m) (l .table))
+    (kept (checkOf m) (l .journal)) (kept (checkOf m) (l .words)) (c .before .before .write-image .ensures .1) (kept (checkOf m) (l .head)))
 
 pub ask-spec : {M : Type 1} → statement M
 ask-spec =

@@ -1,7 +1,7 @@
 -- `read::read` meets its contract: each arm has what its call promises.
 -- Assumes nothing.
 use Rattle.answers.specs.declared.call.Read.the-variants.{Issue, Forward, Release}
-use Rattle.calls.specs.Lent.{lent}
+use Rattle.calls.specs.Lent.{lent, checkOf}
 use Rattle.calls.specs.Meaning.{readCallOf}
 use Rattle.calls.proofs.Settling.{kept, settles}
 use borrow.Author.Needs.{needs}
@@ -42,8 +42,8 @@ returns c =
     let l = lent (args .table .now) (args .journal .now) (args .words .now) (args .bytes .now) (args .head) in
     let m = readCallOf l (Issue ((c7 .call .given .0 .0))) in
     rw ((c7 .call .given .1))
-    (settles m l (c .before .before .issue .ensures .0) (kept (m .check) (l .table)) (kept (m .check) (l .journal))
-    (c .before .before .issue .ensures .2) (kept (m .check) (l .bytes)) (c .before .before .issue .ensures .1))
+    (settles m l (c .before .before .issue .ensures .0) (kept (checkOf m) (l .table)) (kept (checkOf m) (l .journal))
+    (c .before .before .issue .ensures .2) (kept (checkOf m) (l .bytes)) (c .before .before .issue .ensures .1))
 
 same-length-4 : tie.Need-same-length-4
 same-length-4 c = search needs
@@ -62,8 +62,8 @@ returns-2 c =
     let l = lent (args .table .now) (args .journal .now) (args .words .now) (args .bytes .now) (args .head) in
     let m = readCallOf l (Forward ((c9 .call2 .given .0 .0)) ((c9 .call2 .given .0 .1 .0))) in
     rw ((c9 .call2 .given .1))
-    (settles m l (c4 .forward .ensures .0) (kept (m .check) (l .table)) (c4 .forward .ensures .2)
-    (c4 .forward .ensures .3) (kept (m .check) (l .bytes)) (c4 .forward .ensures .1))
+    (settles m l (c4 .forward .ensures .0) (kept (checkOf m) (l .table)) (c4 .forward .ensures .2)
+    (c4 .forward .ensures .3) (kept (checkOf m) (l .bytes)) (c4 .forward .ensures .1))
 
 same-length-7 : tie.Need-same-length-7
 same-length-7 c = search needs
@@ -78,8 +78,8 @@ returns-3 c =
     let l = lent (args .table .now) (args .journal .now) (args .words .now) (args .bytes .now) (args .head) in
     let m = readCallOf l (Release ((c6 .call3 .given .0 .0))) in
     rw ((c6 .call3 .given .1))
-    (settles m l (c .before .before .release .ensures .0) (kept (m .check) (l .table))
-    (c .before .before .release .ensures .2) (kept (m .check) (l .words)) (kept (m .check) (l .bytes))
+    (settles m l (c .before .before .release .ensures .0) (kept (checkOf m) (l .table))
+    (c .before .before .release .ensures .2) (kept (checkOf m) (l .words)) (kept (checkOf m) (l .bytes))
     (c .before .before .release .ensures .1))
 
 pub read-spec : {M : Type 1} → statement M

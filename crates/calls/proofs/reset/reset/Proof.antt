@@ -1,7 +1,7 @@
 -- `reset::reset` meets its contract: each arm has what its call promises.
 -- Assumes nothing.
 use Rattle.answers.specs.declared.call.Reset.the-variants.{Clear, Load, Restart}
-use Rattle.calls.specs.Lent.{lent}
+use Rattle.calls.specs.Lent.{lent, checkOf}
 use Rattle.calls.specs.Meaning.{resetOf}
 use Rattle.calls.proofs.Settling.{kept, settles}
 use borrow.Author.Needs.{needs}
@@ -40,8 +40,8 @@ returns c =
     let l = lent (args .table .now) (args .journal .now) (args .words .now) (args .bytes .now) (args .head) in
     let m = resetOf l Clear in
     rw ((c7 .enum-told .given .1))
-    (settles m l (c4 .clear .ensures .0) (c4 .clear .ensures .2) (c4 .clear .ensures .3) (kept (m .check) (l .words))
-    (kept (m .check) (l .bytes)) (c4 .clear .ensures .1))
+    (settles m l (c4 .clear .ensures .0) (c4 .clear .ensures .2) (c4 .clear .ensures .3) (kept (checkOf m) (l .words))
+    (kept (checkOf m) (l .bytes)) (c4 .clear .ensures .1))
 
 same-length-3 : tie.Need-same-length-3
 same-length-3 c = search needs
@@ -60,8 +60,8 @@ returns-2 c =
     let l = lent (args .table .now) (args .journal .now) (args .words .now) (args .bytes .now) (args .head) in
     let m = resetOf l Load in
     rw ((c8 .enum-told2 .given .1))
-    (settles m l (c4 .load .ensures .0) (c4 .load .ensures .2) (c4 .load .ensures .3) (kept (m .check) (l .words))
-    (kept (m .check) (l .bytes)) (c4 .load .ensures .1))
+    (settles m l (c4 .load .ensures .0) (c4 .load .ensures .2) (c4 .load .ensures .3) (kept (checkOf m) (l .words))
+    (kept (checkOf m) (l .bytes)) (c4 .load .ensures .1))
 
 same-length-6 : tie.Need-same-length-6
 same-length-6 c = search needs
@@ -81,7 +81,7 @@ returns-3 c =
     let m = resetOf l Restart in
     rw ((c10 .enum-told3 .given .1))
     (settles m l (c6 .restart .ensures .0) (c6 .restart .ensures .2) (c6 .restart .ensures .3)
-    (kept (m .check) (l .words)) (c6 .restart .ensures .4) (c6 .restart .ensures .1))
+    (kept (checkOf m) (l .words)) (c6 .restart .ensures .4) (c6 .restart .ensures .1))
 
 pub reset-spec : {M : Type 1} → statement M
 reset-spec =

@@ -1,7 +1,7 @@
 -- `step::step` meets its contract: each arm has what its call promises.
 -- Assumes nothing.
 use Rattle.answers.specs.declared.call.Step.the-variants.{Commit, RollBack, Flush}
-use Rattle.calls.specs.Lent.{lent}
+use Rattle.calls.specs.Lent.{lent, checkOf}
 use Rattle.calls.specs.Meaning.{stepOf}
 use Rattle.calls.proofs.Settling.{kept, settles}
 use borrow.Author.Needs.{needs}
@@ -42,8 +42,8 @@ returns c =
     let l = lent (args .table .now) (args .journal .now) (args .words .now) (args .bytes .now) (args .head) in
     let m = stepOf l Commit in
     rw ((c6 .enum-told .given .1))
-    (settles m l (c .before .before .commit .ensures .0) (kept (m .check) (l .table))
-    (c .before .before .commit .ensures .2) (kept (m .check) (l .words)) (kept (m .check) (l .bytes))
+    (settles m l (c .before .before .commit .ensures .0) (kept (checkOf m) (l .table))
+    (c .before .before .commit .ensures .2) (kept (checkOf m) (l .words)) (kept (checkOf m) (l .bytes))
     (c .before .before .commit .ensures .1))
 
 same-length-4 : tie.Need-same-length-4
@@ -59,8 +59,8 @@ returns-2 c =
     let l = lent (args .table .now) (args .journal .now) (args .words .now) (args .bytes .now) (args .head) in
     let m = stepOf l (RollBack ((c6 .call .given .0 .0))) in
     rw ((c6 .call .given .1))
-    (settles m l (c .before .before .roll-back .ensures .0) (kept (m .check) (l .table))
-    (c .before .before .roll-back .ensures .2) (kept (m .check) (l .words)) (kept (m .check) (l .bytes))
+    (settles m l (c .before .before .roll-back .ensures .0) (kept (checkOf m) (l .table))
+    (c .before .before .roll-back .ensures .2) (kept (checkOf m) (l .words)) (kept (checkOf m) (l .bytes))
     (c .before .before .roll-back .ensures .1))
 
 same-length-6 : tie.Need-same-length-6
@@ -77,8 +77,8 @@ returns-3 c =
     let l = lent (args .table .now) (args .journal .now) (args .words .now) (args .bytes .now) (args .head) in
     let m = stepOf l (Flush ((c8 .call2 .given .0 .0))) in
     rw ((c8 .call2 .given .1))
-    (settles m l (c4 .flush .ensures .0) (c4 .flush .ensures .2) (c4 .flush .ensures .3) (kept (m .check) (l .words))
-    (kept (m .check) (l .bytes)) (c4 .flush .ensures .1))
+    (settles m l (c4 .flush .ensures .0) (c4 .flush .ensures .2) (c4 .flush .ensures .3) (kept (checkOf m) (l .words))
+    (kept (checkOf m) (l .bytes)) (c4 .flush .ensures .1))
 
 pub step-spec : {M : Type 1} → statement M
 step-spec =

@@ -2,7 +2,7 @@
 -- Assumes nothing.
 use mathlib.Core.Path.{_∙_, sym}
 use borrow.Author.Tests.{not-true, not-false}
-use Rattle.capi.proofs.Serving.{head-fits, not-asked, was-asked}
+use Rattle.capi.proofs.Serving.{not-asked, was-asked}
 use borrow.Author.Needs.{needs}
 use Rattle.capi.proofs.memory.ask_on.Statement.{statement}
 use Rattle.capi.proofs.memory.ask_on.Tie as tie
@@ -15,15 +15,12 @@ unfit-answer-requires c κs = search needs
 
 returns : tie.Need-returns
 returns c =
-    let args = c .before .before .before .before .before .before .before .before .args in
+    let args = c .before .before .before .before .before .before .before .args in
     not-asked (args .table .now) (args .journal .now) (args .words .now) (args .bytes .now) (args .head .now)
     (args .query) (sym (c .before .before .is-head .ensures) ∙ not-true _ (c .before .if1 .taken)) (c .unfit-answer .ensures)
 
 unpack-requires : tie.Need-unpack-requires
-unpack-requires c κs =
-    let c3 = c .before .before .before in
-    let args = c3 .before .before .before .before .before .before .args in
-    head-fits (args .head .now) (sym (c3 .is-head .ensures) ∙ not-false _ (c .before .before .if1 .left))
+unpack-requires c κs = search needs
 
 ask-requires : tie.Need-ask-requires
 ask-requires c κs = search needs
@@ -40,7 +37,7 @@ returns-2 c =
     let c5 = c4 .before in
     let c8 = c5 .before .before .before in
     let c9 = c8 .before in
-    let args = c9 .before .before .before .before .before .before .args in
+    let args = c9 .before .before .before .before .before .args in
     was-asked (args .table .now) (args .journal .now) (args .words .now) (args .bytes .now) (args .head .now) (args .query)
     (sym (c9 .is-head .ensures) ∙ not-false _ (c8 .if1 .left)) (c5 .unpack .ensures) (c4 .ask .ensures)
 

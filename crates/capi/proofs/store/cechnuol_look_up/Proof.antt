@@ -25,7 +25,7 @@ code-of-requires c κs = search needs
 returns : tie.Need-returns
 returns c =
     let c5 = c .before .before .before .before .before in
-    let args = c5 .before .before .before .before .before .before .args in
+    let args = c5 .before .before .before .before .before .args in
     tells (args .table .now) (args .journal .now) [] [] (args .head .now) (lookUp (args .offer) (args .state)) (args .price .now)
     (c .code-of .ensures) (c .before .value-of .ensures) (c5 .ask-on .ensures)
 

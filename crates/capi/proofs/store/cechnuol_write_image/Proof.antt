@@ -24,11 +24,10 @@ same-length c = search needs
 
 returns : tie.Need-returns
 returns c =
-    let c6 = c .before .before .before .before .before .before in
-    let args = c6 .before .before .before .before .before .before .before .args in (
+    let args = (c .before .before .before .before .before .before .before .before .before .before .before .before .args) in (
       tells (args .table .now) (args .journal .now) [] (args .bytes .now) (args .head .now) WriteImage (args .count .now)
-          (c .code-of .ensures) (c .before .value-of .ensures) (c6 .ask-on .ensures),
-      (c6 .ask-on .ensures .2),
+          (c .code-of .ensures) (c .before .value-of .ensures) (c .before .before .before .before .before .before .ask-on .ensures),
+      (c .before .before .before .before .before .before .ask-on .ensures .2),
     )
 
 pub cechnuol-write-image-spec : {M : Type 1} → statement M

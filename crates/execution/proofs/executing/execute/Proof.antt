@@ -80,7 +80,7 @@ loop-again c =
     let c8 = c3 .before .before .before .before .before in
     let c13 = c8 .before .before .before .before .before in
     iteration-goes (c8 .loop .inv) (c13 .pre .rises) (omega arith) ((c13 .pre .located) (c8 .loop .k) (omega arith))
-    (sym (c3 .effect-of .ensures) ∙ (c .before .w .given .1))
+    (sym (c3 .effect-of .ensures .0) ∙ (c .before .w .given .1))
 
 enum-known-ground : tie.Need-enum-known-ground Inv-loop μ-loop
 enum-known-ground c = search needs
@@ -100,7 +100,7 @@ returns c =
     let c8 = c3 .before .before .before .before .before in
     let c13 = c8 .before .before .before .before .before in
     iteration-fails (c8 .loop .inv) (c13 .pre .rises) (omega arith) ((c13 .pre .located) (c8 .loop .k) (omega arith))
-    (sym (c3 .effect-of .ensures) ∙ (c .before .ground .given .1))
+    (sym (c3 .effect-of .ensures .0) ∙ (c .before .ground .given .1))
 
 same-length-3 : tie.Need-same-length-3 Inv-loop μ-loop
 same-length-3 c = search needs

@@ -11,20 +11,15 @@ is-accepted-requires : tie.Need-is-accepted-requires
 is-accepted-requires c κs = search needs
 
 returns : tie.Need-returns
-returns c = (refl, sym (passed (sym (c .before .is-accepted .ensures) ∙ not-true _ (c .if1 .taken)) _ _))
+returns c = ((refl, refl), sym (passed (sym (c .before .is-accepted .ensures) ∙ not-true _ (c .if1 .taken)) _ _))
 
 pack-requires : tie.Need-pack-requires
 pack-requires c κs = search needs
 
-same-length : tie.Need-same-length
-same-length c = search needs
-
 returns-2 : tie.Need-returns-2
 returns-2 c =
-    let c4 = c .before .before .before .before in
-    let c5 = c4 .before in
-    (refl, (c .before .before .pack .ensures) ∙ sym (chosen (sym (c5 .is-accepted .ensures) ∙ not-false _ (c4 .if1 .left)) _ _))
+    let c3 = c .before .before .before in
+    ((refl, refl), (c .pack .ensures) ∙ sym (chosen (sym (c3 .is-accepted .ensures) ∙ not-false _ (c .before .before .if1 .left)) _ _))
 
 pub put-reply-spec : {M : Type 1} → statement M
-put-reply-spec =
-    tie.close (tie.spec is-accepted-requires returns pack-requires same-length returns-2)
+put-reply-spec = tie.close (tie.spec is-accepted-requires returns pack-requires returns-2)

@@ -25,14 +25,14 @@ returns c =
     let c4 = c3 .before in
     let args = c4 .before .before .args in
     ap (λ f. foundOr f (args .word))
-    (sym (c .before .w .given .1) ∙ (c3 .find .ensures) ∙ ap (λ n. find n (args .changes .now)) (c4 .offer-of .ensures))
+    (sym (c .before .w .given .1) ∙ (c3 .find .ensures .0) ∙ ap (λ n. find n (args .changes .now)) (c4 .offer-of .ensures))
 
 returns-2 : tie.Need-returns-2
 returns-2 c =
     let c3 = c .before .before .before in
     let args = c3 .before .before .args in
     ap (λ f. foundOr f (args .word))
-    (sym (c .enum-told .given .1) ∙ (c .before .before .find .ensures) ∙ ap (λ n. find n (args .changes .now)) (c3 .offer-of .ensures))
+    (sym (c .enum-told .given .1) ∙ (c .before .before .find .ensures .0) ∙ ap (λ n. find n (args .changes .now)) (c3 .offer-of .ensures))
 
 pub changed-spec : {M : Type 1} → statement M
 changed-spec =

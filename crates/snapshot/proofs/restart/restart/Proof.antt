@@ -27,7 +27,7 @@ same-length-2 c = search needs
 
 returns : tie.Need-returns
 returns c =
-    let e = sym (c .before .before .before .write-check .ensures) ∙ (c .before .check .given .1) in
+    let e = sym (c .before .before .before .write-check .ensures .0) ∙ (c .before .check .given .1) in
     (gives-refused e Done, if-refused e _ _, if-refused e _ _, if-refused e _ _, if-refused e _ _)
 
 enum-told : tie.Need-enum-told
@@ -36,21 +36,21 @@ enum-told c = search needs
 slice-reshare-prefix-write : tie.Need-slice-reshare-prefix-write
 slice-reshare-prefix-write c =
     let s = c .before .before .before .before .before .before .before .before in
-    let e = sym (c .before .before .write-check .ensures) ∙ (c .enum-told .given .1) in
+    let e = sym (c .before .before .write-check .ensures .0) ∙ (c .enum-told .given .1) in
     let ok = write-ok (s .args .table .now) (s .args .journal .now) (s .args .head) (length (s .args .bytes .now)) e in
     ok .sound .used-in
 
 slice-aggregate-write : tie.Need-slice-aggregate-write
 slice-aggregate-write c =
     let s = c .before .before .before .before .before .before .before .before .before in
-    let e = sym (c .before .before .before .write-check .ensures) ∙ (c .before .enum-told .given .1) in
+    let e = sym (c .before .before .before .write-check .ensures .0) ∙ (c .before .enum-told .given .1) in
     let ok = write-ok (s .args .table .now) (s .args .journal .now) (s .args .head) (length (s .args .bytes .now)) e in
     sym (used-long ok)
 
 write-requires : tie.Need-write-requires
 write-requires c κs =
     let s = c .before .before .before .before .before .before .before .before .before .before in
-    let e = sym (c .before .before .before .before .write-check .ensures) ∙ (c .before .before .enum-told .given .1) in
+    let e = sym (c .before .before .before .before .write-check .ensures .0) ∙ (c .before .before .enum-told .given .1) in
     let ok = write-ok (s .args .table .now) (s .args .journal .now) (s .args .head) (length (s .args .bytes .now)) e in
     write-room ok
 
@@ -59,7 +59,7 @@ slice-reshare-prefix-fill c =
     let d = c .before .before .before .before .before .before .before .before .before in
     let s = d .before .before .before .before .before .before in
     let write = c .before .before .before .before .write in
-    let e = sym (d .write-check .ensures) ∙ (c .before .before .before .before .before .before .before .enum-told .given .1) in
+    let e = sym (d .write-check .ensures .0) ∙ (c .before .before .before .before .before .before .before .enum-told .given .1) in
     let ok = write-ok (s .args .table .now) (s .args .journal .now) (s .args .head) (length (s .args .bytes .now)) e in
     image-inside ok (s .args .bytes .now) (write .last .1 .1 .0) (write .result) (write .ensures .0) (write .ensures .1)
 
@@ -68,7 +68,7 @@ slice-aggregate-fill c =
     let d = c .before .before .before .before .before .before .before .before .before .before in
     let s = d .before .before .before .before .before .before in
     let write = c .before .before .before .before .before .write in
-    let e = sym (d .write-check .ensures) ∙ (c .before .before .before .before .before .before .before .before .enum-told .given .1) in
+    let e = sym (d .write-check .ensures .0) ∙ (c .before .before .before .before .before .before .before .before .enum-told .given .1) in
     let ok = write-ok (s .args .table .now) (s .args .journal .now) (s .args .head) (length (s .args .bytes .now)) e in
     sym (length-take-le (write .result) (write .last .1 .1 .0)
     (image-inside ok (s .args .bytes .now) (write .last .1 .1 .0) (write .result) (write .ensures .0) (write .ensures .1)))
@@ -78,7 +78,7 @@ fill-requires c κs =
     let d = c .before .before .before .before .before .before .before .before .before .before in
     let s = d .before .before .before .before .before .before in
     let write = c .before .before .before .before .before .write in
-    let e = sym (d .write-check .ensures) ∙ (c .before .before .before .before .before .before .before .before .enum-told .given .1) in
+    let e = sym (d .write-check .ensures .0) ∙ (c .before .before .before .before .before .before .before .before .enum-told .given .1) in
     let ok = write-ok (s .args .table .now) (s .args .journal .now) (s .args .head) (length (s .args .bytes .now)) e in
     load-room ok (s .args .bytes .now) (write .last .1 .1 .0) (write .result) (write .ensures .0) (write .ensures .1) (search needs)
 
@@ -97,7 +97,7 @@ returns-2 c =
     let s = d .before .before .before .before .before .before .before .before in
     let write = c .before .before .before .before .before .before .before .before .before .before .write in
     let fill = c .before .before .before .before .fill in
-    let e = sym (d .before .before .write-check .ensures) ∙ (d .enum-told .given .1) in
+    let e = sym (d .before .before .write-check .ensures .0) ∙ (d .enum-told .given .1) in
     let ok = write-ok (s .args .table .now) (s .args .journal .now) (s .args .head) (length (s .args .bytes .now)) e in
     let part = image-part ok (s .args .bytes .now) (write .last .1 .1 .0) (write .result) (write .ensures .0) (write .ensures .1) in
     let head = (fill .ensures .0) ∙ ap (λ b. freshHead (countIn b) (numberIn b)) part in

@@ -17,7 +17,7 @@ enum-known-check c = search needs
 
 returns : tie.Need-returns
 returns c =
-    let e = sym (c .before .before .before .write-check .ensures) ∙ (c .before .check .given .1) in
+    let e = sym (c .before .before .before .write-check .ensures .0) ∙ (c .before .check .given .1) in
     (gives-refused e _, if-refused e _ _)
 
 enum-told : tie.Need-enum-told
@@ -26,14 +26,14 @@ enum-told c = search needs
 slice-aggregate-write : tie.Need-slice-aggregate-write
 slice-aggregate-write c =
     let s = c .before .before .before .before .before .before .before in
-    let e = sym (c .before .before .before .write-check .ensures) ∙ (c .before .enum-told .given .1) in
+    let e = sym (c .before .before .before .write-check .ensures .0) ∙ (c .before .enum-told .given .1) in
     let ok = write-ok (s .args .table .now) (s .args .journal .now) (s .args .head) (length (s .args .out .now)) e in
     sym (used-long ok)
 
 write-requires : tie.Need-write-requires
 write-requires c κs =
     let s = c .before .before .before .before .before .before .before .before in
-    let e = sym (c .before .before .before .before .write-check .ensures) ∙ (c .before .before .enum-told .given .1) in
+    let e = sym (c .before .before .before .before .write-check .ensures .0) ∙ (c .before .before .enum-told .given .1) in
     let ok = write-ok (s .args .table .now) (s .args .journal .now) (s .args .head) (length (s .args .out .now)) e in
     write-room ok
 
@@ -43,7 +43,7 @@ same-length c = search needs
 returns-2 : tie.Need-returns-2
 returns-2 c =
     let s = c .before .before .before .before .before .before .before .before .before .before .before in
-    let e = sym (c .before .before .before .before .before .before .before .write-check .ensures)
+    let e = sym (c .before .before .before .before .before .before .before .write-check .ensures .0)
     ∙ (c .before .before .before .before .before .enum-told .given .1) in
     let ok = write-ok (s .args .table .now) (s .args .journal .now) (s .args .head) (length (s .args .out .now)) e in
     let size = size-is ok (s .args .out .now) (c .before .before .write .last .1 .1 .0) (c .before .before .write .result)

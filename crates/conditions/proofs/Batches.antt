@@ -1,0 +1,193 @@
+-- Priced batches, proved.
+-- Assumes nothing.
+use mathlib.Core.Path.{_≡_, refl, sym, ap, _∙_}
+use mathlib.Core.Bool.{Bool, true, false, cond, _||_}
+use mathlib.Core.List.{List, [], _∷_}
+use Prim.Native.Nat.{ℕ, _+_, _-_, _^_, _≤_, _<_}
+use native.Mathlib.Omega.{arith}
+use borrow.Author.Tests.{eqb-true, eq-eqb, le-leb, lt-leb, lt-ltb, le-ltb, not-false}
+use lib.Dec.{eqb, ltb, leb}
+use lib.ListN.{length}
+use Rattle.entry.specs.Word.{kindOf, isPut, Put, priceOf, putOf, noneOf}
+use Rattle.changes.specs.declared.search.Found.{Found}
+use Rattle.changes.specs.declared.search.Found.the-variants.{Word, Nothing}
+use Rattle.changes.specs.Calculus.{find, compose}
+use Rattle.changes.specs.Lists.{listB}
+use Rattle.changes.specs.ReadSets.{over}
+use Rattle.changes.proofs.ListTest.{and-both}
+use Rattle.answers.specs.declared.answer.Check.{Check}
+use Rattle.answers.specs.declared.answer.Check.the-variants.{Passed, Refused}
+use Rattle.answers.specs.declared.ground.Ground.{Ground}
+use Rattle.answers.specs.declared.ground.Ground.the-variants.{BadList, NoPrice, PriceRange}
+use Rattle.answers.specs.Numbers.{numberOf}
+use Rattle.answers.proofs.Firsts.{passed-not}
+use Rattle.orders.specs.declared.effects.Effect.{Effect}
+use Rattle.orders.specs.declared.effects.Effect.the-variants.{Change, Fails}
+use Rattle.orders.specs.Orders.{Kind, lists, withdraws, raises, cuts, keeps, unknown, kindNamed, orderKind, orderAmount}
+use Rattle.orders.specs.Orders.{orderOffer, allowedWith, allowedB}
+use Rattle.orders.specs.Effects.{putAt, withPrice, sixteenths, effectBy, effect, lowered}
+use Rattle.execution.specs.Executing.{Executed, done, fails, next, execute, priced}
+use Rattle.execution.specs.Tests.{allB}
+use Rattle.batch.specs.Batches.{checked, fitting, batch}
+use Rattle.batch.proofs.BatchChecks.{batch-stopped, batch-executes, fits, too-short, stop-list, stop-many}
+use Rattle.batch.proofs.Theorems as theorems
+use Rattle.conditions.specs.Grounds.{numbers, once}
+use Rattle.conditions.proofs.Refusals.{number-range}
+use Rattle.conditions.specs.Batches.{kindsFrom, Batches}
+
+-- the grounds by which an order that passed ground 7 can fail
+abbrev nineOrTen : ℕ → Bool
+nineOrTen n = eqb n 9 || eqb n 10
+
+abbrev numberIn : Effect → ℕ
+numberIn (Change w) = 0
+numberIn (Fails ground) = numberOf ground
+
+number-is : (n m : ℕ) → fails n ≡ fails m → n ≡ m
+number-is n m e = cc
+
+abbrev FailsSo : Effect → Type 0
+FailsSo e = (ground : Ground) → e ≡ Fails ground → nineOrTen (numberOf ground) ≡ true
+
+-- a test that fails by one of the two, or goes on
+by-test : (t : Bool) (f : Effect) (g : Ground) → nineOrTen (numberOf g) ≡ true → FailsSo f → FailsSo (cond t f (Fails g))
+by-test true f g n h ground e = h ground e
+by-test false f g n h ground e = ap (λ (x : Effect). nineOrTen (numberIn x)) (sym e) ∙ n
+
+changed : (w : ℕ) → FailsSo (Change w)
+changed w ground e = absurd (let z : _≡_ {A = ℕ} 0 1 = cc in omega arith)
+
+put-fails : (offer price : ℕ) → FailsSo (putAt offer price)
+unfolding putAt
+put-fails offer price = by-test (ltb price (2 ^ 32)) (Change (putOf offer price)) PriceRange refl (changed (putOf offer price))
+
+with-price : (found : Found) (f : ℕ → Effect) → ((price : ℕ) → FailsSo (f price)) → FailsSo (withPrice found f)
+unfolding withPrice
+with-price (Word w) f h = by-test (isPut w) (f (priceOf w)) NoPrice refl (h (priceOf w))
+with-price Nothing f h = by-test false (Fails NoPrice) NoPrice refl (λ ground e. ap (λ (x : Effect). nineOrTen (numberIn x)) (sym e))
+
+by-kind : (named : Kind) (kind amount offer : ℕ) (found : Found) → allowedWith named amount ≡ true
+    → FailsSo (effectBy named kind amount offer found)
+by-kind lists kind amount offer found y = put-fails offer amount
+by-kind withdraws kind amount offer found y = changed (noneOf offer)
+by-kind raises kind amount offer found y =
+    with-price found (λ price. putAt offer (price + amount)) (λ price. put-fails offer (price + amount))
+by-kind cuts kind amount offer found y =
+    with-price found (λ price. cond (leb amount price) (putAt offer (price - amount)) (Fails PriceRange))
+    (λ price. by-test (leb amount price) (putAt offer (price - amount)) PriceRange refl (put-fails offer (price - amount)))
+by-kind keeps kind amount offer found y =
+    with-price found (λ price. putAt offer (sixteenths kind amount price)) (λ price. put-fails offer (sixteenths kind amount price))
+by-kind unknown kind amount offer found y = absurd (let z : _≡_ {A = ℕ} 0 1 = cc in omega arith)
+
+effect-fails : (o : ℕ) (found : Found) → allowedB o ≡ true → FailsSo (effect o found)
+unfolding effect allowedB
+effect-fails o found y = by-kind (kindNamed (orderKind o)) (orderKind o) (orderAmount o) (orderOffer o) found y
+
+-- the first order that fails
+next-fails : (f : Effect) (rest : ℕ → Executed) (n : ℕ) → FailsSo f → ((w : ℕ) → rest w ≡ fails n → nineOrTen n ≡ true)
+    → next f rest ≡ fails n → nineOrTen n ≡ true
+next-fails (Change w) rest n h go e = go w e
+next-fails (Fails ground) rest n h go e = ap nineOrTen (sym (number-is (numberOf ground) n e)) ∙ h ground refl
+
+execute-fails : (see : List ℕ → ℕ → Found) (d os : List ℕ) (n : ℕ) → allB allowedB os ≡ true → execute see d os ≡ fails n
+    → nineOrTen n ≡ true
+unfolding execute allB
+execute-fails see d [] n y e = absurd (let z : _≡_ {A = ℕ} 0 1 = cc in omega arith)
+execute-fails see d (o ∷ os) n y e =
+    let b = and-both (allowedB o) (allB allowedB os) y in
+    next-fails (effect o (see d (orderOffer o))) (λ w. execute see (compose d (w ∷ [])) os) n
+    (effect-fails o (see d (orderOffer o)) (b .0)) (λ w. execute-fails see (compose d (w ∷ [])) os n (b .1)) e
+
+-- over 64 orders are ground 6, whether the read set is a list or not
+over-64 : (reads orders : List ℕ) → 65 ≤ length orders → checked reads orders ≡ Refused BadList
+over-64 reads orders h = go (listB reads) refl
+  where
+    go : (t : Bool) → listB reads ≡ t → checked reads orders ≡ Refused BadList
+    go true e = stop-many reads orders e (omega arith)
+    go false e = stop-list reads orders e
+
+-- a batch that passed has orders of known kinds
+allowed : (reads orders : List ℕ) → checked reads orders ≡ Passed → allB allowedB orders ≡ true
+unfolding checked
+allowed reads orders e =
+    let a = passed-not _ _ _ e in
+    let b = passed-not _ _ _ (a .1) in
+    not-false _ (passed-not _ _ _ (b .1) .0)
+
+put-low : (offer price : ℕ) → price < 2 ^ 32 → putAt offer price ≡ Change (putOf offer price)
+unfolding putAt
+put-low offer price h = rw (lt-ltb price (2 ^ 32) h) refl
+
+put-high : (offer price : ℕ) → 2 ^ 32 ≤ price → putAt offer price ≡ Fails PriceRange
+unfolding putAt
+put-high offer price h = rw (le-ltb price (2 ^ 32) h) refl
+
+cut-low : (offer amount w : ℕ) → Put w → amount ≤ priceOf w → lowered offer amount (Word w) ≡ putAt offer (priceOf w - amount)
+unfolding withPrice
+cut-low offer amount w p h = rw (eq-eqb (kindOf w) 1 p) (rw (le-leb amount (priceOf w) h) refl)
+
+cut-deep : (offer amount w : ℕ) → Put w → priceOf w < amount → lowered offer amount (Word w) ≡ Fails PriceRange
+unfolding withPrice
+cut-deep offer amount w p h = rw (eq-eqb (kindOf w) 1 p) (rw (lt-leb amount (priceOf w) h) refl)
+
+-- the number by which a batch is refused
+low-number : (n : ℕ) → nineOrTen n ≡ true → (1 ≤ n) × (n ≤ 17)
+low-number n e = go (eqb n 9) refl (eqb n 10) refl e
+  where
+    go : (a : Bool) → eqb n 9 ≡ a → (b : Bool) → eqb n 10 ≡ b → a || b ≡ true → (1 ≤ n) × (n ≤ 17)
+    go true i b j e = (omega (arith, eqb-true n 9 i), omega (arith, eqb-true n 9 i))
+    go false i true j e = (omega (arith, eqb-true n 10 j), omega (arith, eqb-true n 10 j))
+    go false i false j e = absurd (let z : _≡_ {A = ℕ} 0 1 = cc in omega arith)
+
+priced-fails : (reads orders : List ℕ) (n : ℕ) → checked reads orders ≡ Passed → priced reads orders ≡ fails n → nineOrTen n ≡ true
+unfolding priced
+priced-fails reads orders n c p = execute-fails (λ d offer. find offer (over reads d)) [] orders n (allowed reads orders c) p
+
+short-fails : (room n : ℕ) (d : List ℕ) → fitting room (done d) ≡ fails n → (1 ≤ n) × (n ≤ 17)
+short-fails room n d = go (leb (length d) room)
+  where
+    go : (t : Bool) → cond t (done d) (fails 17) ≡ fails n → (1 ≤ n) × (n ≤ 17)
+    go true e = absurd (let z : _≡_ {A = ℕ} 0 1 = cc in omega arith)
+    go false e = (omega (arith, number-is 17 n e), omega (arith, number-is 17 n e))
+
+module _ (reads orders : List ℕ) (room n : ℕ) (e : batch reads orders room ≡ fails n) where
+  by-executed : (executed : Executed) → priced reads orders ≡ executed → checked reads orders ≡ Passed → (1 ≤ n) × (n ≤ 17)
+  by-executed (fails k) p c =
+      let same = number-is k n (sym (batch-executes reads orders room c ∙ ap (fitting room) p) ∙ e) in
+      let low = low-number k (priced-fails reads orders k c p) in
+      (omega (arith, same, low .0), omega (arith, same, low .1))
+  by-executed (done d) p c = short-fails room n d (sym (batch-executes reads orders room c ∙ ap (fitting room) p) ∙ e)
+
+  by-check : (c : Check) → checked reads orders ≡ c → (1 ≤ n) × (n ≤ 17)
+  by-check Passed c = by-executed (priced reads orders) refl c
+  by-check (Refused ground) c =
+      let same = number-is (numberOf ground) n (sym (batch-stopped reads orders room c) ∙ e) in
+      let range = number-range ground in
+      (omega (arith, same, range .0), omega (arith, same, range .1))
+
+  pub batch-number : (1 ≤ n) × (n ≤ 17)
+  batch-number = by-check (checked reads orders) refl
+
+pub batches : Batches
+unfolding kindsFrom kindNamed numbers once
+batches = record {
+  kinds = refl;
+  tested-first = λ reads orders. refl;
+  stopped = λ reads orders room ground e. batch-stopped reads orders room e;
+  over-64-orders = λ reads orders room h. batch-stopped reads orders room (over-64 reads orders h);
+  first-that-fails = λ reads orders room n e p. (
+    batch-executes reads orders room e ∙ ap (fitting room) p,
+    priced-fails reads orders n e p,
+  );
+  too-short = λ reads orders d room e p h. batch-executes reads orders room e ∙ ap (fitting room) p ∙ too-short room d h;
+  accepted = λ reads orders d room e p h. batch-executes reads orders room e ∙ ap (fitting room) p ∙ fits room d h;
+  price-in-range = put-low;
+  price-too-high = put-high;
+  cut-in-range = cut-low;
+  cut-too-deep = cut-deep;
+  output-rises = theorems.output-changes;
+  output-named = theorems.output-named;
+  output-on-map = theorems.output-on-map;
+  equation-5 = theorems.equation-5;
+  equation-6 = theorems.equation-6;
+}

@@ -1,0 +1,27 @@
+-- Condition 1, proved.
+-- Assumes nothing.
+use mathlib.Core.Path.{ap, _∙_}
+use Rattle.answers.specs.Answers.{saidBy, groundIn, acceptedB}
+use Rattle.unit.specs.Carried.{lentTo}
+use Rattle.conditions.specs.Condition1.{testsOf, Condition1}
+use Rattle.conditions.proofs.CRefusals.{c-refused, c-accepted, c-number, c-unfit, c-batch-refused, c-batch-accepted}
+use Rattle.conditions.proofs.Ranges.{ranges}
+use Rattle.conditions.proofs.Refusals.{granted, tests-are, by-tests, number-by-tests, answer-is, came, l, m}
+
+pub condition-1 : Condition1
+condition-1 = record {
+  refused-as-it-came = came;
+  accepted-where-none-is-met = λ k a s p.
+      ap acceptedB (answer-is k a s p) ∙ by-tests (m k a s p .accepted) (l k a s p) (testsOf k a) (granted (lentTo k a) (a .call));
+  refused-by-the-first = λ k a s p.
+      ap (λ x. groundIn (saidBy x)) (answer-is k a s p)
+      ∙ number-by-tests (m k a s p .accepted) (l k a s p) (testsOf k a) (granted (lentTo k a) (a .call));
+  tests-are-the-table = λ k a. tests-are (lentTo k a) (a .call);
+  ranges = ranges;
+  c-refused-as-it-came = c-refused;
+  c-accepted-where-none-is-met = c-accepted;
+  c-refused-by-the-first = c-number;
+  c-head-words = c-unfit;
+  c-batch-refused-as-it-came = c-batch-refused;
+  c-batch-accepted = c-batch-accepted;
+}

@@ -1,0 +1,23 @@
+-- Condition 2, proved.
+-- Assumes nothing.
+use Rattle.moments.proofs.Theorem.{moments-follow}
+use Rattle.conditions.specs.Condition2.{Condition2}
+use Rattle.conditions.proofs.Batches.{batches}
+use Rattle.conditions.proofs.AsServed.{as-served}
+use Rattle.conditions.proofs.CLayout.{c-layout}
+use Rattle.conditions.proofs.FlushToAnchor.{flush-to-the-anchor}
+use Rattle.conditions.proofs.Images.{images}
+use Rattle.conditions.proofs.Laws.{laws}
+use Rattle.conditions.proofs.Tallies.{tallies}
+
+pub condition-2 : Condition2
+condition-2 = record {
+  laws = laws;
+  tallies = tallies;
+  batches = batches;
+  images = images;
+  flush-to-the-anchor = flush-to-the-anchor;
+  c-as-served = as-served;
+  c-layout = c-layout;
+  moments = moments-follow;
+}

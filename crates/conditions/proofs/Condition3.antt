@@ -1,0 +1,18 @@
+-- Condition 3, proved.
+-- Assumes nothing.
+use Rattle.conditions.specs.CCalls.{CallOnStoreC, memoryAfter, tellsC, CLoads, lengthsC}
+use Rattle.conditions.specs.Serving.{CallOnStore, handed, tells, lengthsIn, Loads}
+use Rattle.conditions.specs.Condition3.{Condition3}
+use Rattle.conditions.proofs.CRuns.{FollowsC, store-steps-c, loads-c-as-plain, starts-c}
+use Rattle.conditions.proofs.Followed.{answers, alike}
+use Rattle.conditions.proofs.ServeRuns.{Follows, store-steps, loads-as-plain, starts}
+
+pub condition-3 : Condition3
+condition-3 = record {
+  serve-loads-as-plain = loads-as-plain;
+  c-loads-as-plain = loads-c-as-plain;
+  serve-answers-as-plain = answers CallOnStore handed tells Loads lengthsIn Follows store-steps starts;
+  serve-quotes-alike = alike CallOnStore handed tells Loads lengthsIn Follows store-steps starts;
+  c-answers-as-plain = answers CallOnStoreC memoryAfter tellsC CLoads lengthsC FollowsC store-steps-c starts-c;
+  c-quotes-alike = alike CallOnStoreC memoryAfter tellsC CLoads lengthsC FollowsC store-steps-c starts-c;
+}

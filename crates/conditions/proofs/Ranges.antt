@@ -1,0 +1,116 @@
+-- The ends of the ranges, proved.
+-- Assumes nothing.
+use mathlib.Core.Path.{_≡_, refl, _∙_}
+use mathlib.Core.Bool.{Bool, true, false}
+use mathlib.Core.List.{List}
+use Prim.Native.Nat.{ℕ, _-_, _^_, _≤_, _<_}
+use native.Mathlib.Omega.{arith}
+use borrow.Author.Tests.{leb-true, le-leb, lt-leb, lt-ltb, le-ltb, ne-eqb, eq-eqb}
+use lib.Dec.{leb, ltb}
+use lib.ListN.{length}
+use Rattle.changes.specs.Lists.{risingB, listB}
+use Rattle.changes.proofs.Laws.{changes-test}
+use Rattle.changes.proofs.ListTest.{and-both}
+use Rattle.answers.specs.declared.call.Reader.{Reader}
+use Rattle.layout.specs.declared.head.Head.{Head}
+use Rattle.layout.specs.Clauses.{lengthsB, numbersB}
+use Rattle.layout.proofs.HeadTests.{numbers-facts, facts-numbers, lengths-facts}
+use Rattle.layout.proofs.Holds.{first-holds, all-none}
+use Rattle.layout.specs.States.{heldOf}
+use Rattle.commits.specs.Commit.{stepGrounds}
+use Rattle.lookups.specs.LookUp.{offerGrounds}
+use Rattle.slots.specs.Slots.{slotGrounds}
+use Rattle.soundness.specs.Checks.{stateGrounds}
+use Rattle.conditions.specs.Grounds.{firstNumber}
+use Rattle.conditions.specs.Ranges.{Ranges}
+
+is-false : (b : Bool) → (b ≡ true → ⊥) → b ≡ false
+is-false true h = absurd (h refl)
+is-false false h = refl
+
+in-lengths : (table journal : ℕ) → 1 ≤ table → table ≤ 8000 → 1 ≤ journal → journal ≤ 4096 → lengthsB table journal ≡ true
+in-lengths table journal a b c d =
+    first-holds _ _ (le-leb 1 table a)
+    ∙ first-holds _ _ (le-leb table 8000 b)
+    ∙ first-holds _ _ (le-leb 1 journal c)
+    ∙ first-holds _ _ (le-leb journal 4096 d)
+    ∙ all-none
+
+long-list : (l : List ℕ) → 65 ≤ length l → listB l ≡ false
+long-list l h = is-false (listB l) (λ e. omega (arith, leb-true (length l) 64 (and-both (leb (length l) 64) (risingB 0 l) e .0)))
+
+module _ (reader : Reader) where
+  slot-low : reader .slot ≤ 7 → firstNumber (slotGrounds reader) ≡ 0
+  unfolding firstNumber
+  slot-low h = rw (lt-leb 8 (reader .slot) (omega arith)) refl
+
+  slot-high : 8 ≤ reader .slot → firstNumber (slotGrounds reader) ≡ 3
+  unfolding firstNumber
+  slot-high h = rw (le-leb 8 (reader .slot) h) refl
+
+module _ (head : Head) (state : ℕ) where
+  state-in : head .checkpoint ≤ state → state ≤ head .tip → firstNumber (stateGrounds head state) ≡ 0
+  unfolding firstNumber
+  state-in h i = rw (le-ltb state (head .checkpoint) h) (rw (le-ltb (head .tip) state i) refl)
+
+  state-low : state < head .checkpoint → firstNumber (stateGrounds head state) ≡ 11
+  unfolding firstNumber
+  state-low h = rw (lt-ltb state (head .checkpoint) h) refl
+
+  state-high : head .tip < state → firstNumber (stateGrounds head state) ≡ 11
+  unfolding firstNumber
+  state-high h = go (ltb state (head .checkpoint)) refl
+    where
+      go : (t : Bool) → ltb state (head .checkpoint) ≡ t → firstNumber (stateGrounds head state) ≡ 11
+      go true e = rw e refl
+      go false e = rw e (rw (lt-ltb (head .tip) state h) refl)
+
+module _ (head : Head) where
+  steps-few : heldOf head ≤ 63 → head .tip < 2 ^ 32 - 1 → firstNumber (stepGrounds head) ≡ 0
+  unfolding firstNumber
+  steps-few h i =
+      rw (ne-eqb (head .tip) 4294967295 (λ e. omega (arith, i, e))) (rw (ne-eqb (heldOf head) 64 (λ e. omega (arith, h, e))) refl)
+
+  steps-full : heldOf head ≡ 64 → head .tip < 2 ^ 32 - 1 → firstNumber (stepGrounds head) ≡ 13
+  unfolding firstNumber
+  steps-full h i = rw (ne-eqb (head .tip) 4294967295 (λ e. omega (arith, i, e))) (rw (eq-eqb (heldOf head) 64 h) refl)
+
+  tip-last : head .tip ≡ 2 ^ 32 - 1 → firstNumber (stepGrounds head) ≡ 12
+  unfolding firstNumber
+  tip-last h = rw (eq-eqb (head .tip) 4294967295 h) refl
+
+module _ (offer : ℕ) where
+  offer-low : offer < 2 ^ 31 → firstNumber (offerGrounds offer) ≡ 0
+  unfolding firstNumber
+  offer-low h = rw (lt-leb (2 ^ 31) offer h) refl
+
+  offer-high : 2 ^ 31 ≤ offer → firstNumber (offerGrounds offer) ≡ 6
+  unfolding firstNumber
+  offer-high h = rw (le-leb (2 ^ 31) offer h) refl
+
+pub ranges : Ranges
+ranges = record {
+  lengths-in-range = in-lengths;
+  no-table = λ journal. is-false (lengthsB 0 journal) (λ e. omega (arith, lengths-facts 0 journal e .table-some));
+  table-too-long = λ table journal h. is-false (lengthsB table journal) (λ e. omega (arith, h, lengths-facts table journal e .table-most));
+  no-journal = λ table. is-false (lengthsB table 0) (λ e. omega (arith, lengths-facts table 0 e .journal-some));
+  journal-too-long = λ table journal h.
+      is-false (lengthsB table journal) (λ e. omega (arith, h, lengths-facts table journal e .journal-most));
+  list-in-range = λ l c h. rw (le-leb (length l) 64 h) (changes-test l c);
+  list-too-long = long-list;
+  steps-in-range = λ f a t h i j. facts-numbers f a t h i (omega (arith, j));
+  too-many-steps = λ f a t h. is-false (numbersB f a t) (λ e. omega (arith, h, numbers-facts f a t e .2));
+  floor-too-high = λ f a t h. is-false (numbersB f a t) (λ e. omega (arith, h, numbers-facts f a t e .0));
+  anchor-too-high = λ f a t h. is-false (numbersB f a t) (λ e. omega (arith, h, numbers-facts f a t e .1));
+  step-left = steps-few;
+  no-step-left = steps-full;
+  last-state = tip-last;
+  slot-in-range = slot-low;
+  slot-too-high = slot-high;
+  state-in-range = state-in;
+  state-too-low = state-low;
+  state-too-high = state-high;
+  offer-in-range = offer-low;
+  offer-too-high = offer-high;
+  largest-count = refl;
+}

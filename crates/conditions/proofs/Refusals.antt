@@ -1,0 +1,144 @@
+-- A call by its grounds: where one is met it gives the number of the first and leaves all as it came, and where none is it is accepted.
+-- Assumes nothing.
+use mathlib.Core.Path.{_≡_, refl, sym, ap, _∙_}
+use mathlib.Core.Bool.{Bool, true, false}
+use mathlib.Core.List.{List, [], _∷_}
+use Prim.Native.Nat.{ℕ, _≤_}
+use native.Mathlib.Omega.{arith}
+use Rattle.answers.specs.declared.answer.Answer.{Answer}
+use Rattle.answers.specs.declared.answer.Answer.the-variants.{Done, Price, NoPrice, Count, Refused as Away}
+use Rattle.answers.specs.declared.answer.Check.{Check}
+use Rattle.answers.specs.declared.answer.Check.the-variants.{Passed, Refused}
+use Rattle.answers.specs.declared.call.Call.{Call}
+use Rattle.answers.specs.declared.call.Call.the-variants.{Reset, Step, Read, Ask}
+use Rattle.answers.specs.declared.call.Query.the-variants.{LookUp, WriteImage}
+use Rattle.answers.specs.declared.call.Read.the-variants.{Issue, Forward, Release}
+use Rattle.answers.specs.declared.call.Reset.the-variants.{Clear, Load, Restart}
+use Rattle.answers.specs.declared.call.Step.the-variants.{Commit, RollBack, Flush}
+use Rattle.answers.specs.declared.ground.Ground.{Ground}
+use Rattle.answers.specs.declared.ground.Ground.the-variants.{Lengths, Unsound, SlotRange, SlotTaken, SlotClosed, BadList}
+use Rattle.answers.specs.declared.ground.Ground.the-variants.{BadOrder, OfferNotRead, NoPrice as PriceMissing, PriceRange, StateRange}
+use Rattle.answers.specs.declared.ground.Ground.the-variants.{LastState, StepsFull, JournalFull, BadImage, TableFull, OutputShort}
+use Rattle.answers.specs.Answers.{saidBy, groundIn, acceptedB, answered}
+use Rattle.answers.specs.First.{Test, met, first}
+use Rattle.answers.specs.Numbers.{numberOf}
+use Rattle.calls.specs.Lent.{Lent, Left, Meaning, settledBy}
+use Rattle.calls.specs.Meaning.{meaning, performed}
+use Rattle.changes.specs.declared.search.Found.{Found}
+use Rattle.changes.specs.declared.search.Found.the-variants.{Word, Nothing}
+use Rattle.changes.specs.Calculus.{find}
+use Rattle.layout.specs.States.{mapHere}
+use Rattle.lookups.specs.LookUp.{quoteOf}
+use Rattle.unit.specs.Carried.{Carried, Asked, lentTo}
+use Rattle.unit.proofs.Theorems.{refused-keeps}
+use Rattle.conditions.specs.Grounds.{groundsOf, numbers, once, firstNumber, noneMet}
+use Rattle.conditions.specs.Serving.{Seen, CallOfServe, Untouched}
+use Rattle.conditions.specs.Condition1.{OneNumber}
+
+-- the numbers of the grounds are 1 to 17
+pub number-range : (ground : Ground) → (1 ≤ numberOf ground) × (numberOf ground ≤ 17)
+number-range Lengths = (omega arith, omega arith)
+number-range Unsound = (omega arith, omega arith)
+number-range SlotRange = (omega arith, omega arith)
+number-range SlotTaken = (omega arith, omega arith)
+number-range SlotClosed = (omega arith, omega arith)
+number-range BadList = (omega arith, omega arith)
+number-range BadOrder = (omega arith, omega arith)
+number-range OfferNotRead = (omega arith, omega arith)
+number-range PriceMissing = (omega arith, omega arith)
+number-range PriceRange = (omega arith, omega arith)
+number-range StateRange = (omega arith, omega arith)
+number-range LastState = (omega arith, omega arith)
+number-range StepsFull = (omega arith, omega arith)
+number-range JournalFull = (omega arith, omega arith)
+number-range BadImage = (omega arith, omega arith)
+number-range TableFull = (omega arith, omega arith)
+number-range OutputShort = (omega arith, omega arith)
+
+one-number : (answer : Answer) → acceptedB answer ≡ false → OneNumber (saidBy answer)
+one-number Done e = absurd (let z : _≡_ {A = ℕ} 0 1 = cc in omega arith)
+one-number (Price p) e = absurd (let z : _≡_ {A = ℕ} 0 1 = cc in omega arith)
+one-number NoPrice e = absurd (let z : _≡_ {A = ℕ} 0 1 = cc in omega arith)
+one-number (Count n) e = absurd (let z : _≡_ {A = ℕ} 0 1 = cc in omega arith)
+one-number (Away ground) e = record { alone = refl; least = number-range ground .0; most = number-range ground .1 }
+
+quote-granted : (found : Found) → acceptedB (quoteOf found) ≡ true
+quote-granted (Word w) = refl
+quote-granted Nothing = refl
+
+-- each call: where it is accepted it answers what is no refusal, and its tests are those of the table
+by-table : (l : Lent) (call : Call)
+    → (acceptedB (meaning l call .accepted .answer) ≡ true) × (once (numbers (meaning l call .grounds)) ≡ groundsOf call)
+unfolding once numbers
+by-table l (Reset Clear) = (refl, refl)
+by-table l (Reset Load) = (refl, refl)
+by-table l (Reset Restart) = (refl, refl)
+by-table l (Step Commit) = (refl, refl)
+by-table l (Step (RollBack state)) = (refl, refl)
+by-table l (Step (Flush state)) = (refl, refl)
+by-table l (Read (Issue reader)) = (refl, refl)
+by-table l (Read (Forward reader state)) = (refl, refl)
+by-table l (Read (Release reader)) = (refl, refl)
+by-table l (Ask (LookUp asked)) =
+    (quote-granted (find (asked .offer) (mapHere (l .table) (l .journal) (l .head) (asked .state))), refl)
+by-table l (Ask WriteImage) = (refl, refl)
+
+pub granted : (l : Lent) (call : Call) → acceptedB (meaning l call .accepted .answer) ≡ true
+granted l call = by-table l call .0
+
+pub tests-are : (l : Lent) (call : Call) → once (numbers (meaning l call .grounds)) ≡ groundsOf call
+tests-are l call = by-table l call .1
+
+-- a call by its tests
+module _ (made : Left) (l : Lent) where
+  pub left-as-came : (c : Check) → acceptedB (made .answer) ≡ true → acceptedB (answered c (made .answer)) ≡ false
+      → settledBy c made l .lent ≡ l
+  left-as-came Passed y n = absurd (let z : _≡_ {A = Bool} true false = sym y ∙ n in let z : _≡_ {A = ℕ} 0 1 = cc in omega arith)
+  left-as-came (Refused ground) y n = refl
+
+  pub by-tests : (gs : List Test) → acceptedB (made .answer) ≡ true → acceptedB (answered (first gs) (made .answer)) ≡ noneMet gs
+  unfolding first noneMet
+  by-tests [] y = y
+  by-tests (met true ground ∷ gs) y = refl
+  by-tests (met false ground ∷ gs) y = by-tests gs y
+
+  no-number : (answer : Answer) → acceptedB answer ≡ true → groundIn (saidBy answer) ≡ 0
+  no-number Done y = refl
+  no-number (Price p) y = refl
+  no-number NoPrice y = refl
+  no-number (Count n) y = refl
+  no-number (Away ground) y = absurd (let z : _≡_ {A = ℕ} 0 1 = cc in omega arith)
+
+  pub number-by-tests : (gs : List Test) → acceptedB (made .answer) ≡ true
+      → groundIn (saidBy (answered (first gs) (made .answer))) ≡ firstNumber gs
+  unfolding first firstNumber
+  number-by-tests [] y = no-number (made .answer) y
+  number-by-tests (met true ground ∷ gs) y = refl
+  number-by-tests (met false ground ∷ gs) y = number-by-tests gs y
+
+module _ (k : Carried) (a : Asked) (s : Seen) (serves : CallOfServe k a s) where
+  abbrev pub l : Lent
+  l = lentTo k a
+
+  abbrev pub m : Meaning
+  m = meaning l (a .call)
+
+  pub answer-is : s .reply .answer ≡ performed l (a .call) .answer
+  answer-is = ap (λ r. r .answer) (serves .0 .0)
+
+  pub came : acceptedB (s .reply .answer) ≡ false → OneNumber (saidBy (s .reply .answer)) × Untouched k a s
+  came n =
+      let not-granted = sym (ap acceptedB answer-is) ∙ n in
+      let same = left-as-came (m .accepted) l (first (m .grounds)) (granted l (a .call)) not-granted in
+      let tally = serves .1 ∙ refused-keeps (k .tally) (k .head .checkpoint) (k .head .tip) (a .call)
+      (performed l (a .call) .answer) not-granted in
+      let table = serves .2 ∙ ap (λ (x : Lent). x .table) same in
+      let journal = serves .3 ∙ ap (λ (x : Lent). x .journal) same in
+      let head = ap (λ r. r .head) (serves .0 .0) ∙ ap (λ (x : Lent). x .head) same in (
+        one-number (s .reply .answer) n,
+        (
+          (λ i. record { tally = tally i; table = table i; journal = journal i; head = head i }),
+          serves .4 ∙ ap (λ (x : Lent). x .words) same,
+          serves .5 ∙ ap (λ (x : Lent). x .bytes) same,
+        ),
+      )

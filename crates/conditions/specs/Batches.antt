@@ -1,0 +1,68 @@
+-- Priced batches, of condition 2: the kinds of orders, the grounds that concern a batch in their order, and equations 5 and 6 of document
+-- 000: "Applied to any map that agrees with the read set on its offers, it gives what running the orders on that map gives".
+-- Assumes nothing.
+use mathlib.Core.Path.{_≡_}
+use mathlib.Core.Bool.{true, _||_}
+use mathlib.Core.List.{List, [], _∷_, _++_}
+use Prim.Native.Nat.{ℕ, zero, suc, _+_, _-_, _^_, _≤_, _<_}
+use lib.Dec.{eqb}
+use lib.ListN.{length, replicate}
+use Rattle.entry.specs.Word.{priceOf, putOf, Put}
+use Rattle.changes.specs.declared.search.Found.the-variants.{Word}
+use Rattle.changes.specs.Calculus.{find, apply}
+use Rattle.changes.specs.Lists.{Changes, Map}
+use Rattle.answers.specs.declared.answer.Check.the-variants.{Passed, Refused}
+use Rattle.answers.specs.declared.ground.Ground.{Ground}
+use Rattle.answers.specs.declared.ground.Ground.the-variants.{PriceRange}
+use Rattle.answers.specs.Numbers.{numberOf}
+use Rattle.orders.specs.declared.effects.Effect.the-variants.{Change, Fails}
+use Rattle.orders.specs.Orders.{Kind, lists, withdraws, raises, cuts, keeps, unknown, kindNamed}
+use Rattle.orders.specs.Effects.{putAt, lowered}
+use Rattle.execution.specs.Tests.{foundB, readB, allB}
+use Rattle.execution.specs.Executing.{done, fails, priced}
+use Rattle.batch.specs.Batches.{batchGrounds, checked, batch}
+use Rattle.batch.specs.OnMaps.{difference, executeOnMap, onDone, Agrees, namedB}
+use Rattle.conditions.specs.Grounds.{ofBatch, numbers, once}
+
+-- "0 lists at the amount; 1 withdraws, amount 0; 2 raises by the amount; 3 cuts by it; kinds 16 to 31 keep so many sixteenths", "All
+-- other kinds are unknown": the kinds from 0 to 255
+abbrev pub kindTable : List Kind
+kindTable = (lists ∷ withdraws ∷ raises ∷ cuts ∷ []) ++ replicate 12 unknown ++ replicate 16 keeps ++ replicate 224 unknown
+
+-- the kinds from a number on, so many of them
+unfoldable pub kindsFrom : ℕ → ℕ → List Kind
+kindsFrom kind zero = []
+kindsFrom kind (suc n) = kindNamed kind ∷ kindsFrom (kind + 1) n
+
+pub record Batches : Type 0 where
+  pub kinds : kindsFrom 0 256 ≡ kindTable
+  -- grounds 6, 7 and 8 come first, over all orders,
+  pub tested-first : (reads orders : List ℕ) → once (numbers (batchGrounds reads orders)) ≡ ofBatch
+  pub stopped : (reads orders : List ℕ) (room : ℕ) (ground : Ground) → checked reads orders ≡ Refused ground
+      → batch reads orders room ≡ fails (numberOf ground)
+  pub over-64-orders : (reads orders : List ℕ) (room : ℕ) → 65 ≤ length orders → batch reads orders room ≡ fails 6
+  -- then 9 or 10, of the first order that fails,
+  pub first-that-fails : (reads orders : List ℕ) (room n : ℕ) → checked reads orders ≡ Passed → priced reads orders ≡ fails n
+      → (batch reads orders room ≡ fails n) × (eqb n 9 || eqb n 10 ≡ true)
+  -- and then 17
+  pub too-short : (reads orders d : List ℕ) (room : ℕ) → checked reads orders ≡ Passed → priced reads orders ≡ done d
+      → room < length d → batch reads orders room ≡ fails 17
+  pub accepted : (reads orders d : List ℕ) (room : ℕ) → checked reads orders ≡ Passed → priced reads orders ≡ done d
+      → length d ≤ room → batch reads orders room ≡ done d
+  -- "takes a price below 0 or above 2^32 − 1"
+  pub price-in-range : (offer price : ℕ) → price < 2 ^ 32 → putAt offer price ≡ Change (putOf offer price)
+  pub price-too-high : (offer price : ℕ) → 2 ^ 32 ≤ price → putAt offer price ≡ Fails PriceRange
+  pub cut-in-range : (offer amount w : ℕ) → Put w → amount ≤ priceOf w → lowered offer amount (Word w) ≡ putAt offer (priceOf w - amount)
+  pub cut-too-deep : (offer amount w : ℕ) → Put w → priceOf w < amount → lowered offer amount (Word w) ≡ Fails PriceRange
+  -- "The output is one word per offer named, rising, with its final price or removal"
+  pub output-rises : (reads orders d : List ℕ) (room : ℕ) → batch reads orders room ≡ done d → Changes d
+  pub output-named : (reads orders d : List ℕ) (room : ℕ) → batch reads orders room ≡ done d
+      → (offer : ℕ) → foundB (find offer d) ≡ namedB offer orders
+  -- "Applied to any map that agrees with the read set on its offers, it gives what running the orders on that map gives"
+  pub output-on-map : (reads orders d : List ℕ) (room : ℕ) → batch reads orders room ≡ done d
+      → (m : List ℕ) → Map m → Agrees m reads → executeOnMap m orders ≡ done (apply m d)
+  -- equation 5: the changes that the orders come to on a map, applied to it, give what executing the orders on it gives
+  pub equation-5 : (m orders : List ℕ) → Map m → onDone (apply m) (difference m orders) ≡ executeOnMap m orders
+  -- equation 6: on a read set that the map agrees with, and that has the offer of every order, the orders come to the same
+  pub equation-6 : (m reads orders : List ℕ) → Map m → Agrees m reads → allB (readB reads) orders ≡ true
+      → priced reads orders ≡ difference m orders

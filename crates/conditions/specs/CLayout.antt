@@ -1,0 +1,29 @@
+-- What a C program reads by position: the words of a head and of a tally, and the codes (include/cechnuol.h).
+-- Assumes nothing.
+use mathlib.Core.Path.{_≡_}
+use mathlib.Core.List.{[], _∷_, map}
+use Prim.Native.Nat.{ℕ}
+use lib.ListN.{length, getD}
+use Rattle.answers.specs.declared.tally.Tally.{Tally}
+use Rattle.answers.specs.Answers.{accepted, refused, without}
+use Rattle.layout.specs.declared.head.Head.{Head}
+use Rattle.head_words.specs.HeadWords.{wordsOf, wordOf, from, Fits}
+use Rattle.lent.specs.Codes.{codeOf}
+use Rattle.lent.specs.Lent.{tallyWords}
+
+pub record CLayout : Type 0 where
+  -- the head: numbers in words 0 to 3, eight flags from 4 on, eight numbers from 12 on, 64 marks from 20 on
+  pub used : (head : Head) → getD (wordsOf head) 0 0 ≡ head .used
+  pub oldest : (head : Head) → getD (wordsOf head) 1 0 ≡ head .oldest
+  pub checkpoint : (head : Head) → getD (wordsOf head) 2 0 ≡ head .checkpoint
+  pub tip : (head : Head) → getD (wordsOf head) 3 0 ≡ head .tip
+  pub taken : (head : Head) → Fits head → from 4 8 (wordsOf head) ≡ map wordOf (head .taken)
+  pub issued : (head : Head) → Fits head → from 12 8 (wordsOf head) ≡ head .issued
+  pub ends : (head : Head) → Fits head → from 20 64 (wordsOf head) ≡ head .ends
+  pub size : (head : Head) → Fits head → length (wordsOf head) ≡ 84
+  -- the tally
+  pub tally : (t : Tally) → tallyWords t ≡ t .committed ∷ t .«rolled_back» ∷ t .flushed ∷ []
+  -- the codes
+  pub code-accepted : (n : ℕ) → codeOf (accepted n) ≡ 0
+  pub code-refused : (n : ℕ) → codeOf (refused n) ≡ n
+  pub code-no-price : codeOf without ≡ 100

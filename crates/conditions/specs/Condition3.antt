@@ -1,0 +1,64 @@
+-- Condition 3, in the words of the request: "Take any two lists of these calls (lookup, commit, rollback, flush, issue, forward, drop,
+-- image writing; refused ones included), each run on its own store, both just loaded from the same image. Let every call get store
+-- memory and head as the load or last call left them, nobody else writing them, and each forward on an open place the read set that the
+-- place's last accepted issue filled, unaltered. Then in each store each call is accepted exactly when the plain list of whole price
+-- maps in document 01, fed that store's load, calls and lengths, accepts it, and else refused by the same number; each issued read set
+-- and written image is as document 01 defines it; each lookup's price or none and each forwarded read is that list's, which grows at a
+-- commit, is cut at a rollback and keeps its maps at a flush. And where both stores accept the same calls in the same order, flushes
+-- apart, their lookups' prices and forwarded reads are equal, one by one."
+--
+-- A run (Runs.antt) is of calls that keep the promise of the function that is called. The plain list (history/specs/Plain.antt) is given
+-- the lengths, the image and the calls' arguments, except a forward's read set, and nothing of the unit's memory or head.
+-- Assumes nothing.
+use mathlib.Core.Path.{_≡_}
+use mathlib.Core.List.{List}
+use Prim.Native.Nat.{ℕ}
+use lib.ListN.{length}
+use mathlib.Core.Bool.{true}
+use Rattle.answers.specs.Answers.{saidBy}
+use Rattle.layout.specs.Clauses.{lengthsB}
+use Rattle.lent.specs.Codes.{codeOf}
+use Rattle.views.specs.View.{Limits}
+use Rattle.unit.specs.Carried.{Carried, Asked}
+use Rattle.history.specs.Named.{Named, Response, acceptedCalls, quotes}
+use Rattle.history.specs.Plain.{loadChecked, loadedPlain}
+use Rattle.history.specs.Traces.{Asked as AskedIn3, plainResponses}
+use Rattle.conditions.specs.CCalls.{Memory, Result, CallOfC, CallOnStoreC, memoryAfter, tellsC, CLoads, lengthsC}
+use Rattle.conditions.specs.Runs.{Turn, Run3, responsesIn, callsIn}
+use Rattle.conditions.specs.Serving.{Seen, CallOfServe, CallOnStore, handed, tells, lengthsIn, loading, saidOf, Loads}
+
+-- Of what is called: a call that keeps its promise, what it leaves for the next, its response, an accepted load, and the lengths lent.
+module _ {M S : Type 0} (Does : M → Asked → S → Type 0) (left : S → M) (tells : Named → S → Response)
+    (Loads : M → List ℕ → S → Type 0) (lengths : M → Limits) where
+  -- "Then in each store each call is accepted exactly when the plain list .. accepts it, and else refused by the same number", with
+  -- each read set, image, price and forwarded read
+  abbrev pub AnswersAsPlain : Type 0
+  AnswersAsPlain =
+      (m : M) (image : List ℕ) (load : S) (turns : List (Turn AskedIn3 S))
+      → Loads m image load → Run3 Does left tells (left load) turns
+      → responsesIn tells turns ≡ plainResponses (loadedPlain (lengths m) image) (callsIn turns)
+
+  -- "where both stores accept the same calls in the same order, flushes apart, their lookups' prices and forwarded reads are equal, one
+  -- by one"
+  abbrev pub QuotesAlike : Type 0
+  QuotesAlike =
+      (m₁ m₂ : M) (image : List ℕ) (load₁ load₂ : S) (turns₁ turns₂ : List (Turn AskedIn3 S))
+      → Loads m₁ image load₁ → Run3 Does left tells (left load₁) turns₁
+      → Loads m₂ image load₂ → Run3 Does left tells (left load₂) turns₂
+      → acceptedCalls (callsIn turns₁) (responsesIn tells turns₁) ≡ acceptedCalls (callsIn turns₂) (responsesIn tells turns₂)
+      → quotes (responsesIn tells turns₁) ≡ quotes (responsesIn tells turns₂)
+
+pub record Condition3 : Type 0 where
+  -- a load into memory of lengths in range is accepted exactly when the plain list accepts it, and else refused by the same number
+  pub serve-loads-as-plain : (k : Carried) (words image : List ℕ) (s : Seen)
+      → lengthsB (length (k .table)) (length (k .journal)) ≡ true → CallOfServe k (loading words image) s
+      → saidBy (s .reply .answer) ≡ saidOf (loadChecked (lengthsIn k) image)
+  pub c-loads-as-plain : (m : Memory) (words image : List ℕ) (r : Result)
+      → lengthsB (length (m .table)) (length (m .journal)) ≡ true → CallOfC m (loading words image) r
+      → r .code ≡ codeOf (saidOf (loadChecked (lengthsC m) image))
+  -- over runs of `serve`
+  pub serve-answers-as-plain : AnswersAsPlain CallOnStore handed tells Loads lengthsIn
+  pub serve-quotes-alike : QuotesAlike CallOnStore handed tells Loads lengthsIn
+  -- over runs of the C functions
+  pub c-answers-as-plain : AnswersAsPlain CallOnStoreC memoryAfter tellsC CLoads lengthsC
+  pub c-quotes-alike : QuotesAlike CallOnStoreC memoryAfter tellsC CLoads lengthsC

@@ -1,0 +1,13 @@
+pub mod Grounds
+pub mod Ranges
+pub mod Runs
+pub mod Serving
+pub mod CCalls
+pub mod CLayout
+pub mod Laws
+pub mod Images
+pub mod Batches
+pub mod Tallies
+pub mod Condition1
+pub mod Condition2
+pub mod Condition3
