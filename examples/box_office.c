@@ -1,127 +1,173 @@
-/* Two of document 01's moments from C: a read that starts before the state that it serves (5), and a flush into a table
- * of one word (12). Then every call on no table and no journal, and head and tally of any words. It stops with status 1 at an answer that is not the expected
- * one. */
-#include "cechnuol.h"
+/* A box office quotes the seats of one evening with the price unit: a program to read first, in C99 and C++17.
+ *
+ *     cc -std=c99 box_office.c $(pkg-config --cflags --libs cechnuol) -o box_office
+ *
+ * It says in words what happens, and checks it. Status 0: all is as it says; 1: something is not; 2: the output cannot
+ * be written, or the arguments are wrong. */
+#include <cechnuol.h>
 
 #include <inttypes.h>
 #include <stdio.h>
 #include <stdlib.h>
 #include <string.h>
 
-/* A store with all that it is lent. */
-struct store {
-    uint64_t table[4];
-    size_t table_words;
-    uint64_t journal[16];
-    uint64_t head[CECHNUOL_HEAD_WORDS];
-    uint64_t tally[CECHNUOL_TALLY_WORDS];
-};
+/* The seats on offer, by their offer numbers. */
+enum { STALLS = 5, CIRCLE = 9, BOX = 12 };
 
-/* What a query is lent, and what every other call on a store is lent: the tally too. */
-#define TO_READ(s) (s)->table, (s)->table_words, (s)->journal, 16, (s)->head
-#define LENT(s) TO_READ(s), (s)->tally
-/* The same with no word of table and journal. */
-#define NOTHING_TO_READ(s) NULL, 0, NULL, 0, (s)->head
-#define NOTHING(s) NOTHING_TO_READ(s), (s)->tally
+/* Memory for the store, which must outlive it: room for 100 seats, and for 200 changes that are not flushed. */
+static uint64_t table[100], journal[200];
+static struct cechnuol_store store = {table, 100, journal, 200, {0}, {0}};
 
-static void expect(uint64_t got, uint64_t want, const char *what)
+/* Stops the program where a call is not accepted. A server would look at the answer and do what the header advises. */
+static void must(uint64_t answer, const char *what)
 {
-    if (got == want) {
-        printf("  %s: %" PRIu64 "\n", what, got);
+    if (answer == CECHNUOL_OK)
         return;
-    }
-    printf("  %s: %" PRIu64 ", expected %" PRIu64 "\n", what, got, want);
+    fprintf(stderr, "box_office: %s is refused by %s: %s.\n", what, cechnuol_name(answer), cechnuol_text(answer));
     exit(1);
 }
 
-/* A store whose table holds offer 5 at 1200 as state 0. */
-static void open_with_5_at_1200(struct store *s)
+/* Stops the program where a number is not the one that was said. */
+static void expect(uint64_t got, uint64_t want, const char *what)
 {
-    uint8_t image[14] = {0, 0, 0, 0, 0, 1, 0x80, 0, 0, 5, 0, 0, 0x04, 0xB0};
-    expect(cechnuol_load(LENT(s), image, sizeof image), CECHNUOL_OK, "load 5 at 1200");
+    if (got == want)
+        return;
+    fprintf(stderr, "box_office: %s is %" PRIu64 ", and not %" PRIu64 ".\n", what, got, want);
+    exit(1);
 }
 
-static void an_early_read(void)
+/* Quotes a seat at a state, and says so. */
+static uint64_t quote(uint32_t seat, uint32_t state)
 {
-    static struct store s = {.table_words = 4};
-    uint64_t reads[2] = {cechnuol_remove(5), cechnuol_remove(9)};
-    uint64_t changes[2] = {cechnuol_put(5, 1100), cechnuol_put(9, 700)};
-    puts("moment 5: a read of offers 5 and 9 starts at state 0 and serves state 1");
-    open_with_5_at_1200(&s);
-    expect(cechnuol_issue(LENT(&s), 0, reads, 2), CECHNUOL_OK, "issue 5 and 9 in slot 0");
-    expect(cechnuol_price(reads[0]), 1200, "offer 5 as issued");
-    expect((uint64_t)cechnuol_has_price(reads[1]), 0, "offer 9 has a price");
-    expect(cechnuol_commit(LENT(&s), changes, 2), CECHNUOL_OK, "commit 5 at 1100, 9 at 700");
-    expect(cechnuol_flush(LENT(&s), 1), CECHNUOL_OK, "flush to 1");
-    expect(cechnuol_forward(LENT(&s), 0, 1, reads, 2), CECHNUOL_OK, "forward to 1");
-    expect(cechnuol_price(reads[0]), 1100, "offer 5 as forwarded");
-    expect(cechnuol_price(reads[1]), 700, "offer 9 as forwarded");
-    expect(s.tally[CECHNUOL_FLUSHED], 1, "steps flushed");
+    uint64_t price = 0;
+    must(cechnuol_store_look_up(&store, seat, state, &price), "the lookup");
+    printf("  state %" PRIu32 ": seat %" PRIu32 " costs %" PRIu64 ".\n", state, seat, price);
+    return price;
 }
 
-static void a_table_of_one_word(void)
+static int is_full(uint64_t answer)
 {
-    static struct store s = {.table_words = 1};
-    uint64_t add = cechnuol_put(9, 700), cut = cechnuol_remove(5), price = 0;
-    puts("moment 12: a table of one word");
-    open_with_5_at_1200(&s);
-    expect(cechnuol_commit(LENT(&s), &add, 1), CECHNUOL_OK, "commit 9 at 700");
-    expect(cechnuol_flush(LENT(&s), 1), CECHNUOL_TABLE_FULL, "flush to 1");
-    expect(cechnuol_commit(LENT(&s), &cut, 1), CECHNUOL_OK, "commit the removal of 5");
-    expect(cechnuol_flush(LENT(&s), 2), CECHNUOL_OK, "flush to 2");
-    expect(cechnuol_look_up(TO_READ(&s), 9, 2, &price), CECHNUOL_OK, "look up 9 at 2");
-    expect(price, 700, "its price");
-    expect(cechnuol_look_up(TO_READ(&s), 5, 2, &price), CECHNUOL_NO_PRICE, "look up 5 at 2");
+    return answer == CECHNUOL_STEPS_FULL || answer == CECHNUOL_JOURNAL_FULL;
 }
 
-/* Null pointers with length 0: no memory is lent, and none is touched. */
-static void on_nothing(void)
+/* Commits changes. Where the store is full it flushes, and then gives up the oldest reads until there is room. A list
+ * that is longer than the journal never fits, and nothing is given up for it. */
+static void commit(const uint64_t *changes, size_t count)
 {
-    static struct store s = {.table_words = 4};
-    uint64_t value = 7;
-    puts("null pointers with length 0");
-    expect(cechnuol_clear(NOTHING(&s)), CECHNUOL_LENGTHS, "clear");
-    expect(cechnuol_load(NOTHING(&s), NULL, 0), CECHNUOL_LENGTHS, "load");
-    expect(cechnuol_write_image(NOTHING_TO_READ(&s), NULL, 0, &value), CECHNUOL_LENGTHS, "write_image");
-    expect(cechnuol_restart(NOTHING(&s), NULL, 0), CECHNUOL_LENGTHS, "restart");
-    expect(cechnuol_commit(NOTHING(&s), NULL, 0), CECHNUOL_LENGTHS, "commit");
-    expect(cechnuol_roll_back(NOTHING(&s), 0), CECHNUOL_LENGTHS, "roll_back");
-    expect(cechnuol_flush(NOTHING(&s), 0), CECHNUOL_LENGTHS, "flush");
-    expect(cechnuol_look_up(NOTHING_TO_READ(&s), 0, 0, &value), CECHNUOL_LENGTHS, "look_up");
-    expect(cechnuol_issue(NOTHING(&s), 0, NULL, 0), CECHNUOL_LENGTHS, "issue");
-    expect(cechnuol_forward(NOTHING(&s), 0, 0, NULL, 0), CECHNUOL_LENGTHS, "forward");
-    expect(cechnuol_release(NOTHING(&s), 0), CECHNUOL_LENGTHS, "release");
-    expect(value, 7, "a value that no call gave");
-    expect(cechnuol_price_batch(NULL, 0, NULL, 0, NULL, 0, &value), CECHNUOL_OK, "price_batch of no orders");
-    expect(value, 0, "its count");
-    expect(cechnuol_clear(LENT(&s)), CECHNUOL_OK, "clear");
-    expect(cechnuol_load(LENT(&s), NULL, 0), CECHNUOL_BAD_IMAGE, "load of no bytes");
-    expect(cechnuol_commit(LENT(&s), NULL, 0), CECHNUOL_OK, "commit of an empty list");
-    expect(cechnuol_issue(LENT(&s), 0, NULL, 0), CECHNUOL_OK, "issue of an empty list");
-    expect(cechnuol_forward(LENT(&s), 0, 1, NULL, 0), CECHNUOL_OK, "forward of an empty read set");
+    uint64_t answer = cechnuol_store_commit(&store, changes, count);
+    while (is_full(answer) && count <= store.journal_words) {
+        uint32_t tip = cechnuol_store_tip(&store);
+        size_t slot = cechnuol_oldest_slot(store.head);
+        if (cechnuol_store_checkpoint(&store) == tip || cechnuol_store_flush(&store, tip) != CECHNUOL_OK) {
+            if (slot == CECHNUOL_SLOTS)
+                break;
+            must(cechnuol_store_release(&store, slot), "the release");
+        }
+        answer = cechnuol_store_commit(&store, changes, count);
+    }
+    must(answer, "the commit");
 }
 
-/* Clear and load take head and tally as they find them; to every other call, words that no head has are not sound. */
-static void on_any_words(void)
+/* The feed: a list of changes leads to the next state, and earlier states can still be quoted. */
+static void take_the_feed(void)
 {
-    static struct store s = {.table_words = 4};
-    puts("a head and a tally of any words");
-    memset(s.head, 0xFF, sizeof s.head);
-    memset(s.tally, 0xFF, sizeof s.tally);
-    expect(cechnuol_release(LENT(&s), 0), CECHNUOL_UNSOUND, "release");
-    expect(cechnuol_load(LENT(&s), NULL, 0), CECHNUOL_BAD_IMAGE, "load of no bytes");
-    expect(s.head[CECHNUOL_TIP], UINT64_MAX, "the head after a refusal");
-    expect(cechnuol_clear(LENT(&s)), CECHNUOL_OK, "clear");
-    expect(s.head[CECHNUOL_TIP], 0, "the head after it");
-    expect(s.tally[CECHNUOL_FLUSHED], 0, "the tally after it");
+    const uint64_t opening[2] = {cechnuol_put(STALLS, 1200), cechnuol_put(CIRCLE, 700)};
+    const uint64_t evening[2] = {cechnuol_put(STALLS, 1100), cechnuol_put(BOX, 4000)};
+    puts("The store is empty: state 0. Two lists of changes make states 1 and 2.");
+    must(cechnuol_store_clear(&store), "the clearing");
+    commit(opening, 2);
+    commit(evening, 2);
+    expect(quote(STALLS, 1), 1200, "the price at state 1");
+    expect(quote(STALLS, 2), 1100, "the price at state 2");
 }
 
-int main(void)
+/* A correction: the tip goes back, and the next commit makes state 2 again. */
+static void correct_the_feed(void)
 {
-    an_early_read();
-    a_table_of_one_word();
-    on_nothing();
-    on_any_words();
-    puts("all as expected");
+    const uint64_t correct[3] = {cechnuol_put(STALLS, 1150), cechnuol_remove(CIRCLE), cechnuol_put(BOX, 4000)};
+    uint64_t price = 0;
+    puts("State 2 was wrong. A rollback to state 1 takes it away, and the corrected list makes state 2 anew.");
+    must(cechnuol_store_roll_back(&store, 1), "the rollback");
+    commit(correct, 3);
+    expect(quote(STALLS, 2), 1150, "the corrected price");
+    expect(cechnuol_store_look_up(&store, CIRCLE, 2, &price), CECHNUOL_NO_PRICE, "the answer for a seat withdrawn");
+    printf("  state 2: seat %d has no price any more.\n", CIRCLE);
+}
+
+/* Says what a read of two seats shows, and checks the first price. */
+static void show(const uint64_t reads[2], uint64_t first)
+{
+    printf("  the read: seat %" PRIu32 " costs %" PRIu32 ", seat %" PRIu32 " costs %" PRIu32 ".\n",
+           cechnuol_offer(reads[0]), cechnuol_price(reads[0]), cechnuol_offer(reads[1]), cechnuol_price(reads[1]));
+    expect(cechnuol_price(reads[0]), first, "the first price of the read");
+    expect(cechnuol_price(reads[1]), 4000, "the second price of the read");
+}
+
+/* An early read: it is issued at the checkpoint, and forwarded to a state that did not exist then. */
+static void read_early(uint64_t reads[2])
+{
+    const uint64_t late = cechnuol_put(STALLS, 1050);
+    reads[0] = cechnuol_ask(STALLS);
+    reads[1] = cechnuol_ask(BOX);
+    puts("A flush makes state 2 the checkpoint. A read of two seats is issued there, in slot 0.");
+    must(cechnuol_store_flush(&store, 2), "the flush");
+    must(cechnuol_store_issue(&store, 0, reads, 2), "the issue");
+    show(reads, 1150);
+    puts("The feed goes on with state 3, which is flushed too. The read is forwarded to it.");
+    commit(&late, 1);
+    must(cechnuol_store_flush(&store, 3), "the flush");
+    must(cechnuol_store_forward(&store, 0, 3, reads, 2), "the forward");
+    show(reads, 1050);
+}
+
+/* A batch of orders on that read; what it makes of the prices is a list, and is committed as state 4. */
+static void price_orders(const uint64_t reads[2])
+{
+    const uint64_t orders[3] = {cechnuol_order(CECHNUOL_CUT, 50, STALLS),
+                                cechnuol_order(CECHNUOL_SIXTEENTHS(12), 2500, BOX),
+                                cechnuol_order(CECHNUOL_RAISE, 10, STALLS)};
+    uint64_t changes[2], count = 0;
+    puts("Three orders are priced on the read: seat 5 less 50, seat 12 at 12/16 but at least 2500, seat 5 plus 10.");
+    must(cechnuol_price_batch(reads, 2, orders, 3, changes, 2, &count), "the batch");
+    commit(changes, count);
+    expect(quote(STALLS, 4), 1010, "the price after the orders");
+    expect(quote(BOX, 4), 3000, "the marked-down price");
+}
+
+/* The night: an image holds the checkpoint, so the tip is flushed first. The image is loaded the next morning. */
+static void keep_overnight(void)
+{
+    uint8_t image[CECHNUOL_IMAGE_BYTES_OF(100)];
+    uint64_t count = 0;
+    must(cechnuol_store_flush(&store, cechnuol_store_tip(&store)), "the flush");
+    must(cechnuol_store_write_image(&store, image, sizeof image, &count), "the image");
+    printf("State 4 is flushed and written as an image of %" PRIu64 " bytes, from which a store is loaded.\n", count);
+    expect(count, CECHNUOL_IMAGE_BYTES_OF(2), "the length of the image");
+    must(cechnuol_store_clear(&store), "the clearing");
+    must(cechnuol_store_load(&store, image, count), "the load");
+    expect(cechnuol_store_tip(&store), 4, "the state of the image");
+    expect(quote(BOX, 4), 3000, "the price in the morning");
+}
+
+int main(int argument_count, char **arguments)
+{
+    uint64_t reads[2];
+    int help = argument_count == 2 && strcmp(arguments[1], "--help") == 0;
+    if (argument_count > 1) {
+        fputs("usage: box_office [--help]\n", help ? stdout : stderr);
+        return help && fflush(stdout) == 0 ? 0 : 2;
+    }
+    expect(cechnuol_version(), CECHNUOL_VERSION, "the version of the library");
+    puts("The price unit " CECHNUOL_VERSION_TEXT " at a box office.");
+    take_the_feed();
+    correct_the_feed();
+    read_early(reads);
+    price_orders(reads);
+    keep_overnight();
+    puts("All is as it should be.");
+    if (fflush(stdout) != 0 || ferror(stdout)) {
+        fputs("box_office: the output cannot be written.\n", stderr);
+        return 2;
+    }
     return 0;
 }

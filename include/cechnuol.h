@@ -1,39 +1,64 @@
 /*
- * cechnuol.h: the price unit for C programs (C99).
+ * cechnuol.h: the price unit, for C (C99 and later) and C++ (C++17 and later) on x86-64 Linux.
  *
- * Link with libcechnuol's static library, target/staticlib/libcapi.a (`rt staticlib capi`). Every function here is
- * proved to meet its contract in crates/capi for every content and every length of what it is lent; the duties of the
- * caller are those of C: each pointer and length name memory of the caller's, head and tally point to all of their
- * words, and what one call is lent does not overlap. A length of 0 may come with a null pointer; head and tally are
- * never null.
+ * The unit keeps the prices of offers, state after state, in memory that its caller lends. A feed of changes is
+ * committed list by list, and each list leads to the next state. The unit quotes any state from the checkpoint to the
+ * tip, which is the newest; it steps back from the tip when the feed is corrected, and lets the checkpoint follow by a
+ * flush. A read may start before the state that it serves exists: it is issued at the checkpoint and forwarded later. A
+ * batch of orders is priced on such a read. An image holds the prices at the checkpoint as bytes, to be stored and
+ * loaded again.
  *
- * Lent memory. The caller owns all of it; the unit keeps nothing between calls.
- *   table    1 to 8,000 words (document 01: the book)
- *   journal  1 to 4,096 words (the change memory)
- *   head     an array of CECHNUOL_HEAD_WORDS words, laid out below
- *   tally    an array of CECHNUOL_TALLY_WORDS words: steps committed, rolled back, flushed
- *   words    a list or a read set, whole
- *   bytes    an image to be loaded, whole, or memory for one to be written
+ * The functions of the library are proved: for every length and every content of what they are lent they answer and
+ * leave what is defined for them, stay within the memory lent, and end. They allocate nothing, keep nothing between
+ * calls, and use memcpy and memset and nothing else of the C library. The inline functions of this header are tested.
  *
- * Head and tally are arrays of fixed size, lent by one pointer each: no length is passed, so none can be wrong. The
- * prototypes name the sizes, by which a compiler can warn of a shorter array.
+ * A program, built by  cc -std=c99 program.c $(pkg-config --cflags --libs cechnuol)
  *
- * A new store: lend any table and journal of the right lengths, any head and any tally to cechnuol_clear or
- * cechnuol_load; what they hold before does not matter, and nothing of it is tested.
+ *     #include <cechnuol.h>
+ *     #include <inttypes.h>
+ *     #include <stdio.h>
  *
- * Queries. cechnuol_look_up and cechnuol_write_image take a store to read only: table, journal and head are const, and
- * no tally is lent. They store nothing but their output: the price, or the bytes and the count. So the store may lie in
- * read-only memory, and several threads may query one store at once, each with an output of its own, as long as no
- * other call changes the store meanwhile.
+ *     static uint64_t table[CECHNUOL_TABLE_WORDS], journal[CECHNUOL_JOURNAL_WORDS];
+ *     static struct cechnuol_store store = {table, CECHNUOL_TABLE_WORDS, journal, CECHNUOL_JOURNAL_WORDS, {0}, {0}};
  *
- * Answers. CECHNUOL_OK, or the number of the ground on which the call was turned away (document 01); then everything
- * lent is as it came. cechnuol_look_up alone also answers CECHNUOL_NO_PRICE. A value (a price, a count) goes to the
- * word that is lent for it, on CECHNUOL_OK only.
+ *     int main(void)
+ *     {
+ *         const uint64_t changes[2] = {cechnuol_put(5, 1200), cechnuol_put(9, 700)};
+ *         uint64_t price = 0, answer = cechnuol_store_clear(&store);
+ *         if (answer == CECHNUOL_OK)
+ *             answer = cechnuol_store_commit(&store, changes, 2);
+ *         if (answer == CECHNUOL_OK)
+ *             answer = cechnuol_store_look_up(&store, 5, cechnuol_store_tip(&store), &price);
+ *         if (answer != CECHNUOL_OK) {
+ *             printf("%s: %s\n", cechnuol_name(answer), cechnuol_text(answer));
+ *             return 1;
+ *         }
+ *         printf("offer 5 costs %" PRIu64 "\n", price);
+ *         return 0;
+ *     }
  *
- * Head words that do not fit their fields, a state number of 2^32 or more or a flag above 1, are words that no head
- * has: ground 2, after ground 1, from every call but cechnuol_clear and cechnuol_load. A tally is never tested.
+ * What a caller owes
  *
- * Stack. A flush needs up to 160 KiB of it, whatever it is lent; any other call less than 32 KiB.
+ *   Pointers and lengths. A pointer to words or bytes comes with their number, all of which are there, aligned as their
+ *   type asks; where that is 0, the pointer may be null. Head, tally, price and count have no length and are never
+ *   null. What a call may write overlaps nothing else that it is lent, else the outcome is undefined; what it only
+ *   reads may overlap.
+ *
+ *   Threads. Calls on one store are made one at a time. Queries (cechnuol_look_up and cechnuol_write_image) of one
+ *   store may run side by side, each with an output of its own, while no other call on that store runs. Calls on
+ *   different stores, and cechnuol_price_batch, need no such care: the library has no memory of its own.
+ *
+ *   Stack. A flush needs up to 160 KiB of stack, and any other call less than 32 KiB. A flush of few prices takes less
+ *   than 40 KiB, so a test with a small store does not show that a stack is too small. Beware of small ones, as the 128
+ *   KiB that musl gives a thread, or those that pthread_attr_setstacksize made smaller. A stack that is too small ends
+ *   the program where a guard page lies below it; one in memory of the program's own (pthread_attr_setstack,
+ *   coroutines) has none, and what lies below is overwritten.
+ *
+ * What a call costs. Every call but clear and load tests the whole store: one pass over the words lent, which takes
+ * some microseconds where all of them are.
+ *
+ * What a refusal leaves. A call that answers anything but CECHNUOL_OK leaves everything lent as it came: table,
+ * journal, head, tally, words, bytes, price and count.
  */
 #ifndef CECHNUOL_H
 #define CECHNUOL_H
@@ -45,19 +70,164 @@
 extern "C" {
 #endif
 
-/* The head's words, from the first on. */
+/* Version. */
+
+/* The version of this header: major * 1000000 + minor * 1000 + patch, and as text. */
+#define CECHNUOL_VERSION 1000000
+#define CECHNUOL_VERSION_TEXT "1.0.0"
+
+/* The version of the library that is linked, as a number. It differs from CECHNUOL_VERSION where header and library are
+ * not of one release. */
+uint64_t cechnuol_version(void);
+
+/* Limits. */
+
 enum {
-    CECHNUOL_USED = 0,        /* words of the table in use */
-    CECHNUOL_OLDEST = 1,      /* the floor */
-    CECHNUOL_CHECKPOINT = 2,  /* the anchor: the state that the table holds */
-    CECHNUOL_TIP = 3,         /* the newest state */
-    CECHNUOL_TAKEN = 4,       /* 8 words: 1 for a slot that is open, else 0 */
-    CECHNUOL_ISSUED = 12,     /* 8 words: the checkpoint at the issue of each open slot, else 0 */
-    CECHNUOL_ENDS = 20,       /* 64 words: the marks of the held steps; those not in use are 0 */
+    CECHNUOL_TABLE_WORDS = 8000,   /* a table has 1 to so many words: an offer with a price takes one */
+    CECHNUOL_JOURNAL_WORDS = 4096, /* a journal has 1 to so many words: a change of a held step takes one */
+    CECHNUOL_LIST_WORDS = 64,      /* a list or read set has 0 to so many words */
+    CECHNUOL_BATCH_ORDERS = 64,    /* a batch has 0 to so many orders */
+    CECHNUOL_SLOTS = 8,            /* slots are numbered from 0 to 7 */
+    CECHNUOL_STEPS = 64,           /* so many steps are held at most: tip - oldest */
+    CECHNUOL_IMAGE_BYTES = 64006   /* the longest image, that of 8,000 offers */
+};
+
+/* The length in bytes of an image of so many offers. */
+#define CECHNUOL_IMAGE_BYTES_OF(offers) (6 + 8 * (offers))
+
+/* Entry words and lists. */
+
+/* An offer is a number of 31 bits, and a price one of 32 bits in minor units; 0 is a true price. An entry word has 64
+ * bits, most significant first: kind 1 bit, offer 31 bits, price 32 bits. Kind 1 puts a price, or shows one; kind 0
+ * removes the price, or shows that there is none, and its price bits are 0.
+ *
+ * A list is 0 to 64 entry words whose offers rise strictly, so that no offer stands in it twice. Changes are committed
+ * as a list. A read is issued with a list of words that ask (cechnuol_ask), and comes back as a read set: the same
+ * offers, each with its price or none.
+ *
+ * An offer of 2^31 or more is not refused here: of it the builders take the lowest 31 bits, and that is another offer.
+ * Test it before. */
+#define CECHNUOL_OFFER_MASK UINT32_C(0x7FFFFFFF)
+
+/* The word that removes an offer's price. */
+static inline uint64_t cechnuol_remove(uint32_t offer)
+{
+    uint64_t cut = offer & CECHNUOL_OFFER_MASK;
+    return cut << 32;
+}
+
+/* The word that puts an offer at a price. */
+static inline uint64_t cechnuol_put(uint32_t offer, uint32_t price)
+{
+    return UINT64_C(1) << 63 | cechnuol_remove(offer) | price;
+}
+
+/* The word that asks for an offer's price, in the list of an issue. It is the word that removes it. */
+static inline uint64_t cechnuol_ask(uint32_t offer)
+{
+    return cechnuol_remove(offer);
+}
+
+/* The lowest 32 bits of a word. */
+static inline uint32_t cechnuol_low_bits(uint64_t word)
+{
+    return word & UINT32_MAX;
+}
+
+/* What an entry word says: whether there is a price (1 or 0), the offer, and the price, 0 where there is none. */
+static inline int cechnuol_has_price(uint64_t word)
+{
+    return word >> 63 != 0;
+}
+
+static inline uint32_t cechnuol_offer(uint64_t word)
+{
+    return cechnuol_low_bits(word >> 32) & CECHNUOL_OFFER_MASK;
+}
+
+static inline uint32_t cechnuol_price(uint64_t word)
+{
+    return cechnuol_low_bits(word);
+}
+
+/* Order words. */
+
+/* An order word has 64 bits, most significant first: kind 8 bits, amount 25 bits, offer 31 bits. So an amount is at
+ * most 33,554,431. Kinds that are not named here are unknown. */
+enum {
+    CECHNUOL_LIST = 0,     /* the price becomes the amount */
+    CECHNUOL_WITHDRAW = 1, /* the price is removed, if there is one; the amount is 0 */
+    CECHNUOL_RAISE = 2,    /* the price rises by the amount */
+    CECHNUOL_CUT = 3       /* the price falls by the amount */
+};
+
+/* The kind that keeps n sixteenths, n from 1 to 16: the price becomes price * n / 16, rounded down, or the amount if
+ * that is more. Any other n gives 255, an unknown kind. It is a constant where n is one, and takes n more than once. */
+#define CECHNUOL_SIXTEENTHS(n) ((n) >= 1 && (n) <= 16 ? 15 + (n) : 255)
+
+/* What cechnuol_order gives where a number does not fit its bits: a word of unknown kind. */
+#define CECHNUOL_NO_ORDER UINT64_C(0xFF00000000000000)
+
+#define CECHNUOL_AMOUNT_MASK UINT32_C(0x1FFFFFF)
+
+/* The order word. Where the kind is above 255, the amount 2^25 or more, or the offer 2^31 or more, it is
+ * CECHNUOL_NO_ORDER: a batch that has it is refused by CECHNUOL_BAD_ORDER, and never priced at a number cut short. */
+static inline uint64_t cechnuol_order(uint32_t kind, uint32_t amount, uint32_t offer)
+{
+    uint64_t top = kind, middle = amount;
+    if (kind > 255 || amount > CECHNUOL_AMOUNT_MASK || offer > CECHNUOL_OFFER_MASK)
+        return CECHNUOL_NO_ORDER;
+    return top << 56 | middle << 31 | offer;
+}
+
+/* What an order word says. */
+static inline uint32_t cechnuol_order_kind(uint64_t order)
+{
+    return cechnuol_low_bits(order >> 56);
+}
+
+static inline uint32_t cechnuol_order_amount(uint64_t order)
+{
+    return cechnuol_low_bits(order >> 31) & CECHNUOL_AMOUNT_MASK;
+}
+
+static inline uint32_t cechnuol_order_offer(uint64_t order)
+{
+    return cechnuol_low_bits(order) & CECHNUOL_OFFER_MASK;
+}
+
+/* The memory of a store. */
+
+/* A store is four memories that the caller owns and lends to each call:
+ *
+ *   table    1 to 8,000 words: the prices at the checkpoint as entry words, offers rising, then zeros
+ *   journal  1 to 4,096 words: the lists of the held steps, oldest first, then zeros
+ *   head     CECHNUOL_HEAD_WORDS words, laid out as below
+ *   tally    CECHNUOL_TALLY_WORDS words: how many steps were committed, rolled back and flushed
+ *
+ * A step leads from a state to the next, by the list that was committed. Held are the steps from the oldest state to
+ * the tip: those above the checkpoint, and those below it that an open slot still needs. Oldest is the least of the
+ * checkpoint and the numbers of the open slots; the number of a slot is the checkpoint at its issue.
+ *
+ * A new store. What the memories hold before does not matter to cechnuol_clear and cechnuol_load. From then on they
+ * belong to the calls: a program reads them between calls and changes nothing in them.
+ *
+ * A damaged store. CECHNUOL_UNSOUND is answered where the form is broken: the order of offers, the zeros, or numbers
+ * that do not fit each other. A price, an offer, the end of a step or the checkpoint that was changed within that form
+ * is taken as it is. A call that was cut off, by a kill or a loss of power, may leave such a store: go on from an
+ * image. */
+enum {
+    CECHNUOL_USED = 0,       /* how many words of the table are used: the offers that have a price at the checkpoint */
+    CECHNUOL_OLDEST = 1,     /* the state from which steps are held */
+    CECHNUOL_CHECKPOINT = 2, /* the state that the table holds */
+    CECHNUOL_TIP = 3,        /* the newest state */
+    CECHNUOL_TAKEN = 4,      /* 8 words: 1 for a slot that is open, else 0 */
+    CECHNUOL_ISSUED = 12,    /* 8 words: the number of each open slot, else 0 */
+    CECHNUOL_ENDS = 20,      /* 64 words: where each held step ends in the journal; those not in use are 0 */
     CECHNUOL_HEAD_WORDS = 84
 };
 
-/* The tally's words. */
+/* The counts stop at 2^64 - 1. Clear, load and restart set them to 0. */
 enum {
     CECHNUOL_COMMITTED = 0,
     CECHNUOL_ROLLED_BACK = 1,
@@ -65,92 +235,323 @@ enum {
     CECHNUOL_TALLY_WORDS = 3
 };
 
+/* The open slot with the least number, or the first of several; CECHNUOL_SLOTS where none is open. While it is open, no
+ * flush lets go a step from its number on. */
+static inline size_t cechnuol_oldest_slot(const uint64_t head[CECHNUOL_HEAD_WORDS])
+{
+    size_t slot, oldest = CECHNUOL_SLOTS;
+    for (slot = 0; slot < CECHNUOL_SLOTS; slot++)
+        if (head[CECHNUOL_TAKEN + slot] != 0 &&
+            (oldest == CECHNUOL_SLOTS || head[CECHNUOL_ISSUED + slot] < head[CECHNUOL_ISSUED + oldest]))
+            oldest = slot;
+    return oldest;
+}
+
+/* Images. */
+
+/* An image is the prices at one state as bytes: the state number in 32 bits, the count of offers in 16 bits, and then
+ * that many entry words of kind 1 with strictly rising offers, each number most significant byte first. Its length is
+ * exactly 6 + 8 * count bytes. What one store writes loads into any store whose table has count words or more.
+ *
+ * An image holds the checkpoint, not the tip: to save the newest prices, flush to the tip first. */
+
 /* Answers. */
+
+/* Every call answers one of these. Each call below has the refusals that it can give in the order in which they are
+ * tested, and the answer is the first that is met. Price and count are given on CECHNUOL_OK alone. */
 enum {
     CECHNUOL_OK = 0,
-    CECHNUOL_LENGTHS = 1,        /* table's or journal's length is outside its range */
-    CECHNUOL_UNSOUND = 2,        /* the store isn't sound */
+    CECHNUOL_LENGTHS = 1,        /* the table is not 1 to 8,000 words long, or the journal not 1 to 4,096 */
+    CECHNUOL_UNSOUND = 2,        /* table, journal and head are not a store: go on from an image */
     CECHNUOL_SLOT_RANGE = 3,     /* the slot is above 7 */
     CECHNUOL_SLOT_TAKEN = 4,     /* the slot named for an issue is open */
     CECHNUOL_SLOT_CLOSED = 5,    /* the slot named for a forward or release is closed */
-    CECHNUOL_BAD_LIST = 6,       /* a list breaks its rules, over 64 orders, an offer of 2^31 or more */
+    CECHNUOL_BAD_LIST = 6,       /* not a list, a put in an issue's list, over 64 orders, or an offer of 2^31 or more */
     CECHNUOL_BAD_ORDER = 7,      /* an order's kind is unknown, or a withdrawal has an amount */
-    CECHNUOL_OFFER_NOT_READ = 8, /* an order's offer isn't in the read set */
+    CECHNUOL_OFFER_NOT_READ = 8, /* an order's offer is not in the read set */
     CECHNUOL_ORDER_NO_PRICE = 9, /* a raise, cut or sixteenths on an offer without a price */
     CECHNUOL_PRICE_RANGE = 10,   /* an order takes a price below 0 or above 2^32 - 1 */
     CECHNUOL_STATE_RANGE = 11,   /* the state is below the checkpoint or above the tip */
-    CECHNUOL_LAST_STATE = 12,    /* the tip is 2^32 - 1 at a commit */
-    CECHNUOL_STEPS_FULL = 13,    /* 64 steps are held at a commit */
-    CECHNUOL_JOURNAL_FULL = 14,  /* the list exceeds the unused journal words */
+    CECHNUOL_LAST_STATE = 12,    /* a commit where the tip is 2^32 - 1 */
+    CECHNUOL_STEPS_FULL = 13,    /* a commit where 64 steps are held */
+    CECHNUOL_JOURNAL_FULL = 14,  /* a commit of more words than the journal has unused */
     CECHNUOL_BAD_IMAGE = 15,     /* an image's length, order of offers or kind bits are wrong */
-    CECHNUOL_TABLE_FULL = 16,    /* the map has more offers than the table has words */
-    CECHNUOL_OUTPUT_SHORT = 17,  /* output is shorter than what is to be written */
-    CECHNUOL_NO_PRICE = 100      /* a lookup: the offer has no price at that state */
+    CECHNUOL_TABLE_FULL = 16,    /* the prices to be flushed or loaded are more than the table has words */
+    CECHNUOL_OUTPUT_SHORT = 17,  /* the output is shorter than what is to be written */
+    CECHNUOL_NO_PRICE = 100      /* no refusal: a lookup found that the offer has no price at that state */
 };
 
-/* The parameters that every call that may change a store begins with. */
+/* The name of an answer, without its prefix; "UNKNOWN" for a number that is no answer. */
+static inline const char *cechnuol_name(uint64_t answer)
+{
+    switch (answer) {
+    case CECHNUOL_OK: return "OK";
+    case CECHNUOL_LENGTHS: return "LENGTHS";
+    case CECHNUOL_UNSOUND: return "UNSOUND";
+    case CECHNUOL_SLOT_RANGE: return "SLOT_RANGE";
+    case CECHNUOL_SLOT_TAKEN: return "SLOT_TAKEN";
+    case CECHNUOL_SLOT_CLOSED: return "SLOT_CLOSED";
+    case CECHNUOL_BAD_LIST: return "BAD_LIST";
+    case CECHNUOL_BAD_ORDER: return "BAD_ORDER";
+    case CECHNUOL_OFFER_NOT_READ: return "OFFER_NOT_READ";
+    case CECHNUOL_ORDER_NO_PRICE: return "ORDER_NO_PRICE";
+    case CECHNUOL_PRICE_RANGE: return "PRICE_RANGE";
+    case CECHNUOL_STATE_RANGE: return "STATE_RANGE";
+    case CECHNUOL_LAST_STATE: return "LAST_STATE";
+    case CECHNUOL_STEPS_FULL: return "STEPS_FULL";
+    case CECHNUOL_JOURNAL_FULL: return "JOURNAL_FULL";
+    case CECHNUOL_BAD_IMAGE: return "BAD_IMAGE";
+    case CECHNUOL_TABLE_FULL: return "TABLE_FULL";
+    case CECHNUOL_OUTPUT_SHORT: return "OUTPUT_SHORT";
+    case CECHNUOL_NO_PRICE: return "NO_PRICE";
+    default: return "UNKNOWN";
+    }
+}
+
+/* An answer as a sentence, without the full stop. */
+static inline const char *cechnuol_text(uint64_t answer)
+{
+    switch (answer) {
+    case CECHNUOL_OK: return "the call was accepted";
+    case CECHNUOL_LENGTHS: return "the length of the table or of the journal is outside its range";
+    case CECHNUOL_UNSOUND: return "the store is not sound";
+    case CECHNUOL_SLOT_RANGE: return "the slot is above 7";
+    case CECHNUOL_SLOT_TAKEN: return "the slot named for an issue is open";
+    case CECHNUOL_SLOT_CLOSED: return "the slot named for a forward or release is closed";
+    case CECHNUOL_BAD_LIST: return "a list breaks its rules, or there are over 64 orders, or an offer is 2^31 or more";
+    case CECHNUOL_BAD_ORDER: return "the kind of an order is unknown, or a withdrawal has an amount";
+    case CECHNUOL_OFFER_NOT_READ: return "the offer of an order is not in the read set";
+    case CECHNUOL_ORDER_NO_PRICE: return "a raise, cut or sixteenths order is on an offer without a price";
+    case CECHNUOL_PRICE_RANGE: return "an order takes a price below 0 or above 2^32 - 1";
+    case CECHNUOL_STATE_RANGE: return "the state is below the checkpoint or above the tip";
+    case CECHNUOL_LAST_STATE: return "the tip is the last state number, 2^32 - 1";
+    case CECHNUOL_STEPS_FULL: return "64 steps are held";
+    case CECHNUOL_JOURNAL_FULL: return "the list has more words than the journal has unused";
+    case CECHNUOL_BAD_IMAGE: return "the length, the order of offers or a kind bit of the image is wrong";
+    case CECHNUOL_TABLE_FULL: return "the state has more prices than the table has words";
+    case CECHNUOL_OUTPUT_SHORT: return "the output is shorter than what is to be written";
+    case CECHNUOL_NO_PRICE: return "the offer has no price at that state";
+    default: return "the number is no answer";
+    }
+}
+
+/* The calls. */
+
+/* The parameters that every call begins with that may change a store. All four memories must be writable: what a call
+ * does not change it may still write with the value that it has. */
 #define CECHNUOL_STORE \
     uint64_t *table, size_t table_words, uint64_t *journal, size_t journal_words, uint64_t head[CECHNUOL_HEAD_WORDS], \
         uint64_t tally[CECHNUOL_TALLY_WORDS]
 
-/* The parameters that every query begins with: a store to read only, without its tally. */
+/* The parameters that every query begins with: a store to read only, without its tally. It may lie in memory that
+ * cannot be written. */
 #define CECHNUOL_STORE_TO_READ \
     const uint64_t *table, size_t table_words, const uint64_t *journal, size_t journal_words, \
         const uint64_t head[CECHNUOL_HEAD_WORDS]
 
+/* Makes an empty store: state 0, without any price. Oldest, checkpoint and tip are 0, all slots are closed, and every
+ * other word of the four memories is 0.
+ * Changes: table, journal, head, tally.
+ * Refusals: LENGTHS. */
 uint64_t cechnuol_clear(CECHNUOL_STORE);
-uint64_t cechnuol_load(CECHNUOL_STORE, uint8_t *bytes, size_t byte_count);
-/* A query. The image of the checkpoint goes to the start of the bytes, and its length in bytes to *count; nothing else
- * is stored, and the store is only read. */
+
+/* Makes a store of an image, which the bytes are from the first to the last. Oldest, checkpoint and tip are the image's
+ * state number, all slots are closed, and the tally is 0.
+ * Changes: table, journal, head, tally.
+ * Refusals: LENGTHS, BAD_IMAGE, TABLE_FULL.
+ * At TABLE_FULL lend a longer table; the image's count, its fifth and sixth byte, says how many words it takes. One of
+ * more than 8,000 offers fits no table. */
+uint64_t cechnuol_load(CECHNUOL_STORE, const uint8_t *bytes, size_t byte_count);
+
+/* A query. Writes the image of the checkpoint to the start of the bytes and its length to *count; bytes past it stay.
+ * The steps above the checkpoint are not in it: to save the newest prices, flush to the tip first.
+ * Changes: bytes, *count.
+ * Refusals: LENGTHS, UNSOUND, OUTPUT_SHORT.
+ * At OUTPUT_SHORT lend CECHNUOL_IMAGE_BYTES_OF(head[CECHNUOL_USED]) bytes; CECHNUOL_IMAGE_BYTES are always enough. */
 uint64_t cechnuol_write_image(CECHNUOL_STORE_TO_READ, uint8_t *bytes, size_t byte_count, uint64_t *count);
-/* The same image, which is then loaded: tip and floor become the checkpoint, the steps above it are gone, and all slots
- * close. */
+
+/* Writes the image of the checkpoint to the start of the bytes and loads it from there, as a program does that is
+ * switched off and on again. The tip falls back to the checkpoint, so that all held steps are lost, all slots close, so
+ * that no read that is under way can be forwarded, and the tally is 0. To keep the newest prices, flush to the tip
+ * first. The image takes CECHNUOL_IMAGE_BYTES_OF(head[CECHNUOL_USED]) bytes.
+ * Changes: journal, head, tally, bytes.
+ * Refusals: LENGTHS, UNSOUND, OUTPUT_SHORT. */
 uint64_t cechnuol_restart(CECHNUOL_STORE, uint8_t *bytes, size_t byte_count);
-uint64_t cechnuol_commit(CECHNUOL_STORE, uint64_t *words, size_t word_count);
+
+/* Commits a list, which the words are: it leads from the tip to state tip + 1, the new tip. A word puts or removes the
+ * price of its offer, the removal of a price that is not there changes nothing, and an empty list makes a state too.
+ * Changes: journal, head, tally.
+ * Refusals: LENGTHS, UNSOUND, BAD_LIST, LAST_STATE, STEPS_FULL, JOURNAL_FULL.
+ * At STEPS_FULL, which is met where tip - oldest is 64, flush to the tip, or to the highest state that no rollback will
+ * go below. If it is still full, or the flush is refused by TABLE_FULL, a slot may be open whose number is the oldest,
+ * and no flush lets its steps go: forward or release that slot, cechnuol_oldest_slot(head), and then the next, until
+ * the commit passes. To flush and try again is not enough.
+ * At JOURNAL_FULL do the same, but first test the list: one of more than journal_words words never fits, whatever is
+ * given up. Commit it in parts, each a state of its own, or move to a store with a longer journal (flush to the tip,
+ * write the image, load it there).
+ * At LAST_STATE there is no further number: flush to the tip, write the image, set its first four bytes to 0, and load
+ * it. The same prices are then state 0. */
+uint64_t cechnuol_commit(CECHNUOL_STORE, const uint64_t *words, size_t word_count);
+
+/* Makes a state the tip: the steps above it are gone, and later commits use their numbers again. A rollback to the tip
+ * changes nothing.
+ * Changes: journal, head, tally.
+ * Refusals: LENGTHS, UNSOUND, STATE_RANGE.
+ * At STATE_RANGE, with a state below the checkpoint, there is no way back in the store: load an earlier image. */
 uint64_t cechnuol_roll_back(CECHNUOL_STORE, uint32_t state);
+
+/* Makes a state the checkpoint: the table then holds its prices, and states below it can no longer be quoted or rolled
+ * back to. The steps up to it are let go, but for those from the number of the oldest open slot on; a flush to the
+ * checkpoint changes nothing.
+ * Changes: table, journal, head, tally.
+ * Refusals: LENGTHS, UNSOUND, STATE_RANGE, TABLE_FULL.
+ * At TABLE_FULL the state named has more prices than the table has words; the states on the way to it do not count.
+ * Flush to another one: a lower one that fits, or commit removals (where there is no room for them, roll back first)
+ * and flush to the new tip. Or move to a longer table: write the image, load it into a store that has one, and commit
+ * again what was committed above the checkpoint, which the image does not hold. */
 uint64_t cechnuol_flush(CECHNUOL_STORE, uint32_t state);
-/* A query. The price goes to *price; CECHNUOL_NO_PRICE if there is none. Nothing else is stored, and the store is only
- * read. */
+
+/* A query. Gives the price of an offer at a state, a number below 2^32, to *price, or answers CECHNUOL_NO_PRICE.
+ * Changes: *price.
+ * Refusals: LENGTHS, UNSOUND, BAD_LIST, STATE_RANGE.
+ * BAD_LIST is here an offer of 2^31 or more. */
 uint64_t cechnuol_look_up(CECHNUOL_STORE_TO_READ, uint32_t offer, uint32_t state, uint64_t *price);
-/* Fills the words, a list of kind 0, from the table, and opens the slot. */
+
+/* Starts a read: the words, a list of words that ask, become the read set with the prices at the checkpoint, and the
+ * slot opens with the checkpoint as its number. Keep the read set as it is for the forward.
+ * Changes: words, head.
+ * Refusals: LENGTHS, UNSOUND, SLOT_RANGE, SLOT_TAKEN, BAD_LIST.
+ * At SLOT_TAKEN use another slot, or forward or release this one. An open slot keeps steps held: close it soon. */
 uint64_t cechnuol_issue(CECHNUOL_STORE, size_t slot, uint64_t *words, size_t word_count);
-/* Brings the read set in the words forward to the state, and closes the slot. */
+
+/* Ends a read: the read set that the slot's issue filled gets the prices of its offers at a state from the checkpoint
+ * to the tip, and the slot closes. Steps below the checkpoint that no other open slot needs are let go. Only the form
+ * of the words is tested: another read set, such as that of an earlier issue of the slot, is brought forward from what
+ * it says, and its prices are then wrong.
+ * Changes: words, journal, head.
+ * Refusals: LENGTHS, UNSOUND, SLOT_RANGE, SLOT_CLOSED, BAD_LIST, STATE_RANGE. */
 uint64_t cechnuol_forward(CECHNUOL_STORE, size_t slot, uint32_t state, uint64_t *words, size_t word_count);
+
+/* Gives a read up: the slot closes. Steps below the checkpoint that no other open slot needs are let go. Tell the
+ * reader before the slot is issued again: the unit cannot know whose read set a forward is lent.
+ * Changes: journal, head.
+ * Refusals: LENGTHS, UNSOUND, SLOT_RANGE, SLOT_CLOSED. */
 uint64_t cechnuol_release(CECHNUOL_STORE, size_t slot);
-/* Prices orders on a read set, without a store; how many words of out were written goes to *count. */
+
+/* Prices a batch of orders on a read set, without a store: the orders run in turn, each on what the earlier ones made
+ * of the prices. The start of out becomes a list that can be committed, of one word for each offer named with its price
+ * in the end or its removal, and *count how many they are; words past them stay.
+ * Changes: out, *count.
+ * Refusals: BAD_LIST, BAD_ORDER, OFFER_NOT_READ; then by the first order that fails ORDER_NO_PRICE or PRICE_RANGE; then
+ * OUTPUT_SHORT.
+ * At OUTPUT_SHORT lend as many words as the read set or the orders have, whichever is less. */
 uint64_t cechnuol_price_batch(const uint64_t *reads, size_t read_count, const uint64_t *orders, size_t order_count,
                               uint64_t *out, size_t out_count, uint64_t *count);
 
-/* An offer has 31 bits. */
-#define CECHNUOL_OFFER_MASK UINT32_C(0x7FFFFFFF)
+/* A store in a struct. */
 
-/* The entry word that removes an offer, and the one that puts it at a price. Of an offer of 2^31 or more the lowest 31
- * bits are taken, as the proved builders take them (Entry::none and Entry::put in crates/entry), so that it never runs
- * into the kind: no removal becomes a price. */
-static inline uint64_t cechnuol_remove(uint32_t offer)
+/* The four memories together. The program sets table and journal with their lengths, and makes a store of it by
+ * cechnuol_store_clear or cechnuol_store_load. A copy of the struct is not a copy of the store: table and journal are
+ * pointers. */
+struct cechnuol_store {
+    uint64_t *table;
+    size_t table_words;
+    uint64_t *journal;
+    size_t journal_words;
+    uint64_t head[CECHNUOL_HEAD_WORDS];
+    uint64_t tally[CECHNUOL_TALLY_WORDS];
+};
+
+/* What the struct lends to a call, and to a query. */
+#define CECHNUOL_LENT_TO_READ(store) \
+    (store)->table, (store)->table_words, (store)->journal, (store)->journal_words, (store)->head
+#define CECHNUOL_LENT(store) CECHNUOL_LENT_TO_READ(store), (store)->tally
+
+/* cechnuol_store_NAME is cechnuol_NAME on the memory of the struct: what is said there holds here. */
+static inline uint64_t cechnuol_store_clear(struct cechnuol_store *store)
 {
-    return (uint64_t)(offer & CECHNUOL_OFFER_MASK) << 32;
+    return cechnuol_clear(CECHNUOL_LENT(store));
 }
 
-static inline uint64_t cechnuol_put(uint32_t offer, uint32_t price)
+static inline uint64_t cechnuol_store_load(struct cechnuol_store *store, const uint8_t *bytes, size_t byte_count)
 {
-    return (uint64_t)1 << 63 | cechnuol_remove(offer) | price;
+    return cechnuol_load(CECHNUOL_LENT(store), bytes, byte_count);
 }
 
-/* What an entry word says: whether there is a price, the offer, and the price. */
-static inline int cechnuol_has_price(uint64_t word)
+static inline uint64_t cechnuol_store_write_image(const struct cechnuol_store *store, uint8_t *bytes, size_t byte_count,
+                                                  uint64_t *count)
 {
-    return (int)(word >> 63);
+    return cechnuol_write_image(CECHNUOL_LENT_TO_READ(store), bytes, byte_count, count);
 }
 
-static inline uint32_t cechnuol_offer(uint64_t word)
+static inline uint64_t cechnuol_store_restart(struct cechnuol_store *store, uint8_t *bytes, size_t byte_count)
 {
-    return (uint32_t)(word >> 32) & CECHNUOL_OFFER_MASK;
+    return cechnuol_restart(CECHNUOL_LENT(store), bytes, byte_count);
 }
 
-static inline uint32_t cechnuol_price(uint64_t word)
+static inline uint64_t cechnuol_store_commit(struct cechnuol_store *store, const uint64_t *words, size_t word_count)
 {
-    return (uint32_t)word;
+    return cechnuol_commit(CECHNUOL_LENT(store), words, word_count);
+}
+
+static inline uint64_t cechnuol_store_roll_back(struct cechnuol_store *store, uint32_t state)
+{
+    return cechnuol_roll_back(CECHNUOL_LENT(store), state);
+}
+
+static inline uint64_t cechnuol_store_flush(struct cechnuol_store *store, uint32_t state)
+{
+    return cechnuol_flush(CECHNUOL_LENT(store), state);
+}
+
+static inline uint64_t cechnuol_store_look_up(const struct cechnuol_store *store, uint32_t offer, uint32_t state,
+                                              uint64_t *price)
+{
+    return cechnuol_look_up(CECHNUOL_LENT_TO_READ(store), offer, state, price);
+}
+
+static inline uint64_t cechnuol_store_issue(struct cechnuol_store *store, size_t slot, uint64_t *words,
+                                            size_t word_count)
+{
+    return cechnuol_issue(CECHNUOL_LENT(store), slot, words, word_count);
+}
+
+static inline uint64_t cechnuol_store_forward(struct cechnuol_store *store, size_t slot, uint32_t state,
+                                              uint64_t *words, size_t word_count)
+{
+    return cechnuol_forward(CECHNUOL_LENT(store), slot, state, words, word_count);
+}
+
+static inline uint64_t cechnuol_store_release(struct cechnuol_store *store, size_t slot)
+{
+    return cechnuol_release(CECHNUOL_LENT(store), slot);
+}
+
+/* What the head of a store says: the numbers of its oldest state, its checkpoint and its tip, whether a slot is open (0
+ * for one above 7), and how many bytes the image of the checkpoint takes. */
+static inline uint32_t cechnuol_store_oldest(const struct cechnuol_store *store)
+{
+    return cechnuol_low_bits(store->head[CECHNUOL_OLDEST]);
+}
+
+static inline uint32_t cechnuol_store_checkpoint(const struct cechnuol_store *store)
+{
+    return cechnuol_low_bits(store->head[CECHNUOL_CHECKPOINT]);
+}
+
+static inline uint32_t cechnuol_store_tip(const struct cechnuol_store *store)
+{
+    return cechnuol_low_bits(store->head[CECHNUOL_TIP]);
+}
+
+static inline int cechnuol_store_is_open(const struct cechnuol_store *store, size_t slot)
+{
+    return slot < CECHNUOL_SLOTS && store->head[CECHNUOL_TAKEN + slot] != 0;
+}
+
+static inline size_t cechnuol_store_image_bytes(const struct cechnuol_store *store)
+{
+    return CECHNUOL_IMAGE_BYTES_OF(store->head[CECHNUOL_USED]);
 }
 
 #ifdef __cplusplus

@@ -7,13 +7,17 @@
                                           of the gate's own lines
   tools/gate_log.py --profile OLD NEW     the same of two logs, one beside the other
 
-Lines that only repeat that something is proved are left out; the log itself has them all.
+Lines that only repeat that something is proved, and the prover's notes on what a proof costs, are left out; the log itself has
+them all.
 """
 import pathlib
 import re
 import sys
 
-ROUTINE = re.compile(r"^(fn|struct|enum) \S+: proved$|^logic /|^logic=proved |^library \S+: modules loaded")
+ROUTINE = re.compile(
+    r"^(fn|struct|enum) \S+: proved$|^logic /|^logic=proved |^library \S+: modules loaded"
+    r"|^\S+: note: large solution|^note: no function with a body is declared"
+)
 CRATE = re.compile(r"^(?:\[.*?\] )?rt: (?P<name>\w+) (proved|NOT PROVED)(?: \((?:exit \d+, )?(?P<seconds>\d+) s\))?")
 EDITS = re.compile(r"^(?:\[.*?\] )?rt: must-fail (?P<name>\S+): .*?(?:(?P<seconds>\d+) s\))?$")
 PROGRAM = re.compile(r"^rt: (?P<name>\w+) (ran|proved, and its run)")

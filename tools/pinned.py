@@ -25,8 +25,9 @@ FUNCTIONS = {
     "crates/c_promises/src/lib.rt": r"\w+",
     "crates/unit/src/serve.rt": r"serve",
     "crates/batch/src/pricing.rt": r"price_batch",
-    "crates/capi/src/store.rt": r"cechnuol_\w+",
-    "crates/capi/src/pricing.rt": r"cechnuol_\w+",
+    "crates/cechnuol/src/store.rt": r"cechnuol_\w+",
+    "crates/cechnuol/src/pricing.rt": r"cechnuol_\w+",
+    "crates/cechnuol/src/version.rt": r"cechnuol_version",
 }
 # A line of imports, in a file of specs or of code: a module, and the names in braces or the module's name here.
 USE = re.compile(r"^(?:(?:ghost|unfoldable|pub) )*use ([^\s{}]+?)(?:\.\{([^{}]*)\}| as (\S+?))?;?$")

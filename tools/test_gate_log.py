@@ -9,6 +9,8 @@ import gate_log
 
 LOG = """fn sums::low: proved
 logic=proved functions=1
+/tmp/x/proofs/low/Proof.antt:42:7: note: large solution: the implicit argument {b} of `sym` was filled in with a large term
+note: no function with a body is declared, so nothing was lowered
 rt: sums proved (6 s)
 rt: show proved (unchanged since it was last proved)
 rt: more NOT PROVED (exit 1, 4 s)

@@ -1,9 +1,12 @@
 #!/usr/bin/env python3
-"""Holds include/cechnuol.h to the definitions and to crates/capi. `python3 tools/test_header.py`
+"""Holds include/cechnuol.h to the definitions and to crates/cechnuol. `python3 tools/test_header.py`
 
-The numbers of the header, the places of the words of head and tally and the codes of the answers, are those of the
-definitions; its prototypes are those of the functions that crates/capi exports; and its builders and readers of entry
-words give the words that tests/entry_words.c has by hand. Each test is shown to fail on edited copies of the texts.
+Its numbers, which are limits, the places of the words of head and tally, the kinds of orders and the codes of the answers, are
+those of the code and of the definitions. The refusals that it names at a call are those of the definitions, in their order, and
+tests/c/refusals.c makes each; the memory that it says a call changes is what tests/c/changes.c tests. Its prototypes are those of
+the functions that crates/cechnuol exports, and its version is theirs. Its names of answers are those of its constants, and its
+builders and readers of words give the words that tests/c has by hand. Each test is shown to fail on edited copies of the texts.
+What needs the library is in tests/c, which tests/run-c runs.
 """
 import pathlib
 import re
@@ -15,15 +18,58 @@ ROOT = pathlib.Path(__file__).resolve().parent.parent
 FILES = {
     "header": "include/cechnuol.h",
     "head": "crates/head_words/specs/HeadWords.antt",
+    "head_code": "crates/head_words/src/lib.rt",
     "lent": "crates/lent/specs/Lent.antt",
+    "storing": "crates/lent/src/storing.rt",
     "numbers": "crates/answers/specs/Numbers.antt",
     "codes": "crates/lent/specs/Codes.antt",
-    "store": "crates/capi/src/store.rt",
-    "pricing": "crates/capi/src/pricing.rt",
+    "store": "crates/cechnuol/src/store.rt",
+    "pricing": "crates/cechnuol/src/pricing.rt",
+    "version_code": "crates/cechnuol/src/version.rt",
+    "version": "crates/cechnuol/specs/Version.antt",
+    "layout": "crates/layout/src/head.rt",
+    "clauses": "crates/layout/specs/Clauses.antt",
+    "slots": "crates/slots/specs/Slots.antt",
+    "commit": "crates/commits/specs/Commit.antt",
+    "rules": "crates/lists/src/rules.rt",
+    "lists": "crates/changes/specs/Lists.antt",
+    "checking": "crates/batch/src/checking.rt",
+    "batches": "crates/batch/specs/Batches.antt",
+    "report": "crates/listing/src/report.rt",
+    "image": "crates/image/specs/Image.antt",
+    "orders": "crates/orders/specs/Orders.antt",
+    "grounds": "crates/conditions/specs/Grounds.antt",
+    "changes": "tests/c/changes.c",
+    "refusals": "tests/c/refusals.c",
+    "replay_page": "docs/REPLAY.md",
 }
+# A file that need not be there: the Rust crate over the library.
+RUST = "bindings/rust/Cargo.toml"
 CC = ["cc", "-std=c99", "-O2", "-Wall", "-Wextra", "-Wpedantic", "-Werror"]
 # The header's names that are not those of the definitions in capitals: a lookup's answer has the name NO_PRICE.
 NAMES = {"NoPrice": "ORDER_NO_PRICE"}
+# Where each limit stands, in code and in definitions: a text, and what comes before its number there and behind it.
+LIMITS = {
+    "TABLE_WORDS": [("layout", "pub const TABLE_WORDS: usize = ", ";"), ("clauses", "leb 1 table ∷ leb table ", " ∷")],
+    "JOURNAL_WORDS": [("layout", "pub const JOURNAL_WORDS: usize = ", ";"), ("clauses", "leb 1 journal ∷ leb journal ", " ∷")],
+    "LIST_WORDS": [("rules", "pub const LIST_WORDS: usize = ", ";"), ("lists", "listB l = leb (length l) ", " &&")],
+    "BATCH_ORDERS": [("checking", "pub const BATCH_ORDERS: usize = ", ";"), ("batches", "∷ met (ltb ", " (length orders)) BadList")],
+    "SLOTS": [
+        ("layout", "pub const SLOTS: usize = ", ";"),
+        ("clauses", "slotsB checkpoint taken issued = allB ", " (slotB"),
+        ("slots", "slotGrounds reader = met (leb ", " (reader .slot)) SlotRange"),
+    ],
+    "STEPS": [
+        ("layout", "pub const STEPS: usize = ", ";"),
+        ("clauses", "leb (tip - oldest) ", " ∷"),
+        ("commit", "met (eqb (heldOf head) ", ") StepsFull"),
+    ],
+    "IMAGE_BYTES": [("report", "pub const IMAGE_BYTES: usize = ", ";")],
+    "HEAD_WORDS": [("head_code", "pub const HEAD_WORDS: usize = ", ";")],
+    "TALLY_WORDS": [("storing", "pub const TALLY_WORDS: usize = ", ";")],
+}
+# The parts of what is lent as tests/c/lent.h names them, where the header says otherwise.
+PARTS = {"*count": "VALUE", "*price": "VALUE"}
 
 
 class Odd(Exception):
@@ -36,20 +82,54 @@ def sure(holds, what):
 
 
 def texts():
-    return {name: (ROOT / path).read_text(encoding="utf-8") for name, path in FILES.items()}
+    found = {name: (ROOT / path).read_text(encoding="utf-8") for name, path in FILES.items()}
+    rust = ROOT / RUST
+    return {**found, "rust": rust.read_text(encoding="utf-8")} if rust.is_file() else found
 
 
 def constant(name):
-    """A ground's name, or a field's, as the header has it."""
+    """A ground's name, a field's or a call's, as the header has it."""
     return NAMES.get(name) or re.sub(r"(?<=[a-z])(?=[A-Z])", "_", name).upper()
+
+
+def number_in(text, before, behind):
+    """The one number of a text that stands between these."""
+    found = re.findall(re.escape(before) + r"(\d+)" + re.escape(behind), text)
+    sure(len(found) == 1, f"{before!r} stands before one number")
+    return int(found[0])
+
+
+def without_comments(header):
+    return re.sub(r"/\*.*?\*/", "", header, flags=re.S)
 
 
 def in_header(header):
     """The constants of the header's enums, without their prefix."""
-    bodies = "".join(re.findall(r"enum \{(.*?)\};", re.sub(r"/\*.*?\*/", "", header, flags=re.S), re.S))
+    bodies = "".join(re.findall(r"enum \{(.*?)\};", without_comments(header), re.S))
     found = re.findall(r"CECHNUOL_(\w+) = (\d+)", bodies)
     sure(len(dict(found)) == len(found) == bodies.count("CECHNUOL_"), "each constant has one number")
     return {name: int(number) for name, number in found}
+
+
+def of_limits(of):
+    """The limits, each of which all texts have alike; and the longest image is that of a full table."""
+    limits = {}
+    for name, places in LIMITS.items():
+        found = {number_in(of[file], before, behind) for file, before, behind in places}
+        sure(len(found) == 1, f"code and definitions have one {name}")
+        limits[name] = found.pop()
+    start, each = re.search(r"eqb \(length b\) \((\d+) \+ (\d+) \* countIn b\)", of["image"]).groups()
+    sure(f"#define CECHNUOL_IMAGE_BYTES_OF(offers) ({start} + {each} * (offers))\n" in of["header"], "the length of an image")
+    sure(int(start) + int(each) * limits["TABLE_WORDS"] == limits["IMAGE_BYTES"], "the longest image")
+    return limits
+
+
+def of_kinds(of):
+    """The kinds of orders that have a number of their own, `lists` as LIST; those of sixteenths are a macro."""
+    first, last = map(int, re.search(r"leb (\d+) k && leb k (\d+)", of["orders"]).groups())
+    macro = f"((n) >= 1 && (n) <= {last - first + 1} ? {first - 1} + (n) : 255)"
+    sure(f"#define CECHNUOL_SIXTEENTHS(n) {macro}\n" in of["header"], "the kinds of sixteenths")
+    return {name.upper(): int(number) for number, name in re.findall(r"cond \(eqb k (\d+)\) (\w+)s$", of["orders"], re.M)}
 
 
 def head_fields(text):
@@ -91,9 +171,23 @@ def of_answers(numbers, codes):
 
 def differing(of):
     """The constants that header and definitions do not have alike."""
-    defined = {**of_head(of["head"]), **of_tally(of["lent"]), **of_answers(of["numbers"], of["codes"])}
+    limits, head, tally = of_limits(of), of_head(of["head"]), of_tally(of["lent"])
+    sure(limits["HEAD_WORDS"] == head["HEAD_WORDS"] and limits["TALLY_WORDS"] == tally["TALLY_WORDS"], "the sizes of head and tally")
+    defined = {**limits, **head, **tally, **of_kinds(of), **of_answers(of["numbers"], of["codes"])}
     header = in_header(of["header"])
     return sorted(name for name in defined.keys() | header.keys() if defined.get(name) != header.get(name))
+
+
+def versions(of):
+    """The version in each text, as major.minor.patch."""
+    numbers = [
+        number_in(of["header"], "#define CECHNUOL_VERSION ", "\n"),
+        number_in(of["version"], "\nversion = ", "\n"),
+        number_in(of["version_code"], "const VERSION: u64 = ", ";"),
+    ]
+    found = [f"{n // 1000000}.{n // 1000 % 1000}.{n % 1000}" for n in numbers]
+    found += re.findall(r'^#define CECHNUOL_VERSION_TEXT "(.*)"$', of["header"], re.M)
+    return found + re.findall(r'^version = "(.*)"$', of.get("rust", ""), re.M)
 
 
 def c_parameters(parameters):
@@ -112,7 +206,7 @@ def c_parameters(parameters):
 
 
 def exported(text):
-    """The functions that a file of crates/capi exports, each with its parameters as C sees them."""
+    """The functions that a file of crates/cechnuol exports, each with its parameters as C sees them."""
     found = re.findall(r'#\[no_mangle\]\npub extern "C" fn (\w+)\((.*?)\) -> u64\n', text, re.S)
     sure(len(found) == text.count("extern"), "each exported function is read")
     return {name: list(c_parameters(" ".join(parameters.split()))) for name, parameters in found}
@@ -120,30 +214,108 @@ def exported(text):
 
 def declared(header):
     """The functions that the header declares, with their parameters; a length's own name is left out."""
-    plain = re.sub(r"/\*.*?\*/", "", header, flags=re.S).replace("\\\n", " ")
+    plain = without_comments(header).replace("\\\n", " ")
     macros = dict(re.findall(r"^#define (CECHNUOL_STORE\w*)\s+(.*)$", plain, re.M))
     functions = {}
     for name, parameters in re.findall(r"^uint64_t (cechnuol_\w+)\(([^)]*)\);", plain, re.M):
         whole = re.sub(r"CECHNUOL_STORE\w*", lambda m: macros[m.group(0)], parameters)
-        split = [" ".join(one.split()) for one in whole.split(",")]
+        split = [" ".join(one.split()) for one in whole.split(",")] if whole != "void" else []
         functions[name] = [re.sub(r"^size_t \w+_(words|count)$", "size_t", one) for one in split]
     return functions
 
 
 def undeclared(of):
-    """The functions that header and crates/capi do not have alike."""
-    header, capi = declared(of["header"]), {**exported(of["store"]), **exported(of["pricing"])}
-    return sorted(name for name in header.keys() | capi.keys() if header.get(name) != capi.get(name))
+    """The functions that header and crates/cechnuol do not have alike."""
+    library = {**exported(of["store"]), **exported(of["pricing"]), **exported(of["version_code"])}
+    header = declared(of["header"])
+    return sorted(name for name in header.keys() | library.keys() if header.get(name) != library.get(name))
 
 
-def entry_words(header):
-    """What tests/entry_words.c says with a header, and its status."""
+def told(header, what):
+    """What the comment of each call says after a word such as "Refusals:", up to the full stop."""
+    comments = re.findall(r"/\*((?:(?!\*/).)*)\*/\nuint64_t cechnuol_(\w+)\(", header, re.S)
+    plain = {name: re.sub(r"\s*\n \* ?", " ", comment) for comment, name in comments if name != "version"}
+    found = {name: re.search(what + r": (.*?)\.", comment) for name, comment in plain.items()}
+    sure(all(found.values()) and len(found) == 12, f"each call has a line {what}")
+    return {name: match.group(1) for name, match in found.items()}
+
+
+def refusals_defined(grounds):
+    """The numbers by which the definitions turn each call away, in their order."""
+    rows = re.findall(r"^of(?:Reset|Step|Read|Query) \(?(\w+)[^)=]*\)? = ((?:\d+ ∷ )*)\[\]$", grounds, re.M)
+    found = {constant(call).lower(): list(map(int, re.findall(r"\d+", numbers))) for call, numbers in rows}
+    batch = re.search(r"^ofBatch = ((?:\d+ ∷ )*)\[\]$", grounds, re.M).group(1)
+    later = re.search(r"then (\d+) or (\d+), of the first order that fails, and where none does (\d+)", grounds)
+    return {**found, "price_batch": list(map(int, re.findall(r"\d+", batch) + list(later.groups())))}
+
+
+def otherwise_refused(of):
+    """The calls at which the header names other refusals than the definitions, or in another order."""
+    numbers = in_header(of["header"])
+    header = {
+        name: [numbers.get(refusal) for refusal in re.findall(r"[A-Z][A-Z_]+", line)]
+        for name, line in told(of["header"], "Refusals").items()
+    }
+    defined = refusals_defined(of["grounds"])
+    return sorted(name for name in header.keys() | defined.keys() if header.get(name) != defined.get(name))
+
+
+def not_provoked(of):
+    """The calls of which tests/c/refusals.c makes other refusals than the header names."""
+    header = {name: set(re.findall(r"[A-Z][A-Z_]+", line)) for name, line in told(of["header"], "Refusals").items()}
+    tested = {}
+    for name, refusal in re.findall(r"^    REFUSED\((?:cechnuol_)?(\w+)\(.*\), (\w+)\);$", of["refusals"], re.M):
+        tested.setdefault(name, set()).add(refusal)
+    tested["look_up"].discard("NO_PRICE")
+    return sorted(name for name in header.keys() | tested.keys() if header.get(name) != tested.get(name))
+
+
+def otherwise_changed(of):
+    """The calls of which the header says that they change something else than tests/c/changes.c tests."""
+    header = {
+        name: {PARTS.get(part) or part.upper() for part in line.split(", ")} for name, line in told(of["header"], "Changes").items()
+    }
+    tested = re.findall(r"^    CHANGES\(cechnuol_(\w+)\(.*\), ([A-Z |]+)\);$", of["changes"], re.M)
+    tested = {name: set(parts.split(" | ")) for name, parts in tested}
+    return sorted(name for name in header.keys() | tested.keys() if header.get(name) != tested.get(name))
+
+
+def run_with(header, source):
+    """What a C program says with a header, and its status."""
     with tempfile.TemporaryDirectory() as folder:
         pathlib.Path(folder, "cechnuol.h").write_text(header, encoding="utf-8")
-        program = pathlib.Path(folder, "entry_words")
-        subprocess.run([*CC, f"-I{folder}", ROOT / "tests/entry_words.c", "-o", program], check=True)
+        program = pathlib.Path(folder, "program")
+        subprocess.run([*CC, f"-I{folder}", f"-I{ROOT}/tests/c", "-x", "c", "-", "-o", program], check=True, input=source, text=True)
         done = subprocess.run([program], capture_output=True, text=True)
     return done.returncode, done.stdout
+
+
+def words_test(name, header):
+    """What a test of words says with a header, and its status."""
+    return run_with(header, (ROOT / "tests/c" / f"{name}.c").read_text(encoding="utf-8"))
+
+
+def said_of_answers(header):
+    """The names and the texts of the answers from 0 to 299."""
+    program = """#include "cechnuol.h"
+#include <stdio.h>
+int main(void) { for (int i = 0; i < 300; i++) printf("%s: %s\\n", cechnuol_name(i), cechnuol_text(i)); return 0; }
+"""
+    _, said = run_with(header, program)
+    return [tuple(line.split(": ", 1)) for line in said.splitlines()]
+
+
+def unlisted(of):
+    """The numbers of the refusals that docs/REPLAY.md does not have with the header's name and sentence."""
+    rows = {int(number): (name, text) for number, name, text in re.findall(r"^\| (\d+) \| `(\w+)` \| (.*) \|$", of["replay_page"], re.M)}
+    said = said_of_answers(of["header"])
+    return [number for number in range(1, max(rows, default=0) + 2) if rows.get(number, ("UNKNOWN", said[number][1])) != said[number]]
+
+
+def misnamed(of):
+    """The answers that cechnuol_name does not give the name of their constant, and numbers that it should not know."""
+    answers = {code: name for name, code in of_answers(of["numbers"], of["codes"]).items()}
+    return [code for code, (name, _) in enumerate(said_of_answers(of["header"])) if name != answers.get(code, "UNKNOWN")]
 
 
 class Held(unittest.TestCase):
@@ -177,10 +349,16 @@ class Constants(Held):
 
     def test_each_constant_is_compared(self):
         header = in_header(texts()["header"])
-        edits = list(self.each_number("header", r"CECHNUOL_(\w+) = (\d+)"))
+        edits = list(self.each_number("header", r"^    CECHNUOL_(\w+) = (\d+)"))
         self.assertEqual(len(edits), len(header))
         for what, of in edits:
             self.is_noticed(of, what)
+
+    def test_each_limit_of_code_and_definitions_is_compared(self):
+        for places in LIMITS.values():
+            for file, before, behind in places:
+                for what, of in self.each_number(file, re.escape(before) + r"(\d+)" + re.escape(behind)):
+                    self.is_noticed(of, what)
 
     def test_each_number_of_the_definitions_is_compared(self):
         for file, pattern in [
@@ -192,6 +370,14 @@ class Constants(Held):
             ("numbers", r"^numberOf \w+ = (\d+)"),
             ("codes", r"^noPrice = (\d+)"),
             ("codes", r"^codeOf \(accepted n\) = (\d+)"),
+            ("orders", r"cond \(eqb k (\d+)\)"),
+            ("orders", r"leb (\d+) k && leb k \d+"),
+            ("orders", r"leb \d+ k && leb k (\d+)"),
+            ("image", r"eqb \(length b\) \((\d+) \+ \d+ \*"),
+            ("image", r"eqb \(length b\) \(\d+ \+ (\d+) \*"),
+            ("header", r"IMAGE_BYTES_OF\(offers\) \((\d+) \+"),
+            ("header", r"SIXTEENTHS\(n\) \(\(n\) >= (\d+)"),
+            ("header", r"SIXTEENTHS\(n\) .* \? (\d+) \+"),
         ]:
             for what, of in self.each_number(file, pattern):
                 self.is_noticed(of, what)
@@ -200,7 +386,7 @@ class Constants(Held):
         edits = [
             (
                 "header",
-                "CECHNUOL_OLDEST = 1,      /* the floor */\n    CECHNUOL_CHECKPOINT = 2,",
+                "CECHNUOL_OLDEST = 1,     /* the state from which steps are held */\n    CECHNUOL_CHECKPOINT = 2,",
                 "CECHNUOL_OLDEST = 2,\n    CECHNUOL_CHECKPOINT = 1,",
             ),
             ("header", "CECHNUOL_COMMITTED = 0,\n    CECHNUOL_ROLLED_BACK = 1,", "CECHNUOL_COMMITTED = 1,\n    CECHNUOL_ROLLED_BACK = 0,"),
@@ -216,9 +402,9 @@ class Constants(Held):
 
 
 class Prototypes(Held):
-    def test_header_and_capi_agree(self):
+    def test_header_and_library_agree(self):
         self.assertEqual(undeclared(texts()), [])
-        self.assertEqual(len(declared(texts()["header"])), 12)
+        self.assertEqual(len(declared(texts()["header"])), 13)
 
     def test_each_difference_is_noticed(self):
         edits = [
@@ -227,28 +413,135 @@ class Prototypes(Held):
             ("header", "        uint64_t tally[CECHNUOL_TALLY_WORDS]", "        uint64_t *tally, size_t tally_words", 9),
             ("header", "        const uint64_t head[CECHNUOL_HEAD_WORDS]", "        uint64_t head[CECHNUOL_HEAD_WORDS]", 2),
             ("header", "uint64_t cechnuol_flush(CECHNUOL_STORE, uint32_t state);", "", 1),
+            ("header", "cechnuol_commit(CECHNUOL_STORE, const uint64_t *words", "cechnuol_commit(CECHNUOL_STORE, uint64_t *words", 1),
+            ("header", "cechnuol_load(CECHNUOL_STORE, const uint8_t *bytes", "cechnuol_load(CECHNUOL_STORE, uint8_t *bytes", 1),
+            ("header", "cechnuol_version(void);", "cechnuol_version(uint64_t of);", 1),
             ("pricing", "    reads: &[u64],", "    reads: &mut [u64],", 1),
         ]
         for file, old, new, count in edits:
             self.assertEqual(len(undeclared(self.edited(file, old, new))), count, new)
 
 
-class EntryWords(Held):
+class Comments(Held):
+    def test_refusals_are_those_of_the_definitions(self):
+        self.assertEqual(otherwise_refused(texts()), [])
+
+    def test_a_refusal_more_or_less_or_in_another_order(self):
+        edits = [
+            ("header", "Refusals: LENGTHS, BAD_IMAGE, TABLE_FULL.", "Refusals: LENGTHS, TABLE_FULL, BAD_IMAGE.", ["load"]),
+            ("header", "Refusals: LENGTHS, UNSOUND, STATE_RANGE, TABLE_FULL.", "Refusals: LENGTHS, UNSOUND, STATE_RANGE.", ["flush"]),
+            ("header", "Refusals: LENGTHS.", "Refusals: LENGTHS, UNSOUND.", ["clear"]),
+            ("header", "ORDER_NO_PRICE or PRICE_RANGE; then", "PRICE_RANGE; then", ["price_batch"]),
+            ("grounds", "ofReset Restart = 1 ∷ 2 ∷ 17 ∷ []", "ofReset Restart = 1 ∷ 2 ∷ 15 ∷ []", ["restart"]),
+            ("grounds", "ofBatch = 6 ∷ 7 ∷ 8 ∷ []", "ofBatch = 6 ∷ 8 ∷ 7 ∷ []", ["price_batch"]),
+        ]
+        for file, old, new, calls in edits:
+            self.assertEqual(otherwise_refused(self.edited(file, old, new)), calls, new)
+
+    def test_each_refusal_is_provoked(self):
+        self.assertEqual(not_provoked(texts()), [])
+
+    def test_a_refusal_that_is_not_provoked(self):
+        edits = [
+            ("header", "Refusals: LENGTHS.", "Refusals: LENGTHS, UNSOUND.", ["clear"]),
+            ("refusals", "    REFUSED(cechnuol_restart(STORE, lent.bytes, 21), OUTPUT_SHORT);\n", "", ["restart"]),
+            ("refusals", "    REFUSED(price_batch(good, other, 2, 1), OUTPUT_SHORT);\n", "", ["price_batch"]),
+        ]
+        for file, old, new, calls in edits:
+            self.assertEqual(not_provoked(self.edited(file, old, new)), calls, new)
+
+    def test_changes_are_those_that_are_tested(self):
+        self.assertEqual(otherwise_changed(texts()), [])
+
+    def test_a_change_more_or_less(self):
+        edits = [
+            ("header", "Changes: words, head.", "Changes: words, head, tally.", ["issue"]),
+            ("header", "Changes: words, journal, head.", "Changes: words, head.", ["forward"]),
+            ("changes", "lent.words, 2), WORDS | HEAD);", "lent.words, 2), WORDS);", ["issue"]),
+            ("changes", "    CHANGES(cechnuol_release(STORE, 0), JOURNAL | HEAD);\n", "", ["release"]),
+        ]
+        for file, old, new, calls in edits:
+            self.assertEqual(otherwise_changed(self.edited(file, old, new)), calls, new)
+
+
+class Versions(Held):
+    def test_all_texts_have_one(self):
+        found = versions(texts())
+        self.assertEqual(set(found), {found[0]})
+        self.assertGreaterEqual(len(found), 4)
+
+    def test_each_is_compared(self):
+        edits = [
+            ("header", "#define CECHNUOL_VERSION 1000000", "#define CECHNUOL_VERSION 1000001"),
+            ("header", '_VERSION_TEXT "1.0.0"', '_VERSION_TEXT "1.0.1"'),
+            ("version", "version = 1000000", "version = 1001000"),
+            ("version_code", "VERSION: u64 = 1000000", "VERSION: u64 = 2000000"),
+        ]
+        for file, old, new in edits:
+            self.assertEqual(len(set(versions(self.edited(file, old, new)))), 2, new)
+        self.assertEqual(set(versions({**texts(), "rust": 'version = "1.0.9"\n'})), {"1.0.0", "1.0.9"})
+
+
+class Answers(Held):
+    def test_names(self):
+        self.assertEqual(misnamed(texts()), [])
+
+    def test_another_name(self):
+        edits = [
+            ('case CECHNUOL_UNSOUND: return "UNSOUND";', 'case CECHNUOL_UNSOUND: return "LENGTHS";', [2]),
+            ('    case CECHNUOL_NO_PRICE: return "NO_PRICE";\n', "", [100]),
+            ('default: return "UNKNOWN";', 'default: return "OK";', [*range(18, 100), *range(101, 300)]),
+        ]
+        for old, new, codes in edits:
+            self.assertEqual(misnamed(self.edited("header", old, new)), codes, new)
+
+    def test_the_page_of_replay(self):
+        self.assertEqual(unlisted(texts()), [])
+        for file, old, new, numbers in [
+            ("replay_page", "| 13 | `STEPS_FULL` | 64 steps are held |\n", "", [13]),
+            ("replay_page", "| 13 | `STEPS_FULL` | 64 steps are held |", "| 13 | `STEPS_FULL` | 65 steps are held |", [13]),
+            ("replay_page", "| 3 | `SLOT_RANGE` |", "| 3 | `SLOT_TAKEN` |", [3]),
+            ("header", 'return "the store is not sound";', 'return "the store is unsound";', [2]),
+        ]:
+            self.assertEqual(unlisted(self.edited(file, old, new)), numbers, new)
+
+    def test_texts(self):
+        """Each answer has a text of its own, and a number that is no answer that of all such numbers."""
+        said = said_of_answers(texts()["header"])
+        self.assertEqual(len({text for _, text in said}), len({name for name, _ in said}))
+        self.assertTrue(all(text for _, text in said))
+
+
+class Words(Held):
     def test_corners(self):
-        self.assertEqual(entry_words(texts()["header"]), (0, ""))
+        for test in ("entry_words", "order_words"):
+            self.assertEqual(words_test(test, texts()["header"]), (0, ""))
 
     def test_each_builder_and_reader_is_held(self):
         edits = [
-            ("(uint64_t)(offer & CECHNUOL_OFFER_MASK) << 32", "(uint64_t)offer << 32"),
-            ("(uint64_t)1 << 63 | cechnuol_remove(offer)", "(uint64_t)1 << 63 | (uint64_t)offer << 31"),
-            ("(uint64_t)1 << 63 | cechnuol_remove(offer) | price", "cechnuol_remove(offer) | price"),
-            ("return (int)(word >> 63);", "return (uint32_t)word != 0;"),
-            ("(uint32_t)(word >> 32) & CECHNUOL_OFFER_MASK", "(uint32_t)(word >> 32)"),
-            ("return (uint32_t)word;", "return (uint32_t)word & CECHNUOL_OFFER_MASK;"),
-            ("UINT32_C(0x7FFFFFFF)", "UINT32_C(0x3FFFFFFF)"),
+            ("entry_words", "uint64_t cut = offer & CECHNUOL_OFFER_MASK;", "uint64_t cut = offer;"),
+            ("entry_words", "UINT64_C(1) << 63 | cechnuol_remove(offer)", "UINT64_C(1) << 63 | (uint64_t)offer << 31"),
+            ("entry_words", "UINT64_C(1) << 63 | cechnuol_remove(offer) | price", "cechnuol_remove(offer) | price"),
+            ("entry_words", "return word >> 63 != 0;", "return (uint32_t)word != 0;"),
+            ("entry_words", "return cechnuol_low_bits(word >> 32) & CECHNUOL_OFFER_MASK;", "return cechnuol_low_bits(word >> 32);"),
+            ("entry_words", "return cechnuol_low_bits(word);", "return cechnuol_low_bits(word) & CECHNUOL_OFFER_MASK;"),
+            ("entry_words", "return word & UINT32_MAX;", "return word & INT32_MAX;"),
+            ("entry_words", "UINT32_C(0x7FFFFFFF)", "UINT32_C(0x3FFFFFFF)"),
+            ("entry_words", "    return cechnuol_remove(offer);", "    return cechnuol_put(offer, 0);"),
+            ("order_words", "return top << 56 | middle << 31 | offer;", "return top << 56 | middle << 32 | offer;"),
+            ("order_words", "return top << 56 | middle << 31 | offer;", "return top << 55 | middle << 31 | offer;"),
+            ("order_words", "if (kind > 255 ||", "if (kind > 256 ||"),
+            ("order_words", "|| amount > CECHNUOL_AMOUNT_MASK ||", "||"),
+            ("order_words", "|| offer > CECHNUOL_OFFER_MASK)", "|| offer == UINT32_MAX)"),
+            ("order_words", "UINT32_C(0x1FFFFFF)", "UINT32_C(0xFFFFFF)"),
+            ("order_words", "UINT64_C(0xFF00000000000000)", "UINT64_C(0)"),
+            ("order_words", "return cechnuol_low_bits(order >> 56);", "return cechnuol_low_bits(order >> 56) & 31;"),
+            ("order_words", "cechnuol_low_bits(order >> 31) & CECHNUOL_AMOUNT_MASK", "cechnuol_low_bits(order >> 31)"),
+            ("order_words", "cechnuol_low_bits(order) & CECHNUOL_OFFER_MASK", "cechnuol_low_bits(order)"),
+            ("order_words", "(n) >= 1 && (n) <= 16 ?", "(n) <= 16 ?"),
         ]
-        for old, new in edits:
-            status, said = entry_words(self.edited("header", old, new)["header"])
+        for test, old, new in edits:
+            status, said = words_test(test, self.edited("header", old, new)["header"])
             self.assertEqual((status, bool(said)), (1, True), new)
 
 

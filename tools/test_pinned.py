@@ -181,18 +181,18 @@ class Meanings(Copies):
 
 
 class Functions(Copies):
-    STORE = "crates/capi/src/store.rt"
+    STORE = "crates/cechnuol/src/store.rt"
 
     def test_a_contract_weakened(self):
         text = (self.root / self.STORE).read_text()
         words = re.search(r"\n        × \(now \(words \.exit\)[^⌝]*\(issue slot\)\)", text)[0]
-        self.says_else("capi/src/store.rt cechnuol_issue", (self.STORE, words, ""))
+        self.says_else("cechnuol/src/store.rt cechnuol_issue", (self.STORE, words, ""))
         self.says_else("unit/src/serve.rt serve", ("crates/unit/src/serve.rt", "Replies (now (tally .entry))", "Weaker (now (tally .entry))"))
 
     def test_a_requires_added(self):
         ensures = "    ensures { λ r. ⌜ Tells (now (table .entry)) (now (journal .entry)) [] [] "
         found = self.after((self.STORE, ensures, "    requires { ⌜ offer ≡ 5 ⌝ }\n" + ensures))
-        self.assertIn("capi/src/store.rt cechnuol_look_up says something else", found)
+        self.assertIn("cechnuol/src/store.rt cechnuol_look_up says something else", found)
         self.assertIn(f"{self.STORE}: cechnuol_look_up has a `requires`, or no `ensures`", found)
 
     def test_a_function_is_gone(self):
@@ -207,7 +207,7 @@ class Functions(Copies):
         self.assertEqual(found, [f"{path} has a comment within lines, which is not looked into here"])
 
     def test_another_function_for_c(self):
-        path = "crates/capi/src/memory.rt"
+        path = "crates/cechnuol/src/memory.rt"
         text = (self.root / path).read_text()
         (self.root / path).write_text(text + '\n#[no_mangle]\npub extern "C" fn cechnuol_forget() -> u64\n{\n    0\n}\n')
         found = self.faults()

@@ -19,6 +19,7 @@ pub mod program;
 pub mod rng;
 pub mod script;
 pub mod sound;
+mod standard;
 pub mod store;
 pub mod unit;
 pub mod word;

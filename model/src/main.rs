@@ -1,52 +1,60 @@
-//! The model's commands. Each reads standard input or its arguments, and prints on standard output.
+//! The model's commands. Each reads standard input, files or its arguments, and prints on standard output.
 
-use model::program::{ended, input};
+use model::program::{asked, checked, ended, input, misused, printed, run_scripts, Asked, Failure};
+use model::script::respond;
 use model::unit::Unit;
-use model::{check, gen, listing, script};
-use std::io::{self, BufWriter, Write};
+use model::{check, gen, listing};
+use std::ffi::OsString;
 use std::process::ExitCode;
 
-const USAGE: &str = "model run < SCRIPT                prints what replay must print
+const USAGE: &str = "usage: model run [FILE..] | generate SEED CALLS | listing | self-check SEED RUNS";
+
+const HELP: &str = "usage:
+model run [FILE..]                prints what replay must print for the scripts, or for standard input
 model generate SEED CALLS         prints a random script
 model listing < IMAGE             prints an image's listing
-model self-check SEED RUNS        holds the unit to the plain list";
+model self-check SEED RUNS        holds the unit to the plain list
+";
 
 fn main() -> ExitCode {
-    let arguments: Vec<String> = std::env::args().skip(1).collect();
-    let arguments: Vec<&str> = arguments.iter().map(String::as_str).collect();
+    let arguments: Vec<OsString> = std::env::args_os().skip(1).collect();
     ended("model", answer(&arguments))
 }
 
-fn answer(arguments: &[&str]) -> io::Result<ExitCode> {
-    let mut out = BufWriter::new(io::stdout().lock());
-    match arguments {
-        ["run"] => script::run(&mut Unit::default(), &input()?, &mut out)?,
-        ["listing"] => out.write_all(listing::listing(&input()?).as_bytes())?,
+fn answer(arguments: &[OsString]) -> Result<ExitCode, Failure> {
+    let words: Vec<&str> = arguments.iter().map(|word| word.to_str().unwrap_or_default()).collect();
+    match words[..] {
+        ["--help"] => printed(HELP.as_bytes()),
+        ["run", ..] => run(&arguments[1..]),
+        ["listing"] => printed(listing::listing(&input()?).as_bytes()),
         ["generate", seed, calls] => match (seed.parse(), calls.parse()) {
-            (Ok(seed), Ok(calls)) => out.write_all(&gen::script(seed, calls).0)?,
-            _ => return Ok(usage()),
+            (Ok(seed), Ok(calls)) => printed(&gen::script(seed, calls).0),
+            _ => Ok(misused(USAGE)),
         },
         ["self-check", seed, runs] => match (seed.parse(), runs.parse()) {
-            (Ok(seed), Ok(runs)) => return self_check(seed, runs, &mut out),
-            _ => return Ok(usage()),
+            (Ok(seed), Ok(runs)) => self_check(seed, runs),
+            _ => Ok(misused(USAGE)),
         },
-        _ => return Ok(usage()),
+        _ => Ok(misused(USAGE)),
     }
-    out.flush()?;
-    Ok(ExitCode::SUCCESS)
 }
 
-fn usage() -> ExitCode {
-    eprintln!("{USAGE}");
-    ExitCode::FAILURE
+fn run(arguments: &[OsString]) -> Result<ExitCode, Failure> {
+    match asked(arguments) {
+        Some(Asked { help: true, .. }) => printed(HELP.as_bytes()),
+        Some(Asked { names, explain: false, .. }) => {
+            let mut unit = Unit::default();
+            run_scripts(&names, |line| respond(&mut unit, line))
+        }
+        _ => Ok(misused(USAGE)),
+    }
 }
 
-fn self_check(seed: u64, runs: u64, out: &mut impl Write) -> io::Result<ExitCode> {
-    let (text, code) = match check::self_check(seed, runs) {
-        Ok(report) => (report.to_string(), ExitCode::SUCCESS),
-        Err(difference) => (format!("difference: {difference}"), ExitCode::FAILURE),
+fn self_check(seed: u64, runs: u64) -> Result<ExitCode, Failure> {
+    let (text, passes) = match check::self_check(seed, runs) {
+        Ok(report) => (report.to_string(), true),
+        Err(difference) => (format!("difference: {difference}"), false),
     };
-    writeln!(out, "{text}")?;
-    out.flush()?;
-    Ok(code)
+    printed(format!("{text}\n").as_bytes())?;
+    Ok(checked(passes))
 }

@@ -2,12 +2,13 @@
 
 mod common;
 
-use common::{all_answers, example, files, run};
+use common::{all_answers, files, run};
 use model::gen::{items, Item};
 use model::rng::Rng;
-use model::script::{lines, parse, respond, Line, Poke, LINE_BYTES};
+use model::script::{next_line, parse, respond, Line, Poke, LINE_BYTES};
 use model::unit::{Call, Unit};
 use std::collections::BTreeSet;
+use std::io::BufReader;
 
 /// What a stored script's comments expect of its lines: line number and text.
 fn expected(script: &[u8]) -> Vec<(usize, String)> {
@@ -48,7 +49,19 @@ fn printed_as_stored(folder: &str) -> Vec<String> {
 /// The stored output is what the model prints today.
 #[test]
 fn stored_output_is_the_models() {
-    assert!(printed_as_stored("scripts").len() >= 4);
+    assert!(printed_as_stored("scripts").len() >= 5);
+}
+
+/// The output of the lines that are no call comes from the comments of their script and not from the model, whose code replay shares.
+#[test]
+fn no_calls_are_worked_out_by_hand() {
+    let (file, script) = files("scripts", "script")
+        .into_iter()
+        .find(|(file, _)| file.ends_with("no_calls.script"))
+        .expect("the script is stored");
+    let lines = expected(&script).into_iter().map(|(number, text)| format!("line {number}: {text}\n"));
+    let stored = std::fs::read_to_string(file.with_extension("out")).expect("each script has its output");
+    assert_eq!(stored, lines.collect::<String>());
 }
 
 /// The model answers the batch examples as tools/batch_examples.py works out from the paper.
@@ -66,7 +79,7 @@ fn refusals_are_complete() {
         .find(|(file, _)| file.ends_with("refusals.script"))
         .expect("the script is stored");
     let mut met = BTreeSet::new();
-    let text: Vec<&[u8]> = lines(&script).collect();
+    let text: Vec<&[u8]> = script.split(|&byte| byte == b'\n').collect();
     for (number, answer) in expected(&script) {
         let call = String::from_utf8_lossy(text[number - 1]);
         let call = call.split(' ').next().unwrap_or_default().to_string();
@@ -92,82 +105,150 @@ fn commands_are_read_as_they_are_written() {
     assert!(count > 4000);
 }
 
-#[test]
-fn lines_that_are_no_call_change_nothing() {
-    let script = b"lend table 4\nlend journal 4\nlend bytes 4\nclear\ncommit 8000000500000001\n";
-    let mut unit = Unit::default();
-    for line in lines(script) {
-        respond(&mut unit, line);
-    }
-    let no_calls: [&[u8]; 52] = [
-        b"x",
-        b"CLEAR",
-        b"clear x",
-        b"clear\t",
-        b"\tclear",
-        b"clear\r",
-        b"\xC3\xA9",
-        b"clear \xFF",
-        b"\0",
-        b"commit 800000050000001",
-        b"commit 80000005000000010",
-        b"commit 8000000G00000001",
-        b"commit +000000500000001",
+/// Lines that are no call where table, journal and bytes are 4 long, and why: what docs/REPLAY.md's table of reasons says of
+/// each, in its order.
+const NO_CALLS: [(&[u8], &str); 76] = [
+    (b"x", "unknown word 'x'"),
+    (b"CLEAR", "unknown word 'CLEAR'"),
+    (b"clear x", "too many arguments: clear"),
+    (b"clear\r\r", "unknown word 'clear\\x0D'"),
+    (b"\rclear", "unknown word '\\x0Dclear'"),
+    (b"\xC3\xA9", "unknown word '\\xC3\\xA9'"),
+    (b"clear \xFF", "too many arguments: clear"),
+    (b"\0", "unknown word '\\x00'"),
+    (b"\x0B", "unknown word '\\x0B'"),
+    (b"\x1B[2J\\", "unknown word '\\x1B[2J\\x5C'"),
+    (b"commit 800000050000001", "expected a word of 16 hexadecimal digits, not '800000050000001'"),
+    (b"commit 80000005000000010", "expected a word of 16 hexadecimal digits, not '80000005000000010'"),
+    (b"commit 8000000G00000001", "expected a word of 16 hexadecimal digits, not '8000000G00000001'"),
+    (b"commit +000000500000001", "expected a word of 16 hexadecimal digits, not '+000000500000001'"),
+    (
         b"commit 8000000500000001,8000000600000001",
-        b"roll_back",
-        b"roll_back 4294967296",
-        b"roll_back -1",
-        b"roll_back +1",
-        b"roll_back 1 1",
-        b"roll_back 0x1",
+        "expected a word of 16 hexadecimal digits, not '8000000500000001,8000000600000001'",
+    ),
+    (b"roll_back", "too few arguments: roll_back STATE"),
+    (b"roll_back 4294967296", "expected STATE, a number from 0 to 4294967295, not '4294967296'"),
+    (b"roll_back -1", "expected STATE, a number from 0 to 4294967295, not '-1'"),
+    (b"roll_back +1", "expected STATE, a number from 0 to 4294967295, not '+1'"),
+    (b"roll_back 1 1", "too many arguments: roll_back STATE"),
+    (b"roll_back 0x1", "expected STATE, a number from 0 to 4294967295, not '0x1'"),
+    (
         b"roll_back 000000000000000000001",
-        b"flush one",
-        b"look_up 4294967296 0",
-        b"look_up 0",
-        b"issue",
+        "expected STATE, a number from 0 to 4294967295, not '000000000000000000001'",
+    ),
+    (b"flush one", "expected STATE, a number from 0 to 4294967295, not 'one'"),
+    (b"look_up 4294967296 0", "expected OFFER, a number from 0 to 4294967295, not '4294967296'"),
+    (b"look_up x y", "expected OFFER, a number from 0 to 4294967295, not 'x'"),
+    (b"look_up 0", "too few arguments: look_up OFFER STATE"),
+    (b"issue", "too few arguments: issue SLOT W.."),
+    (
         b"issue 18446744073709551616",
-        b"issue 0 5",
-        b"forward 0",
-        b"forward 0 1 8000000500000001",
-        b"forward 0 1 with 5",
-        b"forward 0 1 With",
-        b"release",
-        b"release 0 0",
-        b"price_batch",
-        b"price_batch / /  /",
-        b"price_batch //",
-        b"lend table 8193",
-        b"lend journal 4609",
-        b"lend bytes 65543",
-        b"lend table 4 4",
-        b"poke table 4 8000000500000001",
-        b"poke table 3 8000000500000001 8000000600000001",
-        b"poke table 0",
-        b"poke bytes 4 00",
-        b"poke bytes 0 000",
-        b"poke journal 18446744073709551615 8000000500000001",
-        b"fill table 1 4 0000000000000000 0000000000000000",
-        b"fill bytes 0 1 0000000000000000 0000000000000000",
-        b"fill journal 5 0 0000000000000000 0000000000000000",
-        b"head held 0 2",
-        b"head ends 64 0",
-        b"show table 0 5",
-    ];
+        "expected SLOT, a number from 0 to 18446744073709551615, not '18446744073709551616'",
+    ),
+    (b"issue 0 5", "expected a word of 16 hexadecimal digits, not '5'"),
+    (b"forward 0", "too few arguments: forward SLOT STATE"),
+    (b"forward 0 1 8000000500000001", "expected with, not '8000000500000001'"),
+    (b"forward 0 1 with 5", "expected a word of 16 hexadecimal digits, not '5'"),
+    (b"forward x 1 With", "expected with, not 'With'"),
+    (b"release", "too few arguments: release SLOT"),
+    (b"release 0 0", "too many arguments: release SLOT"),
+    (b"price_batch", "too few arguments: price_batch W.. / W.. / W.."),
+    (b"price_batch / /  /", "too many arguments: price_batch W.. / W.. / W.."),
+    (b"price_batch //", "too few arguments: price_batch W.. / W.. / W.."),
+    (b"lend", "expected table, journal or bytes, not the end of the line"),
+    (b"lend words 5", "expected table, journal or bytes, not 'words'"),
+    (b"lend table", "too few arguments: lend table N"),
+    (b"lend table 8193", "expected N, a number from 0 to 8192, not '8193'"),
+    (b"lend journal 4609", "expected N, a number from 0 to 4608, not '4609'"),
+    (b"lend bytes 65543", "expected N, a number from 0 to 65542, not '65543'"),
+    (b"lend table 4 4", "too many arguments: lend table N"),
+    (b"poke table 4 8000000500000001", "past the end of the table, whose length is 4"),
+    (b"poke table 3 8000000500000001 8000000600000001", "past the end of the table, whose length is 4"),
+    (b"poke table 0", "too few arguments: poke table I W.."),
+    (b"poke bytes", "too few arguments: poke bytes I B.."),
+    (b"poke bytes 4 00", "past the end of the bytes, whose length is 4"),
+    (b"poke bytes 0 000", "expected a byte of 2 hexadecimal digits, not '000'"),
+    (b"poke journal 18446744073709551615 8000000500000001", "past the end of the journal, whose length is 4"),
+    (b"fill table 1 4 0000000000000000 0000000000000000", "past the end of the table, whose length is 4"),
+    (b"fill bytes 0 1 0000000000000000 0000000000000000", "past the end of the bytes, whose length is 4"),
+    (
+        b"fill bytes 0 2305843009213693952 0000000000000000 0000000000000000",
+        "past the end of the bytes, whose length is 4",
+    ),
+    (b"fill journal 5 0 0000000000000000 0000000000000000", "past the end of the journal, whose length is 4"),
+    (b"fill journal 5 0 0000000000000000", "too few arguments: fill journal I N W W"),
+    (b"head", "expected used, oldest, checkpoint, tip, held, issued or ends, not the end of the line"),
+    (b"head floor 1", "expected used, oldest, checkpoint, tip, held, issued or ends, not 'floor'"),
+    (b"head held 0 2", "expected N, a number from 0 to 1, not '2'"),
+    (b"head held 8 2", "expected K, a number from 0 to 7, not '8'"),
+    (b"head issued 0", "too few arguments: head issued K STATE"),
+    (b"head ends 64 0", "expected K, a number from 0 to 63, not '64'"),
+    (b"tally dropped 3", "expected committed, rolled_back or flushed, not 'dropped'"),
+    (b"show", "expected head, tally, table, journal, bytes or all, not the end of the line"),
+    (b"show head 1", "too many arguments: show head"),
+    (b"show table 0", "too few arguments: show table I N"),
+    (b"show table 0 5", "past the end of the table, whose length is 4"),
+    (b"show table 5 81", "expected N, a number from 0 to 80, not '81'"),
+    (b"load_file", "too few arguments: load_file NAME"),
+    (b"load_file a b", "too many arguments: load_file NAME"),
+    (b"load_file no/such/file", "there is no file 'no/such/file'"),
+    (b"load_file .", "'.' is a directory"),
+    (b"load_file /dev/zero", "the file '/dev/zero' cannot be read"),
+    (b"load_file Cargo.toml/x", "the file 'Cargo.toml/x' cannot be read"),
+    (b"load_file a\0b", "the file 'a\\x00b' cannot be read"),
+];
+
+/// A unit with table, journal and bytes of 4, and offer 5 committed.
+fn small_unit() -> Unit {
+    let mut unit = Unit::default();
+    let setup = ["lend table 4", "lend journal 4", "lend bytes 4", "clear", "commit 8000000500000001"];
+    for line in setup {
+        respond(&mut unit, line.as_bytes()).expect("a call");
+    }
+    unit
+}
+
+/// What a line prints, or why it is no call.
+fn says(unit: &mut Unit, line: &[u8]) -> String {
+    respond(unit, line).map_or_else(|reason| format!("no call: {reason}"), |texts| texts.join("; "))
+}
+
+#[test]
+fn lines_that_are_no_call_say_why_and_change_nothing() {
+    let mut unit = small_unit();
     let before = unit.clone();
-    for line in no_calls {
-        assert_eq!(respond(&mut unit, line), ["no call"], "{:?}", String::from_utf8_lossy(line));
+    for (line, reason) in NO_CALLS {
+        assert_eq!(
+            says(&mut unit, line),
+            format!("no call: {reason}"),
+            "{:?}",
+            String::from_utf8_lossy(line)
+        );
         assert_eq!(unit, before);
     }
+}
+
+/// Of a long token a reason quotes 64 bytes, whatever they are.
+#[test]
+fn reasons_quote_no_more_than_they_need() {
+    let mut unit = Unit::default();
+    let quoted = |token: String| format!("no call: unknown word {token}");
+    assert_eq!(says(&mut unit, &[b'x'; 64]), quoted(format!("'{}'", "x".repeat(64))));
+    assert_eq!(says(&mut unit, &[b'x'; 65]), quoted(format!("'{}'..", "x".repeat(64))));
+    assert_eq!(says(&mut unit, &[0xFF; LINE_BYTES]), quoted(format!("'{}'..", "\\xFF".repeat(64))));
 }
 
 #[test]
 fn lines_that_are_calls_at_the_edge() {
     let mut unit = Unit::default();
-    let mut says = |line: &[u8]| respond(&mut unit, line).join("; ");
+    let mut says = |line: &[u8]| says(&mut unit, line);
     assert_eq!(says(b"lend table 8192"), "");
     assert_eq!(says(b"lend journal 00000000000000004608"), "");
     assert_eq!(says(b"lend bytes 65542"), "");
     assert_eq!(says(b"  lend   table 1  "), "");
+    assert_eq!(says(b"\tlend \t table\t1\t\r"), "");
+    assert_eq!(says(b"\r"), "");
+    assert_eq!(says(b" \t\r"), "");
     assert_eq!(says(b"lend journal 1#comment"), "");
     assert_eq!(says(b"clear # \xFF\x00\t"), "ok");
     assert_eq!(says(b""), "");
@@ -176,7 +257,7 @@ fn lines_that_are_calls_at_the_edge() {
     assert_eq!(says(b"commit 8000000abcdef123"), "ok");
     assert_eq!(says(b"show journal 0 1"), "journal from 0 8000000ABCDEF123");
     assert_eq!(says(b"show journal 1 0"), "journal from 1");
-    assert_eq!(says(b"show journal 2 0"), "no call");
+    assert_eq!(says(b"show journal 2 0"), "no call: past the end of the journal, whose length is 1");
     assert_eq!(says(b"fill table 1 0 0000000000000001 0000000000000001"), "");
     assert_eq!(says(b"lend bytes 0"), "");
     assert_eq!(says(b"show bytes"), "bytes 0 crc 00000000");
@@ -188,31 +269,50 @@ fn lines_that_are_calls_at_the_edge() {
 #[test]
 fn long_lines_and_lists() {
     let mut unit = Unit::default();
+    let mut says = |line: String| says(&mut unit, line.as_bytes());
     let words = |count: usize| " 8000000500000001".repeat(count);
     let batch = |count: usize| format!("price_batch{0} /{0} /{0}", words(count));
     assert_eq!(batch(80).len(), 4095);
-    assert!(respond(&mut unit, batch(80).as_bytes())[0].starts_with("refused 6 8000000500000001"));
-    assert_eq!(respond(&mut unit, format!("commit{}", words(80)).as_bytes()), ["refused 1"]);
-    assert_eq!(respond(&mut unit, format!("commit{}", words(81)).as_bytes()), ["no call"]);
+    assert!(says(batch(80)).starts_with("refused 6 8000000500000001"));
+    assert_eq!(says(format!("commit{}", words(80))), "refused 1");
+    assert_eq!(says(format!("commit{}", words(81))), "no call: expected at most 80 words, not 81");
+    assert_eq!(
+        says(format!("poke bytes 0{}", " 00".repeat(81))),
+        "no call: expected at most 80 bytes, not 81"
+    );
+    let long = "no call: the line has more than 4096 bytes";
     let spaced = |length: usize| format!("{}clear", " ".repeat(length - 5));
-    assert_eq!(respond(&mut unit, spaced(LINE_BYTES).as_bytes()), ["refused 1"]);
-    assert_eq!(respond(&mut unit, spaced(LINE_BYTES + 1).as_bytes()), ["no call"]);
-    let comment = format!("#{}", "x".repeat(LINE_BYTES));
-    assert_eq!(respond(&mut unit, comment.as_bytes()), ["no call"]);
+    assert_eq!(says(spaced(LINE_BYTES)), "refused 1");
+    assert_eq!(says(spaced(LINE_BYTES) + "\r"), "refused 1");
+    assert_eq!(says(spaced(LINE_BYTES + 1)), long);
+    assert_eq!(says(spaced(LINE_BYTES) + "\r\r"), long);
+    assert_eq!(says(format!("#{}", "x".repeat(LINE_BYTES))), long);
 }
 
 #[test]
 fn lines_are_counted() {
     assert_eq!(run(b""), "");
     assert_eq!(run(b"\n"), "");
-    assert_eq!(run(b"x"), "line 1: no call\n");
-    assert_eq!(run(b"\n# x\nx\n\nclear"), "line 3: no call\nline 5: refused 1\n");
+    assert_eq!(run(b"x"), "line 1: no call: unknown word 'x'\n");
+    assert_eq!(run(b"\n# x\nx\n\nclear"), "line 3: no call: unknown word 'x'\nline 5: refused 1\n");
+    assert_eq!(run(b"\r\n\r\nclear\r\n"), "line 3: refused 1\n");
 }
 
+/// A line is read the same in pieces of any size, and a long one only as far as shows that it is too long.
 #[test]
-fn the_example_of_the_format() {
-    let [script, printed] = example();
-    assert_eq!(run(script.as_bytes()), printed);
+fn lines_are_read_in_pieces() {
+    let long = vec![b'x'; 100_000];
+    let script = [b"one\r\n\n".as_slice(), &long, b"\nlast"].concat();
+    let expected: [&[u8]; 4] = [b"one\r", b"", &long[..LINE_BYTES + 2], b"last"];
+    for size in [1, 2, 3, 4097, 100_010] {
+        let mut input = BufReader::with_capacity(size, script.as_slice());
+        let mut line = Vec::new();
+        for expected in expected {
+            assert!(next_line(&mut input, &mut line).expect("memory can be read"));
+            assert_eq!(line, expected);
+        }
+        assert!(!next_line(&mut input, &mut line).expect("memory can be read"));
+    }
 }
 
 #[test]

@@ -1,18 +1,18 @@
 // Each C function keeps the promise that the runs of the conditions are made of (conditions/specs/CCalls.antt), for the call that is
 // written out here. The functions here only call them: so the theorems are about those very functions, and a contract that says less, or
 // speaks of another call, is noticed.
-use capi::pricing::cechnuol_price_batch;
-use capi::store::cechnuol_clear;
-use capi::store::cechnuol_commit;
-use capi::store::cechnuol_flush;
-use capi::store::cechnuol_forward;
-use capi::store::cechnuol_issue;
-use capi::store::cechnuol_load;
-use capi::store::cechnuol_look_up;
-use capi::store::cechnuol_release;
-use capi::store::cechnuol_restart;
-use capi::store::cechnuol_roll_back;
-use capi::store::cechnuol_write_image;
+use cechnuol::pricing::cechnuol_price_batch;
+use cechnuol::store::cechnuol_clear;
+use cechnuol::store::cechnuol_commit;
+use cechnuol::store::cechnuol_flush;
+use cechnuol::store::cechnuol_forward;
+use cechnuol::store::cechnuol_issue;
+use cechnuol::store::cechnuol_load;
+use cechnuol::store::cechnuol_look_up;
+use cechnuol::store::cechnuol_release;
+use cechnuol::store::cechnuol_restart;
+use cechnuol::store::cechnuol_roll_back;
+use cechnuol::store::cechnuol_write_image;
 use head_words::HEAD_WORDS;
 use lent::storing::TALLY_WORDS;
 ghost use mathlib.Core.List.{[]};
@@ -44,11 +44,11 @@ pub fn load(
     journal: &mut [u64],
     head: &mut [u64; HEAD_WORDS],
     tally: &mut [u64; TALLY_WORDS],
-    bytes: &mut [u8],
+    bytes: &[u8],
 ) -> u64
     ensures { λ r. ⌜ BytesKeep (Reset Load)
         (now (table .entry)) (now (journal .entry)) (now (head .entry)) (now (tally .entry))
-        (now (bytes .entry)) r (now (table .exit)) (now (journal .exit)) (now (head .exit)) (now (tally .exit)) (now (bytes .exit)) ⌝ }
+        (now (bytes .entry)) r (now (table .exit)) (now (journal .exit)) (now (head .exit)) (now (tally .exit)) (now (bytes .entry)) ⌝ }
 {
     cechnuol_load(table, journal, head, tally, bytes)
 }
@@ -74,11 +74,11 @@ pub fn commit(
     journal: &mut [u64],
     head: &mut [u64; HEAD_WORDS],
     tally: &mut [u64; TALLY_WORDS],
-    words: &mut [u64],
+    words: &[u64],
 ) -> u64
     ensures { λ r. ⌜ WordsKeep (Step Commit)
         (now (table .entry)) (now (journal .entry)) (now (head .entry)) (now (tally .entry))
-        (now (words .entry)) r (now (table .exit)) (now (journal .exit)) (now (head .exit)) (now (tally .exit)) (now (words .exit)) ⌝ }
+        (now (words .entry)) r (now (table .exit)) (now (journal .exit)) (now (head .exit)) (now (tally .exit)) (now (words .entry)) ⌝ }
 {
     cechnuol_commit(table, journal, head, tally, words)
 }

@@ -63,11 +63,11 @@ fn commit_check(table: &[u64], journal: &[u64], head: Head, list: &[u64]) -> Che
 
 // The head with one more step, which is the held-th and ends at this journal word.
 fn with_step(head: Head, held: usize, end: usize) -> Head
-    requires { ⌜ (held < 64) × (head .tip < 4294967295) ⌝ }
+    requires { ⌜ (held < 64) × (head .tip < 4294967295) × (end < 65536) ⌝ }
     ensures { λ r. ⌜ r ≡ withStep head held end ⌝ }
 {
     let mut next = head;
-    next.ends[held] = end;
+    next.ends[held] = end as u16;
     next.tip = head.tip + 1;
     next
 }

@@ -1,16 +1,13 @@
--- The head that a call leaves fits its words: state numbers stay below 2^32, and the arrays keep their lengths.
+-- The head that a call leaves fits its words: state numbers stay below 2^32, marks below 2^16, and the arrays keep their lengths.
 -- Assumes nothing.
 use mathlib.Core.Path.{_≡_, refl, sym, subst, _∙_}
 use mathlib.Core.Bool.{Bool, true, false}
 use mathlib.Core.List.{List, [], _∷_, _++_, map}
 use Prim.Native.Nat.{ℕ, zero, suc, _+_, _-_, _^_, _≤_, _<_}
 use native.Mathlib.Omega.{arith}
-use borrow.Author.Tests.{lt-ltb}
-use lib.Dec.{ltb}
 use lib.ListN.{length, take, drop, set, replicate, length-set, length-map, length-append, length-replicate, length-take, length-drop}
 use Rattle.changes.specs.Lists.{All}
 use Rattle.changes.proofs.Each.{all-take}
-use Rattle.changes.proofs.ListTest.{and-both}
 use Rattle.answers.specs.declared.answer.Check.{Check}
 use Rattle.answers.specs.declared.answer.Check.the-variants.{Passed, Refused}
 use Rattle.answers.specs.declared.call.Call.{Call}
@@ -32,31 +29,24 @@ use Rattle.slots.specs.Slots.{opened, closedAt}
 use Rattle.snapshot.specs.Snapshots.{imageHere}
 use Rattle.snapshot.specs.Fresh.{freshHead}
 use Rattle.commits.specs.Commit.{usedOf, withStep}
-use Rattle.commits.proofs.CommitAccepted.{commit-ok}
+use Rattle.commits.proofs.CommitAccepted.{commit-ok, end-small}
 use Rattle.rollbacks.specs.RollBack.{keptOf, cutTo}
 use Rattle.rollbacks.proofs.RollBackAccepted.{roll-ok}
 use Rattle.flushes.specs.Flush.{flushedHead}
 use Rattle.flushes.proofs.Flushing.{flush-ok}
 use Rattle.calls.specs.Lent.{Lent, Left, checkOf, settledBy}
 use Rattle.calls.specs.Meaning.{meaning, performed}
-use Rattle.head_words.specs.HeadWords.{limit, belowB, Fits}
-
--- a number set among others below a bound
-below-set : (bound : ℕ) (l : List ℕ) (i v : ℕ) → belowB bound l ≡ true → v < bound → belowB bound (set l i v) ≡ true
-unfolding belowB
-below-set bound [] i v e h = refl
-below-set bound (w ∷ l) zero v e h = rw (lt-ltb v bound h) (and-both (ltb w bound) (belowB bound l) e .1)
-below-set bound (w ∷ l) (suc i) v e h =
-    let b = and-both (ltb w bound) (belowB bound l) e in
-    rw (b .0) (below-set bound l i v (b .1) h)
+use Rattle.head_words.specs.HeadWords.{limit, markLimit, belowB, Fits}
+use Rattle.head_words.proofs.BelowParts.{below-set, below-take, below-drop, below-append, below-zeros, below-less}
 
 module _ (head : Head) (f : Fits head) where
   -- a head with other fields that fit; a field that calls carry along unread fits as it did
   fits-with : (used oldest checkpoint tip : ℕ) (taken : List Bool) (issued ends : List ℕ)
       → oldest < limit → checkpoint < limit → tip < limit
       → length taken ≡ 8 → length issued ≡ 8 → belowB limit issued ≡ true → length ends ≡ 64
+      → belowB markLimit ends ≡ true
       → Fits (headWith head used oldest checkpoint tip taken issued ends)
-  fits-with used oldest checkpoint tip taken issued ends o c t lt li b le = record {
+  fits-with used oldest checkpoint tip taken issued ends o c t lt li b le m = record {
     oldest-low = o;
     checkpoint-low = c;
     tip-low = t;
@@ -64,36 +54,42 @@ module _ (head : Head) (f : Fits head) where
     eight-issued = li;
     issued-low = b;
     all-ends = le;
+    ends-low = m;
   }
 
-  fits-steps : (tip : ℕ) (ends : List ℕ) → tip < limit → length ends ≡ 64 → Fits (withSteps head tip ends)
-  fits-steps tip ends t e =
+  fits-steps : (tip : ℕ) (ends : List ℕ) → tip < limit → length ends ≡ 64 → belowB markLimit ends ≡ true
+      → Fits (withSteps head tip ends)
+  fits-steps tip ends t e m =
       fits-with (head .used) (head .oldest) (head .checkpoint) tip (head .taken) (head .issued) ends
-      (f .oldest-low) (f .checkpoint-low) t (f .eight-taken) (f .eight-issued) (f .issued-low) e
+      (f .oldest-low) (f .checkpoint-low) t (f .eight-taken) (f .eight-issued) (f .issued-low) e m
 
   fits-slots : (taken : List Bool) (issued : List ℕ) → length taken ≡ 8 → length issued ≡ 8 → belowB limit issued ≡ true
       → Fits (withSlots head taken issued)
   fits-slots taken issued lt li b =
       fits-with (head .used) (head .oldest) (head .checkpoint) (head .tip) taken issued (head .ends)
-      (f .oldest-low) (f .checkpoint-low) (f .tip-low) lt li b (f .all-ends)
+      (f .oldest-low) (f .checkpoint-low) (f .tip-low) lt li b (f .all-ends) (f .ends-low)
 
-  fits-step : (held end : ℕ) → (head .tip ≡ 4294967295 → ⊥) → Fits (withStep head held end)
+  fits-step : (held end : ℕ) → (head .tip ≡ 4294967295 → ⊥) → end < markLimit → Fits (withStep head held end)
   unfolding withStep
-  fits-step held end not-last =
+  fits-step held end not-last small =
       fits-steps (head .tip + 1) (set (head .ends) held end) (omega (arith, f .tip-low, not-last))
       (length-set (head .ends) held end ∙ f .all-ends)
+      (below-set markLimit (head .ends) held end (f .ends-low) small)
 
   fits-cut : (kept state : ℕ) → kept ≤ 64 → state ≤ head .tip → Fits (cutTo head kept state)
   unfolding cutTo
   fits-cut kept state few high =
       fits-steps state (take kept (head .ends) ++ replicate (64 - kept) 0) (omega (arith, f .tip-low))
       (simp (length-append, length-replicate, length-take) (omega (arith, f .all-ends)))
+      (below-append markLimit (take kept (head .ends)) (replicate (64 - kept) 0)
+      (below-take markLimit kept (head .ends) (f .ends-low)) (below-zeros markLimit (64 - kept) (omega arith)))
 
   fits-table : (used state : ℕ) → state ≤ head .tip → Fits (flushedHead head used state)
   unfolding flushedHead
   fits-table used state high =
       fits-with used (head .oldest) state (head .tip) (head .taken) (head .issued) (head .ends)
-      (f .oldest-low) (omega (arith, f .tip-low)) (f .tip-low) (f .eight-taken) (f .eight-issued) (f .issued-low) (f .all-ends)
+      (f .oldest-low) (omega (arith, f .tip-low)) (f .tip-low) (f .eight-taken) (f .eight-issued) (f .issued-low)
+      (f .all-ends) (f .ends-low)
 
   fits-opened : (slot : ℕ) → Fits (opened head slot)
   unfolding opened
@@ -114,6 +110,14 @@ module _ (head : Head) (f : Fits head) where
   moved-short : (from to words : ℕ) → length (map (λ e. e - words) (take (to - from) (drop from (head .ends)))) ≤ 64
   moved-short from to words = simp (length-map, length-take, length-drop) (omega (arith, f .all-ends))
 
+  moved-low : (from to words : ℕ) → belowB markLimit (movedEnds (head .ends) from to words) ≡ true
+  moved-low from to words =
+      let kept = take (to - from) (drop from (head .ends)) in
+      below-append markLimit (map (λ e. e - words) kept) (replicate (64 - length (map (λ e. e - words) kept)) 0)
+      (below-less markLimit words kept
+      (below-take markLimit (to - from) (drop from (head .ends)) (below-drop markLimit from (head .ends) (f .ends-low))))
+      (below-zeros markLimit (64 - length (map (λ e. e - words) kept)) (omega arith))
+
   fits-trimmed : Fits (trimmedHead head)
   unfolding trimmedHead
   fits-trimmed =
@@ -123,6 +127,7 @@ module _ (head : Head) (f : Fits head) where
       (f .checkpoint-low) (f .tip-low) (f .eight-taken) (f .eight-issued) (f .issued-low)
       (padded-length 64 (map (λ e. e - goneWords head) (take (heldOf head - goneSteps head) (drop (goneSteps head) (head .ends))))
       (moved-short (goneSteps head) (heldOf head) (goneWords head)))
+      (moved-low (goneSteps head) (heldOf head) (goneWords head))
 
 fits-fresh : (used number : ℕ) → number < limit → Fits (freshHead used number)
 unfolding freshHead belowB
@@ -134,6 +139,7 @@ fits-fresh used number h = record {
   eight-issued = refl;
   issued-low = refl;
   all-ends = refl;
+  ends-low = refl;
 }
 
 -- the state number in bytes
@@ -166,8 +172,9 @@ module _ (l : Lent) (f : Fits (l .head)) (bytes : All Byte (l .bytes)) where
       (subst (λ (n : ℕ). n < limit) (sym (image-number (l .head .checkpoint) (take (l .head .used) (l .table)) (f .checkpoint-low)))
       (f .checkpoint-low))
   accepted-fits (Step Commit) e =
-      fits-step (l .head) f (heldOf (l .head)) (usedOf (l .head) + length (l .words))
-      (commit-ok (l .table) (l .journal) (l .head) (l .words) e .not-last)
+      let ok = commit-ok (l .table) (l .journal) (l .head) (l .words) e in
+      fits-step (l .head) f (heldOf (l .head)) (usedOf (l .head) + length (l .words)) (ok .not-last)
+      (omega (arith, end-small ok (usedOf (l .head)) refl))
   accepted-fits (Step (RollBack state)) e =
       let ok = roll-ok (l .table) (l .journal) (l .head) state e in
       fits-cut (l .head) f (keptOf (l .head) state) state (omega (arith, ok .sound .few, ok .high)) (ok .high)

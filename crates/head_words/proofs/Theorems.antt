@@ -3,38 +3,42 @@
 use mathlib.Core.Path.{_≡_, refl, sym, ap, ap₂, _∙_}
 use mathlib.Core.Bool.{Bool, true, false}
 use mathlib.Core.List.{List, [], _∷_, _++_, map, append-assoc, append-nil}
-use Prim.Native.Nat.{ℕ, zero, suc, _+_, _≤_, _<_}
+use Prim.Native.Nat.{ℕ, zero, suc, _+_, _%_, _≤_, _<_}
 use native.Mathlib.Omega.{arith}
 use native.Mathlib.Nat.{mod-eq-of-lt, mod-lt}
-use borrow.Author.Tests.{ltb-true, lt-ltb}
-use lib.Dec.{ltb}
 use lib.ListN.{length, length-map, length-append, length-drop, getD, take, drop, take-append-drop, drop-of-length-le}
 use lib.Seq.{take-at, drop-at, drop-drop, length-take-le}
-use Rattle.changes.proofs.ListTest.{and-both}
 use Rattle.layout.specs.declared.head.Head.{Head}
 use Rattle.layout.specs.Heads.{headWith}
 use Rattle.layout.proofs.Holds.{all-first, all-rest, first-holds, last-test}
 use Rattle.words.proofs.Parts.{next}
 use Rattle.head_words.proofs.Below.{below-none, below-on}
+use Rattle.head_words.proofs.BelowParts.{below-first, below-rest, below-both}
 use Rattle.head_words.proofs.Packing.{told}
-use Rattle.head_words.specs.HeadWords.{headSize, limit, flagOf, wordOf, numberIn, from, headOf, wordsOf, belowB, headB, Fits}
-
-module _ (bound w : ℕ) (l : List ℕ) (e : belowB bound (w ∷ l) ≡ true) where
-  below-first : w < bound
-  unfolding belowB
-  below-first = ltb-true w bound (and-both (ltb w bound) (belowB bound l) e .0)
-
-  below-rest : belowB bound l ≡ true
-  unfolding belowB
-  below-rest = and-both (ltb w bound) (belowB bound l) e .1
+use Rattle.head_words.specs.HeadWords.{
+  headSize,
+  limit,
+  markLimit,
+  flagOf,
+  wordOf,
+  numberIn,
+  markIn,
+  from,
+  headOf,
+  wordsOf,
+  belowB,
+  headB,
+  Fits,
+}
 
 number-back : (w : ℕ) → w < limit → numberIn w ≡ w
 number-back w h = mod-eq-of-lt h
 
-numbers-back : (l : List ℕ) → belowB limit l ≡ true → map numberIn l ≡ l
-numbers-back [] e = refl
-numbers-back (w ∷ l) e =
-    ap₂ (λ (n : ℕ) (r : List ℕ). n ∷ r) (number-back w (below-first limit w l e)) (numbers-back l (below-rest limit w l e))
+-- words below a number are what is left of them when they are cut to it
+cut-back : (bound : ℕ) (l : List ℕ) → belowB bound l ≡ true → map (λ w. w % bound) l ≡ l
+cut-back bound [] e = refl
+cut-back bound (w ∷ l) e =
+    ap₂ (λ (n : ℕ) (r : List ℕ). n ∷ r) (mod-eq-of-lt (below-first bound w l e)) (cut-back bound l (below-rest bound w l e))
 
 flag-word : (w : ℕ) → w < 2 → wordOf (flagOf w) ≡ w
 flag-word zero h = refl
@@ -65,6 +69,11 @@ module _ (w : List ℕ) (long : length w ≡ headSize) (e : headB w ≡ true) wh
   issued-fit =
       all-first (belowB limit (from 12 8 w)) _ (all-rest (belowB 2 (from 4 8 w)) _ (all-rest (belowB limit (from 1 3 w)) _ e))
 
+  marks-fit : belowB markLimit (from 20 64 w) ≡ true
+  marks-fit =
+      all-first (belowB markLimit (from 20 64 w)) _
+      (all-rest (belowB limit (from 12 8 w)) _ (all-rest (belowB 2 (from 4 8 w)) _ (all-rest (belowB limit (from 1 3 w)) _ e)))
+
   three : drop 1 w ≡ getD w 1 0 ∷ getD w 2 0 ∷ getD w 3 0 ∷ drop 4 w
   three =
       next w 1 (omega (arith, long))
@@ -90,11 +99,14 @@ module _ (w : List ℕ) (long : length w ≡ headSize) (e : headB w ≡ true) wh
       ∙ ap (λ (r : List ℕ). getD w 0 0 ∷ r) (sym three)
       ∙ sym (next w 0 (omega (arith, long)))
 
-  arrays : map wordOf (map flagOf (from 4 8 w)) ++ (map numberIn (from 12 8 w) ++ (from 20 64 w ++ drop 84 w)) ≡ drop 4 w
+  marks-back : map markIn (from 20 64 w) ≡ from 20 64 w
+  marks-back = cut-back markLimit (from 20 64 w) marks-fit
+
+  arrays : map wordOf (map flagOf (from 4 8 w)) ++ (map numberIn (from 12 8 w) ++ (map markIn (from 20 64 w) ++ drop 84 w)) ≡ drop 4 w
   arrays =
       ap₂ _++_ (flag-words (from 4 8 w) flags-fit)
-      (ap₂ _++_ (numbers-back (from 12 8 w) issued-fit)
-      (ap (λ (r : List ℕ). from 20 64 w ++ r) (sym (drop-drop 64 20 w)) ∙ take-append-drop 64 (drop 20 w) ∙ sym (drop-drop 8 12 w))
+      (ap₂ _++_ (cut-back limit (from 12 8 w) issued-fit)
+      (ap₂ _++_ marks-back (sym (drop-drop 64 20 w)) ∙ take-append-drop 64 (drop 20 w) ∙ sym (drop-drop 8 12 w))
       ∙ take-append-drop 8 (drop 12 w)
       ∙ sym (drop-drop 8 4 w))
       ∙ take-append-drop 8 (drop 4 w)
@@ -105,9 +117,10 @@ module _ (w : List ℕ) (long : length w ≡ headSize) (e : headB w ≡ true) wh
       let first = getD w 0 0 ∷ numberIn (getD w 1 0) ∷ numberIn (getD w 2 0) ∷ numberIn (getD w 3 0) ∷ [] in
       let flags = map wordOf (map flagOf (from 4 8 w)) in
       let issued = map numberIn (from 12 8 w) in
-      append-assoc (first ++ flags ++ issued) (from 20 64 w) (drop 84 w)
-      ∙ append-assoc (first ++ flags) issued (from 20 64 w ++ drop 84 w)
-      ∙ append-assoc first flags (issued ++ (from 20 64 w ++ drop 84 w))
+      let ends = map markIn (from 20 64 w) in
+      append-assoc (first ++ flags ++ issued) ends (drop 84 w)
+      ∙ append-assoc (first ++ flags) issued (ends ++ drop 84 w)
+      ∙ append-assoc first flags (issued ++ (ends ++ drop 84 w))
       ∙ ap (λ (r : List ℕ). first ++ r) arrays
       ∙ numbers
 
@@ -160,8 +173,8 @@ module _ (head : Head) (f : Fits head) (behind : List ℕ) where
       (number-back (head .checkpoint) (f .checkpoint-low) i)
       (number-back (head .tip) (f .tip-low) i)
       ((ap (map flagOf) taken-part ∙ word-flags (head .taken)) i)
-      ((ap (map numberIn) issued-part ∙ numbers-back (head .issued) (f .issued-low)) i)
-      (ends-part i)
+      ((ap (map numberIn) issued-part ∙ cut-back limit (head .issued) (f .issued-low)) i)
+      ((ap (map markIn) ends-part ∙ cut-back markLimit (head .ends) (f .ends-low)) i)
 
 pub head-back : (head : Head) → Fits head → headOf (wordsOf head) ≡ head
 head-back head f = ap headOf (sym (append-nil (wordsOf head))) ∙ told-read head f []
@@ -218,15 +231,15 @@ head-words-fit head f =
     ∙ below-on limit (head .tip) _ (f .tip-low)
     ∙ below-none limit)
     ∙ first-holds (belowB 2 (from 4 8 (wordsOf head))) _ (ap (belowB 2) (words-taken head f) ∙ flags-below (head .taken))
-    ∙ last-test (belowB limit (from 12 8 (wordsOf head)))
-    ∙ ap (belowB limit) (words-issued head f)
-    ∙ f .issued-low
+    ∙ first-holds (belowB limit (from 12 8 (wordsOf head))) _ (ap (belowB limit) (words-issued head f) ∙ f .issued-low)
+    ∙ last-test (belowB markLimit (from 20 64 (wordsOf head)))
+    ∙ ap (belowB markLimit) (words-ends head f)
+    ∙ f .ends-low
 
 -- whatever 84 words hold, the fields of the head that is read from them fit
-numbers-low : (l : List ℕ) → belowB limit (map numberIn l) ≡ true
-unfolding belowB
-numbers-low [] = refl
-numbers-low (w ∷ l) = rw (lt-ltb (numberIn w) limit (mod-lt w (omega arith))) (numbers-low l)
+cut-low : (bound : ℕ) → 0 < bound → (l : List ℕ) → belowB bound (map (λ w. w % bound) l) ≡ true
+cut-low bound h [] = below-none bound
+cut-low bound h (w ∷ l) = below-both bound (w % bound) (map (λ w. w % bound) l) (mod-lt w h) (cut-low bound h l)
 
 part-long : (w : List ℕ) (i n : ℕ) → i + n ≤ length w → length (from i n w) ≡ n
 part-long w i n h = length-take-le n (drop i w) (omega (arith, length-drop i w))
@@ -238,6 +251,7 @@ words-fits w long = record {
   tip-low = mod-lt (getD w 3 0) (omega arith);
   eight-taken = length-map (from 4 8 w) flagOf ∙ part-long w 4 8 (omega (arith, long));
   eight-issued = length-map (from 12 8 w) numberIn ∙ part-long w 12 8 (omega (arith, long));
-  issued-low = numbers-low (from 12 8 w);
-  all-ends = part-long w 20 64 (omega (arith, long));
+  issued-low = cut-low limit (omega arith) (from 12 8 w);
+  all-ends = length-map (from 20 64 w) markIn ∙ part-long w 20 64 (omega (arith, long));
+  ends-low = cut-low markLimit (omega arith) (from 20 64 w);
 }

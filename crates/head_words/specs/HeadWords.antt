@@ -17,6 +17,10 @@ headSize = 84
 abbrev pub limit : ℕ
 limit = 4294967296
 
+-- 2^16, above every mark: a journal has at most 4,096 words
+abbrev pub markLimit : ℕ
+markLimit = 65536
+
 -- a flag in a word: 1 where it is set
 abbrev pub flagOf : ℕ → Bool
 flagOf w = eqb w 1
@@ -27,6 +31,10 @@ wordOf flag = cond flag 1 0
 -- a number of 32 bits in a word
 abbrev pub numberIn : ℕ → ℕ
 numberIn w = w % limit
+
+-- a mark of 16 bits in a word
+abbrev pub markIn : ℕ → ℕ
+markIn w = w % markLimit
 
 -- so many words from a position on
 abbrev pub from : ℕ → ℕ → List ℕ → List ℕ
@@ -42,7 +50,7 @@ headOf words =
       tip = numberIn (getD words 3 0);
       taken = map flagOf (from 4 8 words);
       issued = map numberIn (from 12 8 words);
-      ends = from 20 64 words;
+      ends = map markIn (from 20 64 words);
     }
 
 -- the words of a head
@@ -58,13 +66,14 @@ unfoldable pub belowB : ℕ → List ℕ → Bool
 belowB bound [] = true
 belowB bound (w ∷ words) = ltb w bound && belowB bound words
 
--- the words fit their fields: state numbers of 32 bits, flags of one (that they are 84 is a fact of their type)
+-- the words fit their fields: state numbers of 32 bits, flags of one, marks of 16 (that they are 84 is a fact of their type)
 abbrev pub headB : List ℕ → Bool
 headB words =
     allOf
     (belowB limit (from 1 3 words)
     ∷ belowB 2 (from 4 8 words)
     ∷ belowB limit (from 12 8 words)
+    ∷ belowB markLimit (from 20 64 words)
     ∷ [])
 
 -- a head whose fields fit their words
@@ -76,3 +85,4 @@ pub record Fits (head : Head) : Type 0 where
   pub eight-issued : length (head .issued) ≡ 8
   pub issued-low : belowB limit (head .issued) ≡ true
   pub all-ends : length (head .ends) ≡ 64
+  pub ends-low : belowB markLimit (head .ends) ≡ true

@@ -2,9 +2,10 @@
 use layout::head::Head;
 ghost use mathlib.Core.Path.{_≡_};
 ghost use mathlib.Core.List.{map, _++_};
-ghost use Prim.Native.Nat.{_+_, _≤_};
+ghost use Prim.Native.Nat.{ℕ, _+_, _^_, _≤_};
+ghost use lib.Dec.{ltb};
 ghost use lib.ListN.{length, take, drop, set};
-ghost use Rattle.head_words.specs.HeadWords.{flagOf, wordOf, numberIn, headOf, wordsOf, belowB, headB};
+ghost use Rattle.head_words.specs.HeadWords.{flagOf, wordOf, numberIn, markIn, headOf, wordsOf, belowB, headB};
 
 // How many words a head has.
 pub const HEAD_WORDS: usize = 84;
@@ -12,18 +13,20 @@ pub const HEAD_WORDS: usize = 84;
 // 2^32
 const LIMIT: u64 = 4294967296;
 
-// Whether each word is below the bound.
-fn are_below(words: &[u64], bound: u64) -> bool
-    ensures { λ r. ⌜ r ≡ belowB bound (now (words .entry)) ⌝ }
+// 2^16, above every mark
+const MARK_LIMIT: u64 = 65536;
+
+// The words joined by `|`, so that the compiler can take several in an iteration: below a power of two exactly when each of them is.
+fn joined(words: &[u64]) -> u64
+    ensures { λ r. ⌜ ((k : ℕ) → ltb r (2 ^ k) ≡ belowB (2 ^ k) (now (words .entry))) ⌝ }
 {
+    let mut seen = 0;
     let mut i = 0;
     while i < words.len() {
-        if bound <= words[i] {
-            return false;
-        }
+        seen = seen | words[i];
         i += 1;
     }
-    true
+    seen
 }
 
 // Whether the words fit the fields of a head.
@@ -31,13 +34,16 @@ pub fn is_head(words: &[u64; HEAD_WORDS]) -> bool
     ensures { λ r. ⌜ r ≡ headB (now (words .entry)) ⌝ }
 {
     let all = &words[..];
-    if !are_below(&all[1..4], LIMIT) {
+    if LIMIT <= joined(&all[1..4]) {
         return false;
     }
-    if !are_below(&all[4..12], 2) {
+    if 2 <= joined(&all[4..12]) {
         return false;
     }
-    are_below(&all[12..20], LIMIT)
+    if LIMIT <= joined(&all[12..20]) {
+        return false;
+    }
+    joined(&all[20..84]) < MARK_LIMIT
 }
 
 fn flags_of(words: &[u64]) -> [bool; 8]
@@ -66,14 +72,14 @@ fn numbers_of(words: &[u64]) -> [u32; 8]
     next
 }
 
-fn ends_of(words: &[u64]) -> [usize; 64]
+fn ends_of(words: &[u64]) -> [u16; 64]
     requires { ⌜ length (now words) ≡ 64 ⌝ }
-    ensures { λ r. ⌜ r ≡ now (words .entry) ⌝ }
+    ensures { λ r. ⌜ r ≡ map markIn (now (words .entry)) ⌝ }
 {
-    let mut next = [0usize; 64];
+    let mut next = [0u16; 64];
     let mut k: usize = 0;
     while k < 64 {
-        next[k] = words[k] as usize;
+        next[k] = (words[k] % MARK_LIMIT) as u16;
         k += 1;
     }
     next
@@ -125,7 +131,7 @@ fn put_numbers(numbers: &[u32], words: &mut [u64], at: usize)
     }
 }
 
-fn put_ends(ends: &[usize], words: &mut [u64], at: usize)
+fn put_ends(ends: &[u16], words: &mut [u64], at: usize)
     requires { ⌜ (length (now ends) ≡ 64) × (at + 64 ≤ length (now words)) ⌝ }
     ensures { λ r. ⌜ now (words .exit) ≡ take at (now (words .entry)) ++ now (ends .entry) ++ drop (at + 64) (now (words .entry)) ⌝ }
 {

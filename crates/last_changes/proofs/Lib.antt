@@ -1,3 +1,4 @@
+pub mod Changing
 pub mod Filtering
 pub mod HeldSteps
 pub mod Seeking

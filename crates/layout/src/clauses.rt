@@ -84,14 +84,14 @@ fn is_step(journal: &[u64], start: usize, end: usize) -> bool
 }
 
 // Whether each of the first n marks ends a list in the journal.
-fn are_steps(journal: &[u64], ends: &[usize], n: usize) -> bool
+fn are_steps(journal: &[u64], ends: &[u16], n: usize) -> bool
     requires { ⌜ n ≤ length (now ends) ⌝ }
     ensures { λ r. ⌜ r ≡ allB n (stepB (now (journal .entry)) (now (ends .entry))) ⌝ }
 {
     let mut start = 0;
     let mut k = 0;
     while k < n {
-        let end = ends[k];
+        let end = ends[k] as usize;
         if !is_step(journal, start, end) {
             return false;
         }
@@ -102,7 +102,7 @@ fn are_steps(journal: &[u64], ends: &[usize], n: usize) -> bool
 }
 
 // Whether no mark from the n-th on is in use.
-fn are_unused(ends: &[usize], n: usize) -> bool
+fn are_unused(ends: &[u16], n: usize) -> bool
     requires { ⌜ n ≤ length (now ends) ⌝ }
     ensures { λ r. ⌜ r ≡ zerosB (drop n (now (ends .entry))) ⌝ }
 {
@@ -163,7 +163,7 @@ pub fn least_of(checkpoint: u32, taken: [bool; SLOTS], issued: [u32; SLOTS]) -> 
 }
 
 // Whether the journal holds the first n steps of the marks and zeros behind, and no other mark is in use.
-pub fn is_journal(journal: &[u64], ends: &[usize], n: usize) -> bool
+pub fn is_journal(journal: &[u64], ends: &[u16], n: usize) -> bool
     requires { ⌜ n ≤ length (now ends) ⌝ }
     ensures { λ r. ⌜ r ≡ journalB (now (journal .entry)) (now (ends .entry)) n ⌝ }
 {

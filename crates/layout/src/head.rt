@@ -29,8 +29,8 @@ pub struct Head {
     // Which slots are open (reading places), and the checkpoint at the issue of each; a closed one has 0.
     pub taken: [bool; SLOTS],
     pub issued: [u32; SLOTS],
-    // Where each held step ends in the journal (marks); marks not in use are 0.
-    pub ends: [usize; MARKS],
+    // Where each held step ends in the journal (marks), of at most 4,096 words; marks not in use are 0.
+    pub ends: [u16; MARKS],
 }
 
 // What a call answers, and the head after it.

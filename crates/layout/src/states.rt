@@ -23,12 +23,12 @@ pub fn held_count(head: Head) -> usize
 }
 
 // Where the step after the first n steps starts.
-pub fn end_of(ends: &[usize], n: usize) -> usize
+pub fn end_of(ends: &[u16], n: usize) -> usize
     requires { ⌜ n ≤ length (now ends) ⌝ }
     ensures { λ r. ⌜ r ≡ startOf (now (ends .entry)) n ⌝ }
 {
     if n == 0 {
         return 0;
     }
-    ends[n - 1]
+    ends[n - 1] as usize
 }

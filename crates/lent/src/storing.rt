@@ -1,5 +1,4 @@
 // What a call leaves of head and tally, put into their words.
-use answers::answer::Answer;
 use answers::answer::is_accepted;
 use answers::tally::Tally;
 use head_words::HEAD_WORDS;
@@ -9,7 +8,7 @@ use unit::serve::Served;
 ghost use mathlib.Core.Path.{_≡_};
 ghost use mathlib.Core.Bool.{cond};
 ghost use lib.ListN.{length};
-ghost use Rattle.answers.specs.Answers.{acceptedB, Gives};
+ghost use Rattle.answers.specs.Answers.{acceptedB};
 ghost use Rattle.head_words.specs.HeadWords.{wordsOf};
 ghost use Rattle.lent.specs.Lent.{tallyOf, tallyWords};
 
@@ -37,31 +36,26 @@ fn put_tally(words: &mut [u64], tally: Tally)
     words[2] = tally.flushed;
 }
 
-// Puts the head of a reply into its words, where the call was accepted, and gives the answer.
-fn put_reply(words: &mut [u64; HEAD_WORDS], reply: Reply) -> Answer
-    ensures { λ r. ⌜ Gives r (reply .answer)
-        × (now (words .exit) ≡ cond (acceptedB (reply .answer)) (wordsOf (reply .head)) (now (words .entry))) ⌝ }
+// Puts the head of a reply into its words, where the call was accepted.
+fn put_reply(words: &mut [u64; HEAD_WORDS], reply: Reply)
+    ensures { λ r. ⌜ now (words .exit) ≡ cond (acceptedB (reply .answer)) (wordsOf (reply .head)) (now (words .entry)) ⌝ }
 {
     let answer = reply.answer;
     if !is_accepted(answer) {
-        return answer;
+        return;
     }
     pack(reply.head, words);
-    answer
 }
 
-// Puts head and tally as a call left them into their words, and gives the answer.
-pub fn put_served(
-    head: &mut [u64; HEAD_WORDS],
-    tally: &mut [u64; TALLY_WORDS],
-    served: Served,
-) -> Answer
-    ensures { λ r. ⌜ Gives r (served .reply .answer)
-        × (now (head .exit) ≡ cond (acceptedB (served .reply .answer)) (wordsOf (served .reply .head)) (now (head .entry)))
+// Puts head and tally as a call left them into their words. The answer does not come back through here: callers have it, and wait
+// for one that went through memory once more.
+pub fn put_served(head: &mut [u64; HEAD_WORDS], tally: &mut [u64; TALLY_WORDS], served: Served)
+    ensures { λ r. ⌜ (now (head .exit)
+        ≡ cond (acceptedB (served .reply .answer)) (wordsOf (served .reply .head)) (now (head .entry)))
         × (now (tally .exit) ≡ tallyWords (served .tally)) ⌝ }
 {
     let counts = served.tally;
     put_tally(tally, counts);
     let reply = served.reply;
-    put_reply(head, reply)
+    put_reply(head, reply);
 }

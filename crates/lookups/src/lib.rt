@@ -57,7 +57,7 @@ fn quote_of(found: Found) -> Answer
 fn price_after(
     base: &[u64],
     journal: &[u64],
-    ends: &[usize],
+    ends: &[u16],
     from: usize,
     to: usize,
     offer: u32,

@@ -30,7 +30,7 @@ fn roll_back_check(table: &[u64], journal: &[u64], head: Head, state: u32) -> Ch
 }
 
 // The marks with those from a position on set to 0.
-fn clear_marks(ends: [usize; MARKS], from: usize) -> [usize; MARKS]
+fn clear_marks(ends: [u16; MARKS], from: usize) -> [u16; MARKS]
     requires { ⌜ from ≤ 64 ⌝ }
     ensures { λ r. ⌜ r ≡ take from ends ++ replicate (64 - from) 0 ⌝ }
 {

@@ -10,18 +10,18 @@ ghost use Rattle.changes.specs.Runs.{startOf, stepOf, runWords, Marked};
 ghost use Rattle.runs.specs.Composed.{RunRoom, Composed};
 
 // Where a step starts: at the end of the step before it.
-fn start_of(ends: &[usize], step: usize) -> usize
+fn start_of(ends: &[u16], step: usize) -> usize
     requires { ⌜ step ≤ length (now ends) ⌝ }
     ensures { λ r. ⌜ r ≡ startOf (now (ends .entry)) step ⌝ }
 {
     if step == 0 {
         return 0;
     }
-    ends[step - 1]
+    ends[step - 1] as usize
 }
 
 // Copies the words of a step to the start of `out`, and gives their count; the words behind them stay.
-fn copy_step(words: &[u64], ends: &[usize], step: usize, out: &mut [u64]) -> usize
+fn copy_step(words: &[u64], ends: &[u16], step: usize, out: &mut [u64]) -> usize
     requires { ⌜ Marked (now words) (now ends) (step + 1) × (runWords (now ends) step (step + 1) ≤ length (now out)) ⌝ }
     ensures { λ r. ⌜ (r ≡ runWords (now (ends .entry)) step (step + 1))
         × (now (out .exit) ≡ stepOf (now (words .entry)) (now (ends .entry)) step ++ drop r (now (out .entry))) ⌝ }
@@ -47,7 +47,7 @@ fn compose_parts(words: &[u64], middle: usize, out: &mut [u64]) -> usize
 // steps; what they hold there besides the composition is left open, and the words past that room stay.
 pub fn compose_run(
     words: &[u64],
-    ends: &[usize],
+    ends: &[u16],
     from: usize,
     to: usize,
     out: &mut [u64],

@@ -17,7 +17,7 @@ ghost use Rattle.soundness.specs.Sound.{soundB};
 
 // Whether the store is sound. The marks of the head are lent beside it, here and in `store_check`: a function that lends on what it
 // was handed by value makes a copy of it first, and every call tests a store.
-pub fn is_sound(table: &[u64], journal: &[u64], head: Head, ends: &[usize]) -> bool
+pub fn is_sound(table: &[u64], journal: &[u64], head: Head, ends: &[u16]) -> bool
     requires { ⌜ now ends ≡ head .ends ⌝ }
     ensures { λ r. ⌜ r ≡ soundB (now (table .entry)) (now (journal .entry)) head ⌝ }
 {
@@ -41,7 +41,7 @@ pub fn is_sound(table: &[u64], journal: &[u64], head: Head, ends: &[usize]) -> b
 }
 
 // Whether the lengths lent are in their ranges, and the store is sound.
-pub fn store_check(table: &[u64], journal: &[u64], head: Head, ends: &[usize]) -> Check
+pub fn store_check(table: &[u64], journal: &[u64], head: Head, ends: &[u16]) -> Check
     requires { ⌜ now ends ≡ head .ends ⌝ }
     ensures { λ r. ⌜ Checks r (first (storeGrounds (now (table .entry)) (now (journal .entry)) head)) ⌝ }
 {

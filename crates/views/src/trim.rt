@@ -8,19 +8,27 @@ use layout::states::step_index;
 use words::clear;
 use words::shift;
 ghost use mathlib.Core.Path.{_≡_};
-ghost use Prim.Native.Nat.{ℕ, _≤_, _<_};
+ghost use Prim.Native.Nat.{ℕ, _-_, _≤_, _<_};
 ghost use lib.ListN.{getD};
 ghost use Rattle.views.specs.Trim.{movedEnds, trimmedHead, trimmedJournal, Trimmable};
 
+// A mark moved down by a count of words.
+fn lower_mark(mark: u16, words: usize) -> u16
+    requires { ⌜ words ≤ mark ⌝ }
+    ensures { λ r. ⌜ r ≡ mark - words ⌝ }
+{
+    (mark as usize - words) as u16
+}
+
 // The marks from a step up to another, exclusive, moved to the start and down by a count of words.
-fn move_ends(ends: [usize; MARKS], from: usize, to: usize, words: usize) -> [usize; MARKS]
+fn move_ends(ends: [u16; MARKS], from: usize, to: usize, words: usize) -> [u16; MARKS]
     requires { ⌜ (from ≤ to) × (to ≤ 64) × ((i : ℕ) → from ≤ i → i < to → words ≤ getD ends i 0) ⌝ }
     ensures { λ r. ⌜ r ≡ movedEnds ends from to words ⌝ }
 {
     let mut next = [0; MARKS];
     let mut k = 0;
     while k < to - from {
-        next[k] = ends[from + k] - words;
+        next[k] = lower_mark(ends[from + k], words);
         k += 1;
     }
     next

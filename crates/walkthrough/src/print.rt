@@ -1,11 +1,7 @@
-// What the program prints, a line at a time.
+// What the program prints, in words. A line starts with its newline, so that whatever is printed next may go on with it.
 use answers::answer::Answer;
-use answers::tally::Tally;
+use answers::answer::ground_in;
 use entry::Entry;
-use layout::head::Head;
-use lent::codes::NO_PRICE;
-use lent::codes::code_of;
-use lent::codes::value_of;
 use libc::STDOUT_FILENO;
 
 pub(crate) fn show_text(text: &[u8]) {
@@ -13,29 +9,37 @@ pub(crate) fn show_text(text: &[u8]) {
 }
 
 // A text, and a number after it.
-fn show_count(text: &[u8], count: u64) {
+pub(crate) fn show_number(text: &[u8], number: u64) {
     show_text(text);
-    io::print_decimal(STDOUT_FILENO, count);
+    io::print_decimal(STDOUT_FILENO, number);
 }
 
-// A word in hexadecimal, its offer, and its price or `none`, as one line.
-fn show_word(word: u64) {
-    io::print_hex(STDOUT_FILENO, word, 16);
-    show_count(b" offer ", Entry::offer_of(word) as u64);
-    if Entry::kind_of(word) == Entry::PUT {
-        show_count(b" price ", Entry::price_of(word) as u64);
-        show_text(b"\n");
-    } else {
-        show_text(b" none\n");
+// What stands before an item of a line: a comma, but for the first.
+fn show_comma(position: usize) {
+    if position == 0 {
+        show_text(b" ");
+        return;
     }
+    show_text(b", ");
 }
 
-// A title, and a line for each word.
-pub(crate) fn show(title: &[u8], words: &[u64]) {
-    show_text(title);
+// An offer, and its price or that it has none.
+fn show_entry(word: u64) {
+    show_number(b"offer ", Entry::offer_of(word) as u64);
+    if Entry::kind_of(word) == Entry::PUT {
+        show_number(b" at ", Entry::price_of(word) as u64);
+        return;
+    }
+    show_text(b" not on sale");
+}
+
+// A text, and the entries after it.
+pub(crate) fn show_entries(text: &[u8], words: &[u64]) {
+    show_text(text);
     let mut i = 0;
     while i < words.len() {
-        show_word(words[i]);
+        show_comma(i);
+        show_entry(words[i]);
         i += 1;
     }
 }
@@ -45,48 +49,24 @@ fn show_byte(byte: u8) {
     io::print_hex(STDOUT_FILENO, byte as u64, 2);
 }
 
-// The bytes in hexadecimal, as one line.
-pub(crate) fn show_bytes(bytes: &[u8]) {
-    show_text(b"bytes");
+// A text, and the bytes after it in hexadecimal.
+pub(crate) fn show_bytes(text: &[u8], bytes: &[u8]) {
+    show_text(text);
     let mut i = 0;
     while i < bytes.len() {
         show_byte(bytes[i]);
         i += 1;
     }
-    show_text(b"\n");
 }
 
-fn show_answer(answer: Answer) {
-    if let Answer::Done = answer {
-        show_text(b": ok");
-        return;
+// Whether a call was accepted, or why not: the grounds that the day meets in words, any other by its number alone.
+pub(crate) fn show_answer(answer: Answer) {
+    let ground = ground_in(answer);
+    match ground {
+        0 => show_text(b": accepted"),
+        6 => show_text(b": refused on ground 6, the offers of a list must rise"),
+        10 => show_text(b": refused on ground 10, a price must stay from 0 to 4294967295"),
+        11 => show_text(b": refused on ground 11, the state must be from checkpoint to newest"),
+        _ => show_number(b": refused on ground ", ground as u64),
     }
-    let code = code_of(answer);
-    if code == 0 {
-        show_count(b": ok ", value_of(answer, 0));
-        return;
-    }
-    if code == NO_PRICE {
-        show_text(b": none");
-        return;
-    }
-    show_count(b": refused ", code)
-}
-
-// The name of a call and its answer, as one line.
-pub(crate) fn show_call(name: &[u8], answer: Answer) {
-    show_text(name);
-    show_answer(answer);
-    show_text(b"\n");
-}
-
-// The numbers of the states, and the tally, as two lines.
-pub(crate) fn show_states(head: Head, tally: Tally) {
-    show_count(b"oldest ", head.oldest as u64);
-    show_count(b" checkpoint ", head.checkpoint as u64);
-    show_count(b" tip ", head.tip as u64);
-    show_count(b"\ntally committed ", tally.committed);
-    show_count(b" rolled back ", tally.rolled_back);
-    show_count(b" flushed ", tally.flushed);
-    show_text(b"\n");
 }

@@ -4,7 +4,7 @@ use crate::baseline::{word, Memory};
 use crate::scene::Scene;
 use crate::subject::Subject;
 use crate::timing::{repeated, restored, Side};
-use ffi::NO_PRICE;
+use cechnuol::raw::NO_PRICE;
 use model::rng::Rng;
 use std::hint::black_box;
 
@@ -105,15 +105,19 @@ pub fn commit_64<S: Subject>(scene: &Scene) -> Side<'_> {
     commit::<S>(scene, word::LIST_WORDS)
 }
 
+/// A commit of as many entries as a step has.
+pub fn commit_step<S: Subject>(scene: &Scene) -> Side<'_> {
+    commit::<S>(scene, scene.shape.step)
+}
+
 pub fn commit_1<S: Subject>(scene: &Scene) -> Side<'_> {
     commit::<S>(scene, 1)
 }
 
 /// A commit of 64 entries to a store that holds 64 steps.
 pub fn refused_commit<S: Subject>(scene: &Scene) -> Side<'_> {
-    let mut lists = scene.lists(word::LIST_WORDS);
-    let count = lists.len();
-    steady(scene, 13, move |store: &mut S, turn| store.commit(&mut lists[turn % count]))
+    let lists = scene.lists(word::LIST_WORDS);
+    steady(scene, 13, move |store: &mut S, turn| store.commit(&lists[turn % lists.len()]))
 }
 
 /// All steps above the checkpoint rolled back.
@@ -145,7 +149,7 @@ pub fn look_up_absent<S: Subject>(scene: &Scene) -> Side<'_> {
     steady(scene, NO_PRICE, move |store: &mut S, turn| store.look_up(offers[turn % offers.len()], state))
 }
 
-/// A read of 64 offers.
+/// A read of the offers of a list.
 pub fn issue<S: Subject>(scene: &Scene) -> Side<'_> {
     let first = scene.variant(0);
     let lists = scene.asked();
@@ -194,6 +198,8 @@ pub fn plain_pass(scene: &Scene) -> Side<'_> {
 /// A batch of so many orders of all kinds, at any place of a read set of 64 offers.
 pub fn price_batch<S: Subject>(orders: usize) -> Side<'static> {
     const KINDS: [u64; 6] = [0, 1, 2, 3, 20, 31];
+    // So many that no predictor of branches learns them by heart: of 64 it does, and no caller's batches repeat.
+    const BATCHES: usize = 1024;
     let mut rng = Rng::new(orders as u64);
     let reads: Vec<u64> = (0..64).map(|offer| word::put(offer * 1000, 1_000_000)).collect();
     let mut order = |_| {
@@ -213,6 +219,6 @@ pub fn price_batch<S: Subject>(orders: usize) -> Side<'static> {
             return batch;
         }
     };
-    let batches: Vec<Vec<u64>> = (0..64).map(|_| batch()).collect();
-    repeated(move |turn| S::price_batch(black_box(&reads), black_box(&batches[turn % 64]), &mut out))
+    let batches: Vec<Vec<u64>> = (0..BATCHES).map(|_| batch()).collect();
+    repeated(move |turn| S::price_batch(black_box(&reads), black_box(&batches[turn % BATCHES]), &mut out))
 }

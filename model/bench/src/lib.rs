@@ -2,6 +2,8 @@
 
 pub mod baseline;
 pub mod calls;
+pub mod fixed;
+pub mod lent_words;
 pub mod library;
 pub mod lmdb;
 pub mod peer;

@@ -2,9 +2,10 @@
 
 use crate::baseline::Memory;
 use crate::calls;
+use crate::fixed::{fixed, Fixed};
 use crate::peer::{Loaded, KINDS};
 use crate::scene::{Scene, Shape};
-use crate::timing::{measure, Rounds, Side};
+use crate::timing::{measure, Rounds, Side, Spread};
 use ffi::Lent;
 
 /// Offers in the table, and steps held.
@@ -21,14 +22,19 @@ const LENT: [usize; 9] = [64, 128, 256, 512, 1024, 2048, 4096, 8192, TABLE + JOU
 /// The nanoseconds of a call of the unit and of the baseline, and their ratio.
 #[derive(Clone, Copy, Debug)]
 pub struct Figure {
-    pub unit: f64,
-    pub rust: f64,
-    pub ratio: f64,
+    pub unit: Spread,
+    pub rust: Spread,
+    pub ratio: Spread,
 }
 
 impl Figure {
-    fn of(rounds: &Rounds) -> Figure {
-        Figure { unit: rounds.time(0), rust: rounds.time(1), ratio: rounds.ratio(0, 1) }
+    /// Of the unit as the first side and the baseline as the second.
+    pub fn of(rounds: &Rounds) -> Figure {
+        Figure::of_sides(rounds, 0, 1)
+    }
+
+    fn of_sides(rounds: &Rounds, unit: usize, rust: usize) -> Figure {
+        Figure { unit: rounds.time(unit), rust: rounds.time(rust), ratio: rounds.ratio(unit, rust) }
     }
 }
 
@@ -45,10 +51,10 @@ pub struct Soundness {
     pub held: usize,
     pub figure: Figure,
     /// The baseline in the form that can be vectorised, and the plain pass.
-    pub without_exits: f64,
-    pub pass: f64,
+    pub without_exits: Spread,
+    pub pass: Spread,
     /// How many times as long as the plain pass the unit takes, the baseline, and its other form.
-    pub to_pass: [f64; 3],
+    pub to_pass: [Spread; 3],
 }
 
 /// A call of the unit and of the peers, where they are installed.
@@ -56,7 +62,7 @@ pub struct Beside {
     pub call: &'static str,
     pub offers: usize,
     pub figure: Figure,
-    pub peers: Vec<Option<f64>>,
+    pub peers: Vec<Option<Spread>>,
 }
 
 /// The times of a call against the words lent.
@@ -65,12 +71,11 @@ pub struct Line {
     pub points: Vec<Point>,
 }
 
-/// Words lent, and the nanoseconds of the unit and of the baseline; a plain pass has only one time, twice.
+/// Words lent, and the times of the unit and of the baseline; a plain pass has only one time, twice.
 #[derive(Clone, Copy, Debug)]
 pub struct Point {
     pub words: usize,
-    pub unit: f64,
-    pub rust: f64,
+    pub figure: Figure,
     /// How many times as long the unit takes with the most words.
     pub to_last: f64,
 }
@@ -80,6 +85,7 @@ pub struct Results {
     pub rows: Vec<Row>,
     /// Batches of so many orders.
     pub batches: Vec<(usize, Figure)>,
+    pub fixed: Vec<Fixed>,
     pub soundness: Vec<Soundness>,
     pub beside: Vec<Beside>,
     pub lines: Vec<Line>,
@@ -87,7 +93,7 @@ pub struct Results {
 
 /// What a call is measured on.
 #[derive(Clone, Copy, PartialEq)]
-enum Stage {
+pub enum Stage {
     /// A store with all steps above its checkpoint.
     Steps,
     /// The same with room for one more step.
@@ -100,7 +106,17 @@ enum Stage {
     Any,
 }
 
-type Make = for<'a> fn(&'a Scene) -> Side<'a>;
+impl Stage {
+    pub fn scene(self, shape: Shape) -> Scene {
+        match self {
+            Stage::Early => Scene::with_early_read(shape),
+            _ => Scene::new(shape),
+        }
+    }
+}
+
+/// What makes a side of a scene.
+pub type Make = for<'a> fn(&'a Scene) -> Side<'a>;
 
 /// A call of the table, and its sides.
 struct Call {
@@ -149,11 +165,8 @@ impl Call {
     }
 
     fn measured(&self, shape: Shape) -> Figure {
-        let scene = match self.stage {
-            Stage::Early => Scene::with_early_read(shape),
-            _ => Scene::new(shape),
-        };
-        Figure::of(&measure(self.sides.map(|side| side(&scene)).into()))
+        let scene = self.stage.scene(shape);
+        Figure::of(&measure(|| self.sides.map(|side| side(&scene)).into()))
     }
 
     fn row(&self, held: usize) -> Option<Row> {
@@ -164,7 +177,7 @@ impl Call {
 }
 
 fn shape(offers: usize, held: usize) -> Shape {
-    Shape { table: TABLE, journal: JOURNAL, offers, held, step: STEP }
+    Shape { table: TABLE, journal: JOURNAL, offers, held, step: STEP, read: STEP }
 }
 
 /// Measures everything; `tell` is told what comes next.
@@ -176,27 +189,31 @@ pub fn measure_all(mut tell: impl FnMut(&str)) -> Results {
     }
     tell("price_batch");
     let batches = [1, 64].map(|orders| (orders, Figure::of(&batch(orders)))).into();
+    tell("fixed cost");
+    let fixed = fixed();
     tell("soundness");
     let cases = OFFERS.iter().flat_map(|&offers| HELD.map(|held| (offers, held)));
     let soundness = cases.map(|(offers, held)| soundness(offers, held)).collect();
     tell("peers");
     let beside = OFFERS.iter().flat_map(|&offers| beside(offers)).collect();
     tell("words lent");
-    Results { rows, batches, soundness, beside, lines: lines() }
+    Results { rows, batches, fixed, soundness, beside, lines: lines() }
 }
 
 fn batch(orders: usize) -> Rounds {
-    measure(vec![calls::price_batch::<Lent>(orders), calls::price_batch::<Memory>(orders)])
+    measure(|| vec![calls::price_batch::<Lent>(orders), calls::price_batch::<Memory>(orders)])
 }
 
 fn soundness(offers: usize, held: usize) -> Soundness {
     let scene = Scene::new(shape(offers, held));
-    let rounds = measure(vec![
-        calls::soundness::<Lent>(&scene),
-        calls::soundness::<Memory>(&scene),
-        calls::soundness_without_exits(&scene),
-        calls::plain_pass(&scene),
-    ]);
+    let rounds = measure(|| {
+        vec![
+            calls::soundness::<Lent>(&scene),
+            calls::soundness::<Memory>(&scene),
+            calls::soundness_without_exits(&scene),
+            calls::plain_pass(&scene),
+        ]
+    });
     Soundness {
         offers,
         held,
@@ -211,53 +228,52 @@ fn soundness(offers: usize, held: usize) -> Soundness {
 fn beside(offers: usize) -> [Beside; 2] {
     let scene = Scene::new(shape(offers, 8));
     let loaded: Vec<Option<Loaded>> = KINDS.iter().map(|kind| kind.load(&scene)).collect();
-    let row = |call, unit: [Side; 2], of_peer: &dyn for<'a> Fn(&'a Loaded) -> Side<'a>| {
-        let peers = loaded.iter().flatten().map(of_peer);
-        let rounds = measure(unit.into_iter().chain(peers).collect());
+    let row = |call, unit: [Make; 2], of_peer: &dyn for<'a> Fn(&'a Loaded) -> Side<'a>| {
+        let peers = || loaded.iter().flatten().map(of_peer);
+        let rounds = measure(|| unit.iter().map(|side| side(&scene)).chain(peers()).collect());
         let mut sides = 2..;
         let time =
             |peer: &Option<Loaded>| peer.as_ref().and_then(|_| sides.next()).map(|side| rounds.time(side));
         Beside { call, offers, figure: Figure::of(&rounds), peers: loaded.iter().map(time).collect() }
     };
-    let look_ups = [calls::look_up_present::<Lent>(&scene), calls::look_up_present::<Memory>(&scene)];
-    let commits = [calls::commit_64::<Lent>(&scene), calls::commit_64::<Memory>(&scene)];
     [
-        row("look_up, present", look_ups, &|peer| peer.look_up(&scene)),
-        row("commit of 64", commits, &|peer| peer.commit(&scene)),
+        row(
+            "look_up, present",
+            [calls::look_up_present::<Lent>, calls::look_up_present::<Memory>],
+            &|peer| peer.look_up(&scene),
+        ),
+        row("commit of 64", [calls::commit_64::<Lent>, calls::commit_64::<Memory>], &|peer| {
+            peer.commit(&scene)
+        }),
     ]
 }
 
 /// The calls of the plot, on stores whose tables are full and whose journals are half full.
 fn lines() -> Vec<Line> {
-    let scenes: Vec<Scene> = LENT.into_iter().map(half_full).collect();
-    let line = |call, sides: fn(&Scene) -> [Side; 2]| {
-        let rounds = measure(scenes.iter().flat_map(sides).collect());
+    let scenes: Vec<Scene> = LENT.into_iter().map(|words| Scene::new(half_full(words))).collect();
+    let line = |call, sides: [Make; 2]| {
+        let rounds = measure(|| scenes.iter().flat_map(|scene| sides.map(|side| side(scene))).collect());
         let last = 2 * (scenes.len() - 1);
         let points = LENT.iter().zip((0..).step_by(2)).map(|(&words, unit)| Point {
             words,
-            unit: rounds.time(unit),
-            rust: rounds.time(unit + 1),
-            to_last: rounds.ratio(last, unit),
+            figure: Figure::of_sides(&rounds, unit, unit + 1),
+            to_last: rounds.ratio(last, unit).median,
         });
         Line { call, points: points.collect() }
     };
     vec![
-        line("look_up", |scene| {
-            [calls::look_up_present::<Lent>(scene), calls::look_up_present::<Memory>(scene)]
-        }),
-        line("commit", |scene| {
-            let step = scene.shape.step;
-            [calls::commit::<Lent>(scene, step), calls::commit::<Memory>(scene, step)]
-        }),
-        line("flush", |scene| [calls::flush::<Lent>(scene), calls::flush::<Memory>(scene)]),
-        line("plain pass", |scene| [calls::plain_pass(scene), calls::plain_pass(scene)]),
+        line("look_up", [calls::look_up_present::<Lent>, calls::look_up_present::<Memory>]),
+        line("commit", [calls::commit_step::<Lent>, calls::commit_step::<Memory>]),
+        line("flush", [calls::flush::<Lent>, calls::flush::<Memory>]),
+        line("plain pass", [calls::plain_pass, calls::plain_pass]),
     ]
 }
 
-fn half_full(words: usize) -> Scene {
+/// A full table and a journal that is half full, of so many words in all; a read is of as many offers as a step has entries.
+pub fn half_full(words: usize) -> Shape {
     let table = words * TABLE / (TABLE + JOURNAL);
     let journal = words - table;
     let step = (journal / 64).max(1);
     let held = (journal / step / 2).min(32);
-    Scene::new(Shape { table, journal, offers: table, held, step })
+    Shape { table, journal, offers: table, held, step, read: step }
 }

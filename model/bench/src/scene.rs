@@ -1,7 +1,8 @@
 //! Stores prepared to be measured: a map in the table and steps over it, made by calls of the unit.
 
 use crate::baseline::{word, Head};
-use ffi::{Lent, HEAD_WORDS};
+use cechnuol::HEAD_WORDS;
+use ffi::Lent;
 use model::rng::Rng;
 use std::collections::BTreeSet;
 
@@ -21,6 +22,8 @@ pub struct Shape {
     /// Steps held, and the words of each.
     pub held: usize,
     pub step: usize,
+    /// Offers that a read is of.
+    pub read: usize,
 }
 
 /// Stores of a shape, which share a table and, if slot 0 is open, its read set.
@@ -58,14 +61,14 @@ impl Scene {
             present.rising().into_iter().map(|offer| word::put(offer, price(&mut rng))).collect();
         let mut lent = Lent::of_lengths(shape.table, shape.journal);
         let image = image_of(&map);
-        assert_eq!(lent.load(&mut image.clone()), 0);
-        let mut reads = present.asked(&mut rng);
+        assert_eq!(lent.lend().load(&image), 0);
+        let mut reads = present.asked(shape.read, &mut rng);
         let mut flushed = 0;
         if early {
-            assert_eq!(lent.issue(0, &mut reads), 0);
+            assert_eq!(lent.lend().issue(0, &mut reads), 0);
             flushed = shape.held / 2;
             commit_steps(&mut lent, &mut present, shape.step, flushed, &mut rng);
-            assert_eq!(lent.flush(flushed as u32), 0);
+            assert_eq!(lent.lend().flush(flushed as u32), 0);
         }
         let table = lent.table.clone();
         let count = (WORDS / (shape.table + shape.journal)).clamp(1, VARIANTS);
@@ -111,7 +114,7 @@ impl Scene {
     pub fn asked(&self) -> Vec<Vec<u64>> {
         let mut rng = self.rng.clone();
         let offers = Offers(self.table[..self.shape.offers].iter().map(|&word| word::offer(word)).collect());
-        (0..16).map(|_| offers.asked(&mut rng)).collect()
+        (0..16).map(|_| offers.asked(self.shape.read, &mut rng)).collect()
     }
 
     /// Offers with a price at the tip of the first store, or without one.
@@ -124,7 +127,7 @@ impl Scene {
 
 fn commit_steps(lent: &mut Lent, present: &mut Offers, words: usize, steps: usize, rng: &mut Rng) {
     for _ in 0..steps {
-        assert_eq!(lent.commit(&mut present.step(words, rng)), 0);
+        assert_eq!(lent.lend().commit(&present.step(words, rng)), 0);
     }
 }
 
@@ -201,13 +204,13 @@ impl Offers {
         list
     }
 
-    /// A list that reads 64 offers, half of them with a price if there are so many.
-    fn asked(&self, rng: &mut Rng) -> Vec<u64> {
+    /// A list that reads so many offers, half of them with a price if there are so many.
+    fn asked(&self, words: usize, rng: &mut Rng) -> Vec<u64> {
         let mut offers = BTreeSet::new();
-        while offers.len() < self.0.len().min(word::LIST_WORDS / 2) {
+        while offers.len() < self.0.len().min(words.div_ceil(2)) {
             offers.insert(self.one(rng));
         }
-        while offers.len() < word::LIST_WORDS {
+        while offers.len() < words {
             offers.insert(self.another(rng));
         }
         offers.into_iter().map(word::none).collect()

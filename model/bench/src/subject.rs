@@ -2,7 +2,9 @@
 
 use crate::baseline::{self, Memory, Refusal};
 use crate::scene::{Scene, Variant};
-use ffi::{Lent, TALLY_WORDS};
+use cechnuol::raw::{self, NO_PRICE};
+use cechnuol::TALLY_WORDS;
+use ffi::Lent;
 
 /// A store whose calls answer the codes of the C interface.
 pub trait Subject: 'static {
@@ -13,10 +15,10 @@ pub trait Subject: 'static {
     fn set_head(&mut self, variant: &Variant);
 
     fn clear(&mut self) -> u64;
-    fn load(&mut self, bytes: &mut [u8]) -> u64;
+    fn load(&mut self, bytes: &[u8]) -> u64;
     fn write_image(&mut self, bytes: &mut [u8]) -> u64;
     fn restart(&mut self, bytes: &mut [u8]) -> u64;
-    fn commit(&mut self, list: &mut [u64]) -> u64;
+    fn commit(&mut self, list: &[u64]) -> u64;
     fn roll_back(&mut self, state: u32) -> u64;
     fn flush(&mut self, state: u32) -> u64;
     fn look_up(&mut self, offer: u32, state: u32) -> u64;
@@ -45,56 +47,65 @@ impl Subject for Lent {
     }
 
     fn clear(&mut self) -> u64 {
-        Lent::clear(self)
+        self.lend().clear()
     }
 
-    fn load(&mut self, bytes: &mut [u8]) -> u64 {
-        Lent::load(self, bytes)
+    fn load(&mut self, bytes: &[u8]) -> u64 {
+        self.lend().load(bytes)
     }
 
     fn write_image(&mut self, bytes: &mut [u8]) -> u64 {
-        Lent::write_image(self, bytes, &mut 0)
+        self.to_read().write_image(bytes, &mut 0)
     }
 
     fn restart(&mut self, bytes: &mut [u8]) -> u64 {
-        Lent::restart(self, bytes)
+        self.lend().restart(bytes)
     }
 
-    fn commit(&mut self, list: &mut [u64]) -> u64 {
-        Lent::commit(self, list)
+    fn commit(&mut self, list: &[u64]) -> u64 {
+        self.lend().commit(list)
     }
 
     fn roll_back(&mut self, state: u32) -> u64 {
-        Lent::roll_back(self, state)
+        self.lend().roll_back(state)
     }
 
     fn flush(&mut self, state: u32) -> u64 {
-        Lent::flush(self, state)
+        self.lend().flush(state)
     }
 
     fn look_up(&mut self, offer: u32, state: u32) -> u64 {
-        Lent::look_up(self, offer, state, &mut 0)
+        self.to_read().look_up(offer, state, &mut 0)
     }
 
     fn issue(&mut self, slot: usize, list: &mut [u64]) -> u64 {
-        Lent::issue(self, slot, list)
+        self.lend().issue(slot, list)
     }
 
     fn forward(&mut self, slot: usize, state: u32, reads: &mut [u64]) -> u64 {
-        Lent::forward(self, slot, state, reads)
+        self.lend().forward(slot, state, reads)
     }
 
     fn release(&mut self, slot: usize) -> u64 {
-        Lent::release(self, slot)
+        self.lend().release(slot)
     }
 
     fn price_batch(reads: &[u64], orders: &[u64], out: &mut [u64]) -> u64 {
-        ffi::price_batch(reads, orders, out, &mut 0)
+        raw::price_batch(reads, orders, out, &mut 0)
     }
 }
 
-fn code<T>(answer: Result<T, Refusal>) -> u64 {
+/// The code of an answer.
+pub fn code<T>(answer: Result<T, Refusal>) -> u64 {
     answer.map_or_else(Refusal::number, |_| 0)
+}
+
+/// The code of a lookup's answer.
+pub fn price_code(answer: Result<Option<u32>, Refusal>) -> u64 {
+    match answer {
+        Ok(None) => NO_PRICE,
+        answer => code(answer),
+    }
 }
 
 impl Subject for Memory {
@@ -120,7 +131,7 @@ impl Subject for Memory {
         code(self.lend().clear())
     }
 
-    fn load(&mut self, bytes: &mut [u8]) -> u64 {
+    fn load(&mut self, bytes: &[u8]) -> u64 {
         code(self.lend().load(bytes))
     }
 
@@ -132,7 +143,7 @@ impl Subject for Memory {
         code(self.lend().restart(bytes))
     }
 
-    fn commit(&mut self, list: &mut [u64]) -> u64 {
+    fn commit(&mut self, list: &[u64]) -> u64 {
         code(self.lend().commit(list))
     }
 
@@ -145,10 +156,7 @@ impl Subject for Memory {
     }
 
     fn look_up(&mut self, offer: u32, state: u32) -> u64 {
-        match self.lend().look_up(offer, state) {
-            Ok(None) => ffi::NO_PRICE,
-            answer => code(answer),
-        }
+        price_code(self.lend().look_up(offer, state))
     }
 
     fn issue(&mut self, slot: usize, list: &mut [u64]) -> u64 {

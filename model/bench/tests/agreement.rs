@@ -1,11 +1,14 @@
 //! The baseline against the static library: random calls on the same memory, damaged memory and heads among them, with answers
 //! and all memory compared after each.
 
-use bench::baseline::{price_batch, Head, Memory, Refusal, Tally};
+use bench::baseline::{price_batch, Head, LentWords, Memory, Refusal, Tally};
+use bench::subject::Subject;
+use cechnuol::raw::NO_PRICE;
 use ffi::differ::Pair;
 use ffi::said::{Said, UNTOUCHED};
-use ffi::{Lent, NO_PRICE};
+use ffi::Lent;
 use model::gen::{items, Item};
+use model::rng::Rng;
 use model::script::Command;
 use model::unit::{Call, Filled};
 
@@ -86,4 +89,72 @@ fn random_calls() {
         }
     }
     assert!(damaged > calls / 20, "{damaged} of {calls} calls on damaged memory");
+}
+
+/// The baseline on lent words is given the words of the library, and must leave the same.
+fn words_of(lent: &Lent) -> LentWords {
+    let Lent { table, journal, head, tally } = lent.clone();
+    LentWords { table, journal, head, tally }
+}
+
+/// A call of something that is measured; a batch has no store.
+fn code_of<S: Subject>(
+    store: &mut S,
+    bytes: &mut [u8],
+    call: &Call,
+    filled: &Filled,
+) -> Option<(u64, Vec<u64>)> {
+    let mut words = match call {
+        Call::Commit { list } | Call::Issue { list, .. } => list.clone(),
+        Call::Forward { slot, with, .. } => filled.read_set(*slot, with.as_deref()),
+        _ => Vec::new(),
+    };
+    let code = match call {
+        Call::Clear => store.clear(),
+        Call::Load => store.load(bytes),
+        Call::WriteImage => store.write_image(bytes),
+        Call::Restart => store.restart(bytes),
+        Call::Commit { .. } => store.commit(&words),
+        Call::RollBack { state } => store.roll_back(*state),
+        Call::Flush { state } => store.flush(*state),
+        Call::LookUp { offer, state } => store.look_up(*offer, *state),
+        Call::Issue { slot, .. } => store.issue(*slot as usize, &mut words),
+        Call::Forward { slot, state, .. } => store.forward(*slot as usize, *state, &mut words),
+        Call::Release { slot } => store.release(*slot as usize),
+        Call::PriceBatch { .. } => return None,
+    };
+    Some((code, words))
+}
+
+/// Makes a word of the head any other, which seldom fits its field.
+fn spoil(lent: &mut Lent, rng: &mut Rng) {
+    let at = rng.below(lent.head.len());
+    lent.head[at] = rng.pick(&[rng.clone().bits(), 2, 1 << 32, u64::MAX]);
+}
+
+#[test]
+fn random_calls_on_lent_words() {
+    let mut rng = Rng::new(1);
+    let mut spoilt = 0;
+    for seed in 0..SCRIPTS {
+        let mut pair = Pair::default();
+        for item in items(seed, CALLS).0 {
+            let Item::Command(command) = item else { continue };
+            if let Command::Call(call) = &command {
+                let library = pair.library.clone();
+                let (mut lent, mut bytes) = (library.lent, library.bytes);
+                if rng.percent(20) {
+                    spoil(&mut lent, &mut rng);
+                    spoilt += 1;
+                }
+                let (mut words, mut others) = (words_of(&lent), bytes.clone());
+                let said = code_of(&mut words, &mut others, call, &library.filled);
+                let wanted = code_of(&mut lent, &mut bytes, call, &library.filled);
+                assert_eq!(said, wanted, "seed {seed}: {call:?}");
+                assert!(words == words_of(&lent) && others == bytes, "seed {seed}: {call:?}");
+            }
+            pair.step(&command).unwrap();
+        }
+    }
+    assert!(spoilt > 1000);
 }

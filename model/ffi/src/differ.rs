@@ -33,11 +33,10 @@ impl Pair {
             Command::Call(call) => self.call(call),
             // What is shown is compared after every call.
             Command::Show(_) => Ok(()),
-            _ => {
-                perform(&mut self.model, command);
-                perform(&mut self.library, command);
-                Ok(())
-            }
+            _ => match (perform(&mut self.library, command), perform(&mut self.model, command)) {
+                (printed, wanted) if printed == wanted => Ok(()),
+                (printed, wanted) => Err(format!("the library printed {printed:?}, the model {wanted:?}")),
+            },
         }
     }
 

@@ -2,20 +2,9 @@
 
 use crate::said::{say, Said};
 use crate::Lent;
+use cechnuol::raw::{CHECKPOINT, COMMITTED, ENDS, FLUSHED, ISSUED, OLDEST, ROLLED_BACK, TAKEN, TIP, USED};
 use model::script::{HeadField, Holding, Memories, TallyField};
 use model::unit::{Call, Filled};
-
-// Where the words of head and tally stand, as include/cechnuol.h has them.
-const USED: usize = 0;
-const OLDEST: usize = 1;
-const CHECKPOINT: usize = 2;
-const TIP: usize = 3;
-const HELD: usize = 4;
-const ISSUED: usize = 12;
-const ENDS: usize = 20;
-const COMMITTED: usize = 0;
-const ROLLED_BACK: usize = 1;
-const FLUSHED: usize = 2;
 
 /// What the library is lent, and the words that it filled for each slot at the slot's last accepted issue.
 #[derive(Clone, Debug, PartialEq, Eq)]
@@ -57,7 +46,7 @@ impl Holding for Library {
             HeadField::Oldest(number) => (OLDEST, number.into()),
             HeadField::Checkpoint(number) => (CHECKPOINT, number.into()),
             HeadField::Tip(number) => (TIP, number.into()),
-            HeadField::Held(slot, open) => (HELD + slot, open.into()),
+            HeadField::Held(slot, open) => (TAKEN + slot, open.into()),
             HeadField::Issued(slot, number) => (ISSUED + slot, number.into()),
             HeadField::Ends(mark, number) => (ENDS + mark, number),
         };

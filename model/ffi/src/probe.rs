@@ -8,13 +8,16 @@ use model::rng::Rng;
 use model::store::{JOURNAL_WORDS, TABLE_WORDS};
 use model::unit::Call;
 
-/// Makes a word of the head one that does not fit its field: a flag above 1, or a state number of 2^32 or more.
+/// Makes a word of the head one that does not fit its field: a flag above 1, a state number of 2^32 or more, or a mark of
+/// 2^16 or more. A number or a mark that is cut to its field is the one that was there.
 fn damage(lent: &mut Lent, rng: &mut Rng) {
-    if rng.percent(50) {
-        lent.head[rng.within(4, 11)] = rng.pick(&[2, 3, 256, 1 << 32, u64::MAX]);
-    } else {
-        let at = rng.pick(&[1, 2, 3, 12, 13, 14, 15, 16, 17, 18, 19]);
-        lent.head[at] += rng.pick(&[1, 2, 1 << 31]) << 32;
+    match rng.within(0, 2) {
+        0 => lent.head[rng.within(4, 11)] = rng.pick(&[2, 3, 256, 1 << 32, u64::MAX]),
+        1 => {
+            let at = rng.pick(&[1, 2, 3, 12, 13, 14, 15, 16, 17, 18, 19]);
+            lent.head[at] += rng.pick(&[1, 2, 1 << 31]) << 32;
+        }
+        _ => lent.head[rng.within(20, 83)] |= rng.pick(&[1, 2, 1 << 16, 1 << 47]) << 16,
     }
 }
 

@@ -1,6 +1,7 @@
 //! A call made on the library, and what it said.
 
-use crate::{price_batch, Lent, NO_PRICE};
+use crate::{Lent, NO_PRICE};
+use cechnuol::raw::price_batch;
 use model::script::words_text;
 use model::unit::{Call, Filled};
 use std::fmt;
@@ -43,28 +44,23 @@ pub fn say(lent: &mut Lent, bytes: &mut [u8], call: &Call, filled: &Filled) -> S
     let mut value = UNTOUCHED;
     let mut words = Vec::new();
     let code = match call {
-        Call::Clear => lent.clear(),
-        Call::Load => lent.load(bytes),
-        Call::WriteImage => lent.write_image(bytes, &mut value),
-        Call::Restart => lent.restart(bytes),
-        Call::Commit { list } => {
-            let mut lent_list = list.clone();
-            let code = lent.commit(&mut lent_list);
-            assert_eq!(&lent_list, list, "a commit leaves its list");
-            code
-        }
-        Call::RollBack { state } => lent.roll_back(*state),
-        Call::Flush { state } => lent.flush(*state),
-        Call::LookUp { offer, state } => lent.look_up(*offer, *state, &mut value),
+        Call::Clear => lent.lend().clear(),
+        Call::Load => lent.lend().load(bytes),
+        Call::WriteImage => lent.to_read().write_image(bytes, &mut value),
+        Call::Restart => lent.lend().restart(bytes),
+        Call::Commit { list } => lent.lend().commit(list),
+        Call::RollBack { state } => lent.lend().roll_back(*state),
+        Call::Flush { state } => lent.lend().flush(*state),
+        Call::LookUp { offer, state } => lent.to_read().look_up(*offer, *state, &mut value),
         Call::Issue { slot, list } => {
             words = list.clone();
-            lent.issue(*slot as usize, &mut words)
+            lent.lend().issue(*slot as usize, &mut words)
         }
         Call::Forward { slot, state, with } => {
             words = filled.read_set(*slot, with.as_deref());
-            lent.forward(*slot as usize, *state, &mut words)
+            lent.lend().forward(*slot as usize, *state, &mut words)
         }
-        Call::Release { slot } => lent.release(*slot as usize),
+        Call::Release { slot } => lent.lend().release(*slot as usize),
         Call::PriceBatch { reads, orders, output } => {
             words = output.clone();
             price_batch(reads, orders, &mut words, &mut value)

@@ -1,8 +1,10 @@
 //! Every short length and the ends of each range, empty slices among them; and any words for head and tally.
 
+use cechnuol::raw::price_batch;
+use cechnuol::{HEAD_WORDS, TALLY_WORDS};
 use ffi::differ::{expected, Pair};
 use ffi::said::{say, UNTOUCHED};
-use ffi::{price_batch, Lent, HEAD_WORDS, TALLY_WORDS};
+use ffi::Lent;
 use model::script::{Command, Memory, Poke};
 use model::unit::{Call, Filled, Unit};
 use model::word::entry;
@@ -69,21 +71,21 @@ fn clear_and_load_take_any_head_and_tally() {
             tally: [tally; TALLY_WORDS],
         };
         let mut lent = lend(2);
-        assert_eq!(lent.clear(), 0);
+        assert_eq!(lent.lend().clear(), 0);
         assert_eq!(lent, Lent::of_lengths(2, 4));
         let mut lent = lend(2);
-        assert_eq!(lent.load(&mut image.clone()), 0);
+        assert_eq!(lent.lend().load(&image), 0);
         let mut loaded = Lent::of_lengths(2, 4);
         loaded.table[0] = entry(5, Some(1200));
         loaded.head[..4].copy_from_slice(&[1, 7, 7, 7]);
         assert_eq!(lent, loaded);
         for (table, code) in [(0, 1), (2, 15)] {
             let mut lent = lend(table);
-            assert_eq!(lent.load(&mut image[..13].to_vec()), code);
+            assert_eq!(lent.lend().load(&image[..13]), code);
             assert_eq!(lent, lend(table));
         }
         let mut lent = lend(0);
-        assert_eq!(lent.clear(), 1);
+        assert_eq!(lent.lend().clear(), 1);
         assert_eq!(lent, lend(0));
     }
 }
@@ -93,11 +95,11 @@ fn clear_and_load_take_any_head_and_tally() {
 fn any_tally_is_counted_on() {
     for tally in WORDS {
         let mut lent = Lent::of_lengths(2, 4);
-        assert_eq!(lent.clear(), 0);
+        assert_eq!(lent.lend().clear(), 0);
         lent.tally = [tally; TALLY_WORDS];
-        assert_eq!(lent.commit(&mut []), 0);
+        assert_eq!(lent.lend().commit(&[]), 0);
         assert_eq!(lent.tally, [tally.saturating_add(1), tally, tally]);
-        assert_eq!(lent.roll_back(0), 0);
+        assert_eq!(lent.lend().roll_back(0), 0);
         assert_eq!(lent.tally, [tally.saturating_add(1), tally.saturating_add(1), tally]);
     }
 }
@@ -107,10 +109,11 @@ fn any_tally_is_counted_on() {
 #[test]
 fn words_that_no_head_has() {
     let mut fresh = Lent::of_lengths(2, 4);
-    assert_eq!(fresh.clear(), 0);
+    assert_eq!(fresh.lend().clear(), 0);
     let flags = (4..12).flat_map(|at| [2, 256, 1 << 32, u64::MAX].map(|word| (at, word)));
     let states = (1..4).chain(12..20).flat_map(|at| [1 << 32, 7 << 32, 1 << 63].map(|word| (at, word)));
-    for (at, word) in flags.chain(states) {
+    let marks = (20..84).flat_map(|at| [1 << 16, 1 << 32, 1 << 63].map(|word| (at, word)));
+    for (at, word) in flags.chain(states).chain(marks) {
         let mut before = fresh.clone();
         before.head[at] = word;
         for call in calls(1).iter().filter(|call| tests_store(call)) {

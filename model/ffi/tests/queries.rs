@@ -1,8 +1,10 @@
 //! The queries: they read a store, which may lie in read-only memory and may be queried from several threads at once,
-//! and store nothing but their output.
+//! and store nothing but their output. And what other calls only read may lie in read-only memory too.
 
+use cechnuol::raw::{price_batch, StoreRef, NO_PRICE};
+use cechnuol::{HEAD_WORDS, TALLY_WORDS};
 use ffi::said::UNTOUCHED;
-use ffi::{Lent, Readable, HEAD_WORDS, NO_PRICE, TALLY_WORDS};
+use ffi::Lent;
 use model::word::entry;
 use std::ffi::{c_int, c_void};
 use std::ptr::null_mut;
@@ -11,11 +13,11 @@ use std::{fs, slice, thread};
 /// State 1, with offers 5 and 9, in the table; a step to state 2 above it, slot 3 open, and counts in the tally.
 fn store() -> Lent {
     let mut lent = Lent::of_lengths(8, 16);
-    assert_eq!(lent.clear(), 0);
-    assert_eq!(lent.commit(&mut [entry(5, Some(1200)), entry(9, Some(700))]), 0);
-    assert_eq!(lent.flush(1), 0);
-    assert_eq!(lent.issue(3, &mut [entry(5, None)]), 0);
-    assert_eq!(lent.commit(&mut [entry(5, Some(1100)), entry(9, None), entry(11, Some(0))]), 0);
+    assert_eq!(lent.lend().clear(), 0);
+    assert_eq!(lent.lend().commit(&[entry(5, Some(1200)), entry(9, Some(700))]), 0);
+    assert_eq!(lent.lend().flush(1), 0);
+    assert_eq!(lent.lend().issue(3, &mut [entry(5, None)]), 0);
+    assert_eq!(lent.lend().commit(&[entry(5, Some(1100)), entry(9, None), entry(11, Some(0))]), 0);
     assert_eq!(lent.tally, [2, 0, 1]);
     lent
 }
@@ -24,21 +26,21 @@ fn store() -> Lent {
 const IMAGE: [u8; 22] = [0, 0, 0, 1, 0, 2, 0x80, 0, 0, 5, 0, 0, 0x04, 0xB0, 0x80, 0, 0, 9, 0, 0, 0x02, 0xBC];
 
 /// What a lookup answers, and what it leaves in a price word that held [`UNTOUCHED`].
-fn look_up(store: Readable, offer: u32, state: u32) -> (u64, u64) {
+fn look_up(store: StoreRef, offer: u32, state: u32) -> (u64, u64) {
     let mut price = UNTOUCHED;
     let code = store.look_up(offer, state, &mut price);
     (code, price)
 }
 
 /// What writing an image answers, what it leaves in a count that held [`UNTOUCHED`], and so many bytes that were 0xAA.
-fn write_image(store: Readable, length: usize) -> (u64, u64, Vec<u8>) {
+fn write_image(store: StoreRef, length: usize) -> (u64, u64, Vec<u8>) {
     let (mut bytes, mut count) = (vec![0xAA; length], UNTOUCHED);
     let code = store.write_image(&mut bytes, &mut count);
     (code, count, bytes)
 }
 
 /// Queries of that store, accepted and turned away, with their answers and output.
-fn ask(store: Readable) {
+fn ask(store: StoreRef) {
     let prices = [
         (5, 1, (0, 1200)),
         (9, 1, (0, 700)),
@@ -60,7 +62,7 @@ fn ask(store: Readable) {
 }
 
 /// Both queries turned away on a ground, their output as it came.
-fn ask_in_vain(store: Readable, ground: u64) {
+fn ask_in_vain(store: StoreRef, ground: u64) {
     assert_eq!(look_up(store, 5, 1), (ground, UNTOUCHED));
     assert_eq!(write_image(store, 22), (ground, UNTOUCHED, vec![0xAA; 22]));
 }
@@ -136,16 +138,16 @@ const WRITE: c_int = 2;
 const PRIVATE: c_int = 2;
 const ANONYMOUS: c_int = 0x20;
 
-/// A copy of the words in memory that is mapped read-only; a program that writes there is ended.
-fn read_only(words: &[u64]) -> &'static [u64] {
-    let length = size_of_val(words);
+/// A copy of words or bytes in memory that is mapped read-only; a program that writes there is ended.
+fn read_only<T: Copy>(numbers: &[T]) -> &'static [T] {
+    let length = size_of_val(numbers);
     // The pages are new and stay until the program ends; they are written here, and not once they are read-only.
-    let copy: &[u64] = unsafe {
+    let copy: &[T] = unsafe {
         let pages = mmap(null_mut(), length, READ | WRITE, PRIVATE | ANONYMOUS, -1, 0);
         assert_ne!(pages as isize, -1, "memory is mapped");
-        pages.cast::<u64>().copy_from_nonoverlapping(words.as_ptr(), words.len());
+        pages.cast::<T>().copy_from_nonoverlapping(numbers.as_ptr(), numbers.len());
         assert_eq!(mprotect(pages, length, READ), 0, "it is made read-only");
-        slice::from_raw_parts(pages.cast(), words.len())
+        slice::from_raw_parts(pages.cast(), numbers.len())
     };
     assert!(is_read_only(copy), "the system has it as read-only");
     copy
@@ -155,9 +157,9 @@ fn read_only_head(words: &[u64; HEAD_WORDS]) -> &'static [u64; HEAD_WORDS] {
     read_only(words).try_into().expect("as many words")
 }
 
-/// Whether the system has the memory where the words begin as one that may only be read.
-fn is_read_only(words: &[u64]) -> bool {
-    let start = words.as_ptr() as usize;
+/// Whether the system has the memory where the numbers begin as one that may only be read.
+fn is_read_only<T>(numbers: &[T]) -> bool {
+    let start = numbers.as_ptr() as usize;
     let maps = fs::read_to_string("/proc/self/maps").expect("Linux lists what is mapped");
     maps.lines().any(|line| {
         let (range, rest) = line.split_once(' ').expect("a range and more");
@@ -176,10 +178,10 @@ fn a_store_in_read_only_memory() {
     let mut unfit = head;
     unfit[4] = 2;
     let [head, unfit] = [head, unfit].map(|words| read_only_head(&words));
-    ask(Readable { table, journal, head });
-    ask_in_vain(Readable { table: &[], journal, head }, 1);
-    ask_in_vain(Readable { table, journal, head: unfit }, 2);
-    ask_in_vain(Readable { table: &table[1..], journal, head }, 2);
+    ask(StoreRef { table, journal, head });
+    ask_in_vain(StoreRef { table: &[], journal, head }, 1);
+    ask_in_vain(StoreRef { table, journal, head: unfit }, 2);
+    ask_in_vain(StoreRef { table: &table[1..], journal, head }, 2);
 }
 
 /// The same of the longest table and journal, both full.
@@ -189,16 +191,34 @@ fn a_full_store_in_read_only_memory() {
     image.extend(8000u16.to_be_bytes());
     image.extend((0..8000).flat_map(|k| entry(2 * k, Some(k)).to_be_bytes()));
     let mut lent = Lent::of_lengths(8000, 4096);
-    assert_eq!(lent.load(&mut image), 0);
+    assert_eq!(lent.lend().load(&image), 0);
     for step in 0..64 {
-        let mut list: Vec<u64> = (0..64).map(|k| entry(2 * k + 1, Some(100 * step + k))).collect();
-        assert_eq!(lent.commit(&mut list), 0);
+        let list: Vec<u64> = (0..64).map(|k| entry(2 * k + 1, Some(100 * step + k))).collect();
+        assert_eq!(lent.lend().commit(&list), 0);
     }
     let [table, journal] = [&lent.table, &lent.journal].map(|words| read_only(words));
-    let full = Readable { table, journal, head: read_only_head(&lent.head) };
+    let full = StoreRef { table, journal, head: read_only_head(&lent.head) };
     assert_eq!(look_up(full, 15_998, 64), (0, 7999));
     assert_eq!(look_up(full, 127, 1), (0, 63));
     assert_eq!(look_up(full, 127, 64), (0, 6363));
     assert_eq!(look_up(full, 127, 0), (NO_PRICE, UNTOUCHED));
     assert_eq!(write_image(full, 64_006), (0, 64_006, image));
+}
+
+/// The list of a commit, the image of a load, and the read set and orders of a batch, whether they are accepted or not.
+#[test]
+fn inputs_in_read_only_memory() {
+    let mut lent = store();
+    for (list, code) in [([entry(5, Some(1)), entry(7, None)], 0), ([entry(7, None), entry(5, Some(1))], 6)] {
+        assert_eq!(lent.lend().commit(read_only(&list)), code);
+    }
+    for (image, code) in [(&IMAGE[..], 0), (&IMAGE[..21], 15)] {
+        assert_eq!(lent.lend().load(read_only(image)), code);
+    }
+    let (reads, mut out, mut count) = (read_only(&[entry(5, Some(1200))]), [7; 2], UNTOUCHED);
+    let order = |kind: u64, amount: u64| kind << 56 | amount << 31 | 5;
+    let [raise, cut] = [order(2, 34), order(3, 1201)].map(|order| read_only(&[order]));
+    assert_eq!((price_batch(reads, raise, &mut out, &mut count), count), (0, 1));
+    assert_eq!((price_batch(reads, cut, &mut out, &mut count), count), (10, 1));
+    assert_eq!(out, [entry(5, Some(1234)), 7]);
 }

@@ -1,6 +1,7 @@
 //! The calls on the fullest store that document 01 allows, on the stack that include/cechnuol.h asks for.
 
-use ffi::{price_batch, Lent};
+use cechnuol::raw::price_batch;
+use ffi::Lent;
 use model::word::entry;
 use std::thread;
 
@@ -16,11 +17,10 @@ fn full(new: bool) -> Lent {
     let mut image = vec![0, 0, 0, 0];
     image.extend(8000u16.to_be_bytes());
     image.extend(words.iter().flat_map(|word| word.to_be_bytes()));
-    assert_eq!(lent.load(&mut image), 0);
+    assert_eq!(lent.lend().load(&image), 0);
     for step in 0..64 {
-        let mut list: Vec<u64> =
-            (0..64).map(|k| entry(2 * (64 * k + step) + u32::from(new), Some(k))).collect();
-        assert_eq!(lent.commit(&mut list), 0);
+        let list: Vec<u64> = (0..64).map(|k| entry(2 * (64 * k + step) + u32::from(new), Some(k))).collect();
+        assert_eq!(lent.lend().commit(&list), 0);
     }
     lent
 }
@@ -33,11 +33,11 @@ fn with_stack(size: usize, calls: impl FnOnce() + Send + 'static) {
 fn a_flush_of_everything() {
     let mut lent = full(false);
     with_stack(FLUSH, move || {
-        assert_eq!(lent.flush(64), 0);
+        assert_eq!(lent.lend().flush(64), 0);
         assert_eq!(lent.head[0], 8000);
     });
     let mut lent = full(true);
-    with_stack(FLUSH, move || assert_eq!(lent.flush(64), 16));
+    with_stack(FLUSH, move || assert_eq!(lent.lend().flush(64), 16));
 }
 
 #[test]
@@ -47,16 +47,16 @@ fn every_other_call() {
     with_stack(OTHERS, move || {
         let mut value = 0;
         let mut reads: Vec<u64> = (0..64).map(|k| entry(2 * k, None)).collect();
-        assert_eq!(lent.issue(7, &mut reads), 0);
-        assert_eq!(lent.look_up(2, 64, &mut value), 0);
-        assert_eq!(lent.commit(&mut []), 13);
-        assert_eq!(lent.forward(7, 64, &mut reads), 0);
+        assert_eq!(lent.lend().issue(7, &mut reads), 0);
+        assert_eq!(lent.to_read().look_up(2, 64, &mut value), 0);
+        assert_eq!(lent.lend().commit(&[]), 13);
+        assert_eq!(lent.lend().forward(7, 64, &mut reads), 0);
         assert_eq!(price_batch(&reads, &[], &mut [], &mut value), 0);
-        assert_eq!(lent.release(7), 5);
-        assert_eq!(lent.roll_back(32), 0);
-        assert_eq!(lent.write_image(&mut bytes, &mut value), 0);
-        assert_eq!(lent.restart(&mut bytes), 0);
-        assert_eq!(lent.load(&mut bytes), 0);
-        assert_eq!(lent.clear(), 0);
+        assert_eq!(lent.lend().release(7), 5);
+        assert_eq!(lent.lend().roll_back(32), 0);
+        assert_eq!(lent.to_read().write_image(&mut bytes, &mut value), 0);
+        assert_eq!(lent.lend().restart(&mut bytes), 0);
+        assert_eq!(lent.lend().load(&bytes), 0);
+        assert_eq!(lent.lend().clear(), 0);
     });
 }

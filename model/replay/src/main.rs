@@ -1,25 +1,41 @@
-//! `replay < SCRIPT`: runs a script of calls, as docs/REPLAY.md defines it, on the proved unit and prints an answer a line.
+//! `replay [--explain] [FILE..]`: runs scripts of calls, as docs/REPLAY.md defines them, on the proved unit and prints an answer
+//! a line.
 //!
-//! Lines are read and written by the model's code. What they act on is memory of [`Library`]'s own, and what they print of
-//! answers, memory, head and tally is what the static library said and left there.
+//! Lines are read by the model's code. What they act on is memory of [`Library`]'s own, and what they print of answers, memory,
+//! head and tally is what the static library said and left there.
+
+mod explain;
+mod phrases;
+mod shown;
 
 use ffi::library::Library;
-use model::program::{ended, input};
-use model::script;
-use std::io::{self, BufWriter, Write};
+use model::program::{asked, ended, misused, printed, run_scripts, Asked, Failure};
+use model::script::respond;
+use std::ffi::OsString;
 use std::process::ExitCode;
 
+const USAGE: &str = "usage: replay [--explain] [FILE..]";
+
+const HELP: &str = "usage: replay [--explain] [FILE..]
+Runs scripts of calls on the price unit, one FILE after another, and prints an answer a line; - or no FILE is standard
+input. With --explain words, calls and refusals are printed as people say them. docs/REPLAY.md has the forms of a line.
+Exit status: 0 if all went well, 1 if a line was no call, 2 for wrong arguments, or if input cannot be read or output
+cannot be written.
+";
+
 fn main() -> ExitCode {
-    if std::env::args_os().len() > 1 {
-        eprintln!("replay < SCRIPT");
-        return ExitCode::FAILURE;
-    }
-    ended("replay", replay())
+    let arguments: Vec<OsString> = std::env::args_os().skip(1).collect();
+    ended("replay", replay(&arguments))
 }
 
-fn replay() -> io::Result<ExitCode> {
-    let mut out = BufWriter::new(io::stdout().lock());
-    script::run(&mut Library::default(), &input()?, &mut out)?;
-    out.flush()?;
-    Ok(ExitCode::SUCCESS)
+fn replay(arguments: &[OsString]) -> Result<ExitCode, Failure> {
+    let mut library = Library::default();
+    match asked(arguments) {
+        None => Ok(misused(USAGE)),
+        Some(Asked { help: true, .. }) => printed(HELP.as_bytes()),
+        Some(Asked { explain: true, names, .. }) => {
+            run_scripts(&names, |line| explain::respond(&mut library, line))
+        }
+        Some(Asked { names, .. }) => run_scripts(&names, |line| respond(&mut library, line)),
+    }
 }

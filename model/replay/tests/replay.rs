@@ -1,42 +1,20 @@
 //! Replay: the program on small scripts, and what it prints of answers and heads that document 01 does not know.
 
-#[path = "../../tests/common/mod.rs"]
-mod common;
+mod program;
 
 use ffi::library::Library;
 use ffi::said::{Said, UNTOUCHED};
 use ffi::NO_PRICE;
 use model::script::respond;
+use program::{ran, started};
 use std::io::Write;
-use std::process::{Child, Command, Output, Stdio};
+use std::process::Output;
 
-fn started(arguments: &[&str]) -> Child {
-    Command::new(env!("CARGO_BIN_EXE_replay"))
-        .args(arguments)
-        .stdin(Stdio::piped())
-        .stdout(Stdio::piped())
-        .stderr(Stdio::piped())
-        .spawn()
-        .expect("the program starts")
-}
-
-/// What the program does with a script. It reads all of it before it prints.
-fn ran(script: &[u8]) -> Output {
-    let mut child = started(&[]);
-    child.stdin.take().expect("a pipe").write_all(script).expect("the script is read");
-    child.wait_with_output().expect("the program ends")
-}
-
+/// What the program prints for a script that goes well.
 fn printed(script: &[u8]) -> String {
-    let Output { status, stdout, stderr } = ran(script);
-    assert!(status.success() && stderr.is_empty(), "{}", String::from_utf8_lossy(&stderr));
-    String::from_utf8(stdout).expect("what is printed is ASCII")
-}
-
-#[test]
-fn the_example_of_the_format() {
-    let [script, expected] = common::example();
-    assert_eq!(printed(script.as_bytes()), expected);
+    let (status, stdout, stderr) = ran(&[], script);
+    assert_eq!((status, stderr.as_str()), (0, ""));
+    stdout
 }
 
 /// Offer 5 stands at 1200 in the table when 5 and 9 are asked for, and the words that the library filled stay with the slot.
@@ -56,30 +34,61 @@ fn a_forward_takes_what_the_issue_filled() {
 #[test]
 fn lines_of_any_bytes() {
     assert_eq!(printed(b""), "");
-    assert_eq!(printed(b"\n\xFF\0\n# x\n\nclear"), "line 2: no call\nline 5: refused 1\n");
+    let bytes = "line 2: no call: unknown word '\\xFF\\x00'\nline 5: refused 1\n";
+    assert_eq!(ran(&[], b"\n\xFF\0\n# x\n\nclear"), (1, bytes.to_string(), String::new()));
     let spaced = |length: usize| [vec![b' '; length - 5], b"clear\n".to_vec()].concat();
-    let long = [spaced(4096), spaced(4097)].concat();
-    assert_eq!(printed(&long), "line 1: refused 1\nline 2: no call\n");
+    let long = "line 1: refused 1\nline 2: no call: the line has more than 4096 bytes\n";
+    assert_eq!(ran(&[], &[spaced(4096), spaced(4097)].concat()), (1, long.to_string(), String::new()));
+}
+
+/// The unit answered, so all went well.
+#[test]
+fn a_refused_call_goes_well() {
+    assert_eq!(printed(b"clear\ncommit\n"), "line 1: refused 1\nline 2: refused 1\n");
 }
 
 #[test]
-fn arguments_are_none() {
-    let Output { status, stdout, stderr } =
-        started(&["SCRIPT"]).wait_with_output().expect("the program ends");
-    assert_eq!(
-        (status.code(), stdout.as_slice(), stderr.as_slice()),
-        (Some(1), &b""[..], &b"replay < SCRIPT\n"[..])
-    );
+fn wrong_arguments() {
+    let usage = "usage: replay [--explain] [FILE..]\n";
+    for arguments in [&["--x"][..], &["-x"], &["-", "--explained"], &["--help", "-h"]] {
+        assert_eq!(ran(arguments, b""), (2, String::new(), usage.to_string()), "{arguments:?}");
+    }
+    let (status, stdout, stderr) = ran(&["--help"], b"");
+    assert_eq!((status, stderr.as_str()), (0, ""));
+    assert!(stdout.starts_with(usage), "{stdout}");
 }
 
-/// A reader that leaves before the end is no error.
+#[test]
+fn scripts_that_cannot_be_read() {
+    let directory = "replay: src: Is a directory (os error 21)\n";
+    assert_eq!(ran(&["src"], b"clear\n"), (2, String::new(), directory.to_string()));
+    // nothing is run of the scripts before it
+    assert_eq!(ran(&["-", "src"], b"clear\n"), (2, String::new(), directory.to_string()));
+    let missing = "replay: no such file: No such file or directory (os error 2)\n";
+    assert_eq!(ran(&["-", "--", "no such file"], b""), (2, String::new(), missing.to_string()));
+    assert_eq!(ran(&["--", "--help"], b"").0, 2);
+}
+
+/// Standard input named twice has nothing left the second time; a file of no bytes is a script.
+#[test]
+fn several_scripts_on_one_store() {
+    let script = b"lend table 1\nlend journal 1\nclear\n";
+    let expected = "-: line 3: ok\n".to_string();
+    assert_eq!(ran(&["-", "/dev/null", "-"], script), (0, expected, String::new()));
+}
+
+/// What cannot be written is an error, if only a reader of a pipe has left.
 #[test]
 fn output_that_nobody_reads() {
     let mut child = started(&[]);
     drop(child.stdout.take());
-    child.stdin.take().expect("a pipe").write_all(&b"show all\n".repeat(10_000)).expect("the script is read");
+    let mut stdin = child.stdin.take().expect("a pipe");
+    // the program may have ended before all is written
+    let _ = stdin.write_all(&b"show all\n".repeat(10_000));
+    drop(stdin);
     let Output { status, stderr, .. } = child.wait_with_output().expect("the program ends");
-    assert!(status.success() && stderr.is_empty(), "{}", String::from_utf8_lossy(&stderr));
+    assert_eq!(status.code(), Some(2));
+    assert_eq!(String::from_utf8_lossy(&stderr), "replay: standard output: Broken pipe (os error 32)\n");
 }
 
 /// What the library says is printed as the numbers that it gave, those too that no call may give.
@@ -111,7 +120,7 @@ fn no_head_is_hidden() {
     library.lent.head[19] = (1 << 32) + 7;
     library.lent.head[21] = 3;
     assert_eq!(
-        respond(&mut library, b"show head"),
+        respond(&mut library, b"show head").expect("a call"),
         [format!(
             "head used {} oldest 4294967296 checkpoint 0 tip 0 held 0200000256 issued 0 0 0 0 0 0 0 4294967303 ends 0 3",
             u64::MAX

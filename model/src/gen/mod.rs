@@ -74,7 +74,8 @@ impl Generator {
     /// Adds a command to the script and carries it out.
     fn emit(&mut self, command: Command) {
         if !matches!(command, Command::Show(_)) {
-            perform(&mut self.unit, &command);
+            let performed = perform(&mut self.unit, &command);
+            debug_assert!(performed.is_ok(), "{command}: {performed:?}");
         }
         self.items.push(Item::Command(command));
     }

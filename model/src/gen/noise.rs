@@ -4,11 +4,15 @@ use super::{Generator, Item};
 use crate::script::{respond, LINE_BYTES};
 
 /// Lines that are no call on any memory, for one reason each.
-const NO_CALLS: [&str; 40] = [
+const NO_CALLS: [&str; 44] = [
     "Clear",
     "clear 0",
     "drop 1",
     "load 14",
+    "load_file",
+    "load_file .",
+    "load_file no/such/file",
+    "load_file /dev/zero",
     "lend",
     "lend table",
     "lend table 8193",
@@ -47,6 +51,10 @@ const NO_CALLS: [&str; 40] = [
     "price_batch /",
 ];
 
+/// Lines with tabs and carriage returns, which are calls, and with bytes that make them none.
+const SPACED: [&[u8]; 6] =
+    [b"show\ttally", b"\t show \t tally\t", b"show tally\r", b"show tally\r\r", b"show\rtally", b"\xFF"];
+
 impl Generator {
     /// Adds one such line. A line that is a call after all would change the unit, so each is given to it too.
     pub(super) fn noise(&mut self) {
@@ -56,10 +64,10 @@ impl Generator {
             2 => [b"show tally #".as_slice(), &vec![b'x'; LINE_BYTES - 12]].concat(),
             3 => [b"show tally #".as_slice(), &vec![b'x'; LINE_BYTES - 11]].concat(),
             4 => b"  show   tally  ".to_vec(),
-            5 => self.draw.rng.pick(&[b"show\ttally".to_vec(), b"show tally\r".to_vec(), b"\xFF".to_vec()]),
+            5 => self.draw.rng.pick(&SPACED).to_vec(),
             _ => self.draw.rng.pick(&NO_CALLS).as_bytes().to_vec(),
         };
-        respond(&mut self.unit, &line);
+        let _ = respond(&mut self.unit, &line);
         self.items.push(Item::Noise(line));
     }
 }

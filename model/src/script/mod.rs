@@ -1,17 +1,24 @@
 //! Scripts of calls, as docs/REPLAY.md defines them: commands, how they are read and written, and what they print.
 
+mod file;
 mod holding;
+mod lines;
 mod parse;
 mod perform;
+mod reason;
+mod token;
 mod write;
 
+pub use file::file_bytes;
 pub use holding::{Holding, Memories};
+pub use lines::next_line;
 pub use parse::{parse, Line};
 pub use perform::perform;
+pub use reason::{Quoted, Reason};
 pub use write::words_text;
 
 use crate::unit::Call;
-use std::io::{self, Write};
+use std::io::{self, BufRead, Write};
 
 /// The most bytes of a line, its newline not counted.
 pub const LINE_BYTES: usize = 4096;
@@ -73,37 +80,81 @@ pub enum Show {
 /// A line's command.
 #[derive(Clone, Debug, PartialEq, Eq)]
 pub enum Command {
-    Lend { memory: Memory, length: u64 },
-    Poke { at: u64, poke: Poke },
-    Fill { memory: Memory, at: u64, count: u64, word: u64, rise: u64 },
+    Lend {
+        memory: Memory,
+        length: u64,
+    },
+    Poke {
+        at: u64,
+        poke: Poke,
+    },
+    Fill {
+        memory: Memory,
+        at: u64,
+        count: u64,
+        word: u64,
+        rise: u64,
+    },
     Head(HeadField),
     Tally(TallyField),
     Show(Show),
+    /// Lends the bytes of a file and loads them.
+    LoadFile {
+        name: Vec<u8>,
+    },
     Call(Call),
 }
 
-/// The lines of a script: each ends before a newline or at the end of the input.
-pub fn lines(script: &[u8]) -> impl Iterator<Item = &[u8]> {
-    let ended = script.strip_suffix(b"\n").unwrap_or(script);
-    ended.split(|&byte| byte == b'\n').take(if script.is_empty() { 0 } else { usize::MAX })
+/// Whether a script went well: every line that has a token was a call.
+#[derive(Clone, Copy, Debug, PartialEq, Eq)]
+pub enum Outcome {
+    AllCalls,
+    SomeNoCall,
 }
 
-/// Runs a script and prints what its lines print.
-pub fn run(holding: &mut impl Holding, script: &[u8], out: &mut impl Write) -> io::Result<()> {
-    for (index, line) in lines(script).enumerate() {
-        for text in respond(holding, line) {
-            writeln!(out, "line {}: {text}", index + 1)?;
-        }
+/// What ended a run before its script ended.
+#[derive(Debug)]
+pub enum Stopped {
+    /// The script could not be read on.
+    Input(io::Error),
+    /// What the script prints could not be written.
+    Output(io::Error),
+}
+
+/// Runs a script: has each line responded to, and prints what it prints behind a title and the line's number.
+pub fn run(
+    input: &mut impl BufRead,
+    title: &[u8],
+    out: &mut impl Write,
+    mut respond: impl FnMut(&[u8]) -> Result<Vec<String>, Reason>,
+) -> Result<Outcome, Stopped> {
+    let mut outcome = Outcome::AllCalls;
+    let mut line = Vec::new();
+    let mut number: u64 = 0;
+    while next_line(input, &mut line).map_err(Stopped::Input)? {
+        number += 1;
+        let texts = respond(&line).unwrap_or_else(|reason| {
+            outcome = Outcome::SomeNoCall;
+            vec![format!("no call: {reason}")]
+        });
+        write_texts(title, number, &texts, out).map_err(Stopped::Output)?;
+    }
+    Ok(outcome)
+}
+
+fn write_texts(title: &[u8], number: u64, texts: &[String], out: &mut impl Write) -> io::Result<()> {
+    for text in texts {
+        out.write_all(title)?;
+        writeln!(out, "line {number}: {text}")?;
     }
     Ok(())
 }
 
-/// What one line prints, without the numbers in front.
-pub fn respond(holding: &mut impl Holding, line: &[u8]) -> Vec<String> {
-    let printed = match parse(line) {
-        Line::Blank => Some(Vec::new()),
+/// What one line prints, without what stands in front, or why it is no call.
+pub fn respond(holding: &mut impl Holding, line: &[u8]) -> Result<Vec<String>, Reason> {
+    match parse(line) {
+        Line::Blank => Ok(Vec::new()),
         Line::Command(command) => perform(holding, &command),
-        Line::NoCall => None,
-    };
-    printed.unwrap_or_else(|| vec!["no call".to_string()])
+        Line::NoCall(reason) => Err(reason),
+    }
 }

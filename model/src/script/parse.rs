@@ -1,6 +1,10 @@
 //! Reading a line.
 
-use super::{Command, HeadField, Memory, Poke, Show, TallyField, LINE_BYTES, LIST_WORDS};
+use super::token::{
+    byte, exactly, forms_word, index, list, number, number_32, number_to, word, words, Token,
+};
+use super::{Command, HeadField, Memory, Poke, Quoted, Reason, Show, TallyField};
+use super::{BYTES, JOURNAL_WORDS, LINE_BYTES, LIST_WORDS, TABLE_WORDS};
 use crate::head::{SLOTS, STEPS};
 use crate::unit::Call;
 
@@ -12,199 +16,205 @@ pub enum Line {
     /// One of the forms. Whether it fits the lent memory shows when it is carried out.
     Command(Command),
     /// None of the forms.
-    NoCall,
+    NoCall(Reason),
 }
 
-/// Reads a line, without its newline.
+/// Reads a line, without its newline. A carriage return before that belongs to the line's end.
 pub fn parse(line: &[u8]) -> Line {
+    let line = line.strip_suffix(b"\r").unwrap_or(line);
     if line.len() > LINE_BYTES {
-        return Line::NoCall;
+        return Line::NoCall(Reason::LongLine);
     }
     let said = line.split(|&byte| byte == b'#').next().unwrap_or_default();
-    // A token with other bytes than ASCII has no form.
-    let Ok(said) = std::str::from_utf8(said) else {
-        return Line::NoCall;
+    let tokens: Vec<Token> =
+        said.split(|&byte| byte == b' ' || byte == b'\t').filter(|token| !token.is_empty()).collect();
+    match tokens.split_first() {
+        None => Line::Blank,
+        Some((first, rest)) => command(first, rest).map_or_else(Line::NoCall, Line::Command),
+    }
+}
+
+fn command(first: Token, rest: &[Token]) -> Result<Command, Reason> {
+    match first {
+        b"lend" => lend(rest),
+        b"poke" => poke(rest),
+        b"fill" => fill(rest),
+        b"head" => head(rest).map(Command::Head),
+        b"tally" => tally(rest).map(Command::Tally),
+        b"show" => show(rest).map(Command::Show),
+        b"load_file" => load_file(rest),
+        _ => call(first, rest).map(Command::Call),
+    }
+}
+
+fn lend(tokens: &[Token]) -> Result<Command, Reason> {
+    let (memory, rest) = memory(tokens)?;
+    let [length] = exactly(&format!("lend {memory} N"), rest)?;
+    let most = match memory {
+        Memory::Table => TABLE_WORDS,
+        Memory::Journal => JOURNAL_WORDS,
+        Memory::Bytes => BYTES,
     };
-    let tokens: Vec<&str> = said.split(' ').filter(|token| !token.is_empty()).collect();
-    match command(&tokens) {
-        _ if tokens.is_empty() => Line::Blank,
-        Some(command) => Line::Command(command),
-        None => Line::NoCall,
+    Ok(Command::Lend { memory, length: number_to(most, "N", length)? })
+}
+
+fn poke(tokens: &[Token]) -> Result<Command, Reason> {
+    let (memory, rest) = memory(tokens)?;
+    let [at, values @ ..] = rest else { return Err(poke_ends(memory)) };
+    if values.is_empty() {
+        return Err(poke_ends(memory));
+    }
+    let at = number("I", at)?;
+    let poke = match memory {
+        Memory::Table => Poke::Table(words(values)?),
+        Memory::Journal => Poke::Journal(words(values)?),
+        Memory::Bytes => Poke::Bytes(list("bytes", values, byte)?),
+    };
+    Ok(Command::Poke { at, poke })
+}
+
+/// A poke without an index, or with nothing to put there.
+fn poke_ends(memory: Memory) -> Reason {
+    let value = if memory == Memory::Bytes { "B" } else { "W" };
+    Reason::TooFew { form: format!("poke {memory} I {value}..") }
+}
+
+fn fill(tokens: &[Token]) -> Result<Command, Reason> {
+    let (memory, rest) = memory(tokens)?;
+    let [at, count, first, rise] = exactly(&format!("fill {memory} I N W W"), rest)?;
+    let (at, count) = (number("I", at)?, number("N", count)?);
+    Ok(Command::Fill { memory, at, count, word: word(first)?, rise: word(rise)? })
+}
+
+fn head(tokens: &[Token]) -> Result<HeadField, Reason> {
+    const FIELDS: [&str; 7] = ["used", "oldest", "checkpoint", "tip", "held", "issued", "ends"];
+    let (field, rest) = forms_word("used, oldest, checkpoint, tip, held, issued or ends", &FIELDS, tokens)?;
+    let value = |form: &str| exactly(form, rest).map(|[value]| value);
+    let two = |form: &str| exactly(form, rest).map(|[at, value]| (at, value));
+    match field {
+        "used" => number("N", value("head used N")?).map(HeadField::Used),
+        "oldest" => number_32("STATE", value("head oldest STATE")?).map(HeadField::Oldest),
+        "checkpoint" => number_32("STATE", value("head checkpoint STATE")?).map(HeadField::Checkpoint),
+        "tip" => number_32("STATE", value("head tip STATE")?).map(HeadField::Tip),
+        "held" => {
+            let (slot, flag) = two("head held K N")?;
+            Ok(HeadField::Held(index(SLOTS, "K", slot)?, index(2, "N", flag)? == 1))
+        }
+        "issued" => {
+            let (slot, state) = two("head issued K STATE")?;
+            Ok(HeadField::Issued(index(SLOTS, "K", slot)?, number_32("STATE", state)?))
+        }
+        _ => {
+            let (mark, end) = two("head ends K N")?;
+            Ok(HeadField::Ends(index(STEPS, "K", mark)?, number("N", end)?))
+        }
     }
 }
 
-fn command(tokens: &[&str]) -> Option<Command> {
-    let (&word, rest) = tokens.split_first()?;
-    match word {
-        "lend" => lend(rest),
-        "poke" => poke(rest),
-        "fill" => fill(rest),
-        "head" => head(rest).map(Command::Head),
-        "tally" => tally(rest).map(Command::Tally),
-        "show" => show(rest).map(Command::Show),
-        _ => call(word, rest).map(Command::Call),
+fn tally(tokens: &[Token]) -> Result<TallyField, Reason> {
+    const FIELDS: [&str; 3] = ["committed", "rolled_back", "flushed"];
+    let (field, rest) = forms_word("committed, rolled_back or flushed", &FIELDS, tokens)?;
+    let [count] = exactly(&format!("tally {field} N"), rest)?;
+    let count = number("N", count)?;
+    Ok(match field {
+        "committed" => TallyField::Committed(count),
+        "rolled_back" => TallyField::RolledBack(count),
+        _ => TallyField::Flushed(count),
+    })
+}
+
+fn show(tokens: &[Token]) -> Result<Show, Reason> {
+    const WHAT: [&str; 6] = ["head", "tally", "table", "journal", "bytes", "all"];
+    let (what, rest) = forms_word("head, tally, table, journal, bytes or all", &WHAT, tokens)?;
+    let whole = match what {
+        "head" => Show::Head,
+        "tally" => Show::Tally,
+        "all" => Show::All,
+        _ => return show_memory(memory(tokens)?.0, rest),
+    };
+    let [] = exactly(&format!("show {what}"), rest)?;
+    Ok(whole)
+}
+
+fn show_memory(memory: Memory, tokens: &[Token]) -> Result<Show, Reason> {
+    if tokens.is_empty() {
+        return Ok(Show::Memory(memory));
+    }
+    let [at, count] = exactly(&format!("show {memory} I N"), tokens)?;
+    Ok(Show::Part { memory, at: number("I", at)?, count: number_to(LIST_WORDS as u64, "N", count)? })
+}
+
+fn load_file(tokens: &[Token]) -> Result<Command, Reason> {
+    let [name] = exactly("load_file NAME", tokens)?;
+    Ok(Command::LoadFile { name: name.to_vec() })
+}
+
+fn call(first: Token, rest: &[Token]) -> Result<Call, Reason> {
+    match first {
+        b"clear" => exactly("clear", rest).map(|[]| Call::Clear),
+        b"load" => exactly("load", rest).map(|[]| Call::Load),
+        b"write_image" => exactly("write_image", rest).map(|[]| Call::WriteImage),
+        b"restart" => exactly("restart", rest).map(|[]| Call::Restart),
+        b"commit" => Ok(Call::Commit { list: words(rest)? }),
+        b"roll_back" => {
+            let [state] = exactly("roll_back STATE", rest)?;
+            Ok(Call::RollBack { state: number_32("STATE", state)? })
+        }
+        b"flush" => {
+            let [state] = exactly("flush STATE", rest)?;
+            Ok(Call::Flush { state: number_32("STATE", state)? })
+        }
+        b"look_up" => {
+            let [offer, state] = exactly("look_up OFFER STATE", rest)?;
+            Ok(Call::LookUp { offer: number_32("OFFER", offer)?, state: number_32("STATE", state)? })
+        }
+        b"price_batch" => price_batch(rest),
+        _ => slot_call(first, rest),
     }
 }
 
-fn lend(tokens: &[&str]) -> Option<Command> {
-    match tokens {
-        [name, length] => Some(Command::Lend { memory: memory(name)?, length: number(length)? }),
-        _ => None,
-    }
-}
-
-fn poke(tokens: &[&str]) -> Option<Command> {
-    match tokens {
-        [name, at, values @ ..] if !values.is_empty() => {
-            let poke = match memory(name)? {
-                Memory::Table => Poke::Table(words(values)?),
-                Memory::Journal => Poke::Journal(words(values)?),
-                Memory::Bytes => Poke::Bytes(list(values, byte)?),
+fn slot_call(first: Token, rest: &[Token]) -> Result<Call, Reason> {
+    match first {
+        b"issue" => {
+            let [slot, list @ ..] = rest else {
+                return Err(Reason::TooFew { form: "issue SLOT W..".to_string() });
             };
-            Some(Command::Poke { at: number(at)?, poke })
+            Ok(Call::Issue { slot: number("SLOT", slot)?, list: words(list)? })
         }
-        _ => None,
-    }
-}
-
-fn fill(tokens: &[&str]) -> Option<Command> {
-    match tokens {
-        [name, at, count, first, rise] => Some(Command::Fill {
-            memory: memory(name)?,
-            at: number(at)?,
-            count: number(count)?,
-            word: word(first)?,
-            rise: word(rise)?,
-        }),
-        _ => None,
-    }
-}
-
-fn head(tokens: &[&str]) -> Option<HeadField> {
-    match tokens {
-        ["used", value] => number(value).map(HeadField::Used),
-        ["oldest", value] => number_32(value).map(HeadField::Oldest),
-        ["checkpoint", value] => number_32(value).map(HeadField::Checkpoint),
-        ["tip", value] => number_32(value).map(HeadField::Tip),
-        ["held", slot, value] => Some(HeadField::Held(index(slot, SLOTS)?, index(value, 2)? == 1)),
-        ["issued", slot, value] => Some(HeadField::Issued(index(slot, SLOTS)?, number_32(value)?)),
-        ["ends", mark, value] => Some(HeadField::Ends(index(mark, STEPS)?, number(value)?)),
-        _ => None,
-    }
-}
-
-fn tally(tokens: &[&str]) -> Option<TallyField> {
-    match tokens {
-        ["committed", value] => number(value).map(TallyField::Committed),
-        ["rolled_back", value] => number(value).map(TallyField::RolledBack),
-        ["flushed", value] => number(value).map(TallyField::Flushed),
-        _ => None,
-    }
-}
-
-fn show(tokens: &[&str]) -> Option<Show> {
-    match tokens {
-        ["head"] => Some(Show::Head),
-        ["tally"] => Some(Show::Tally),
-        ["all"] => Some(Show::All),
-        [name] => memory(name).map(Show::Memory),
-        [name, at, count] => {
-            Some(Show::Part { memory: memory(name)?, at: number(at)?, count: number(count)? })
+        b"forward" => forward(rest),
+        b"release" => {
+            let [slot] = exactly("release SLOT", rest)?;
+            Ok(Call::Release { slot: number("SLOT", slot)? })
         }
-        _ => None,
+        _ => Err(Reason::UnknownWord(Quoted::new(first))),
     }
 }
 
-fn call(name: &str, tokens: &[&str]) -> Option<Call> {
-    match (name, tokens) {
-        ("clear", []) => Some(Call::Clear),
-        ("load", []) => Some(Call::Load),
-        ("write_image", []) => Some(Call::WriteImage),
-        ("restart", []) => Some(Call::Restart),
-        ("commit", list) => Some(Call::Commit { list: words(list)? }),
-        ("roll_back", [state]) => Some(Call::RollBack { state: number_32(state)? }),
-        ("flush", [state]) => Some(Call::Flush { state: number_32(state)? }),
-        ("look_up", [offer, state]) => {
-            Some(Call::LookUp { offer: number_32(offer)?, state: number_32(state)? })
-        }
-        ("issue", [slot, list @ ..]) => Some(Call::Issue { slot: number(slot)?, list: words(list)? }),
-        ("forward", [slot, state, with @ ..]) => forward(slot, state, with),
-        ("release", [slot]) => Some(Call::Release { slot: number(slot)? }),
-        ("price_batch", parts) => price_batch(parts),
-        _ => None,
-    }
-}
-
-fn forward(slot: &str, state: &str, with: &[&str]) -> Option<Call> {
-    let with = match with {
-        [] => None,
-        ["with", list @ ..] => Some(words(list)?),
-        _ => return None,
+fn forward(tokens: &[Token]) -> Result<Call, Reason> {
+    let [slot, state, with @ ..] = tokens else {
+        return Err(Reason::TooFew { form: "forward SLOT STATE".to_string() });
     };
-    Some(Call::Forward { slot: number(slot)?, state: number_32(state)?, with })
+    let list = match with {
+        [] => None,
+        with => Some(forms_word("with", &["with"], with)?.1),
+    };
+    let (slot, state) = (number("SLOT", slot)?, number_32("STATE", state)?);
+    Ok(Call::Forward { slot, state, with: list.map(words).transpose()? })
 }
 
-fn price_batch(tokens: &[&str]) -> Option<Call> {
-    let parts: Vec<&[&str]> = tokens.split(|&token| token == "/").collect();
-    match parts[..] {
-        [reads, orders, output] => {
-            Some(Call::PriceBatch { reads: words(reads)?, orders: words(orders)?, output: words(output)? })
-        }
-        _ => None,
-    }
+fn price_batch(tokens: &[Token]) -> Result<Call, Reason> {
+    let parts: Vec<&[Token]> = tokens.split(|&token| token == b"/").collect();
+    let [reads, orders, output] = exactly("price_batch W.. / W.. / W..", &parts)?;
+    Ok(Call::PriceBatch { reads: words(reads)?, orders: words(orders)?, output: words(output)? })
 }
 
-fn memory(name: &str) -> Option<Memory> {
-    match name {
-        "table" => Some(Memory::Table),
-        "journal" => Some(Memory::Journal),
-        "bytes" => Some(Memory::Bytes),
-        _ => None,
-    }
-}
-
-fn words(tokens: &[&str]) -> Option<Vec<u64>> {
-    list(tokens, word)
-}
-
-fn list<T>(tokens: &[&str], read: fn(&str) -> Option<T>) -> Option<Vec<T>> {
-    if tokens.len() > LIST_WORDS {
-        return None;
-    }
-    tokens.iter().map(|token| read(token)).collect()
-}
-
-/// 1 to 20 decimal digits, below 2^64.
-fn number(token: &str) -> Option<u64> {
-    let decimal = token.bytes().all(|byte| byte.is_ascii_digit());
-    if decimal && token.len() <= 20 {
-        token.parse().ok()
-    } else {
-        None
-    }
-}
-
-/// A number below 2^32.
-fn number_32(token: &str) -> Option<u32> {
-    u32::try_from(number(token)?).ok()
-}
-
-/// A number below a limit.
-fn index(token: &str, limit: usize) -> Option<usize> {
-    usize::try_from(number(token)?).ok().filter(|&index| index < limit)
-}
-
-/// Exactly 16 hexadecimal digits.
-fn word(token: &str) -> Option<u64> {
-    u64::from_str_radix(hexadecimal(token, 16)?, 16).ok()
-}
-
-/// Exactly 2 hexadecimal digits.
-fn byte(token: &str) -> Option<u8> {
-    u8::from_str_radix(hexadecimal(token, 2)?, 16).ok()
-}
-
-fn hexadecimal(token: &str, digits: usize) -> Option<&str> {
-    let all = token.bytes().all(|byte| byte.is_ascii_hexdigit());
-    (all && token.len() == digits).then_some(token)
+/// The memory that a form names first, and what follows.
+fn memory<'a, 'b>(tokens: &'a [Token<'b>]) -> Result<(Memory, &'a [Token<'b>]), Reason> {
+    let (name, rest) = forms_word("table, journal or bytes", &["table", "journal", "bytes"], tokens)?;
+    let memory = match name {
+        "table" => Memory::Table,
+        "journal" => Memory::Journal,
+        _ => Memory::Bytes,
+    };
+    Ok((memory, rest))
 }

@@ -1,15 +1,16 @@
 //! Carrying out a command, and what it prints.
 
+use super::file::file_bytes;
 use super::write::{bytes_text, words_text};
-use super::{Command, Holding, Memories, Memory, Poke, Show};
-use super::{BYTES, JOURNAL_WORDS, LIST_WORDS, TABLE_WORDS};
+use super::{Command, Holding, Memories, Memory, Poke, Reason, Show};
 use crate::crc32;
 use crate::head::SLOTS;
+use crate::unit::Call;
 
-/// Carries out a command and gives the lines that it prints, or nothing if it is no call on the memory lent.
-pub fn perform(holding: &mut impl Holding, command: &Command) -> Option<Vec<String>> {
+/// Carries out a command and gives the lines that it prints, or why it is no call on the memory lent.
+pub fn perform(holding: &mut impl Holding, command: &Command) -> Result<Vec<String>, Reason> {
     match command {
-        Command::Lend { memory, length } => lend(holding.memories(), *memory, *length)?,
+        Command::Lend { memory, length } => lend(holding.memories(), *memory, *length),
         Command::Poke { at, poke } => put(holding.memories(), *at, poke)?,
         Command::Fill { memory, at, count, word, rise } => {
             fill(holding.memories(), *memory, *at, *count, *word, *rise)?;
@@ -17,71 +18,73 @@ pub fn perform(holding: &mut impl Holding, command: &Command) -> Option<Vec<Stri
         Command::Head(field) => holding.set_head(*field),
         Command::Tally(field) => holding.set_tally(*field),
         Command::Show(what) => return show(holding, *what),
-        Command::Call(call) => return Some(vec![holding.answer(call)]),
+        Command::Call(call) => return Ok(vec![holding.answer(call)]),
+        Command::LoadFile { name } => {
+            *holding.memories().bytes = file_bytes(name)?;
+            return Ok(vec![holding.answer(&Call::Load)]);
+        }
     }
-    Some(Vec::new())
+    Ok(Vec::new())
 }
 
-fn lend(memories: Memories, memory: Memory, length: u64) -> Option<()> {
-    let most = match memory {
-        Memory::Table => TABLE_WORDS,
-        Memory::Journal => JOURNAL_WORDS,
-        Memory::Bytes => BYTES,
-    };
-    if length > most {
-        return None;
-    }
+fn lend(memories: Memories, memory: Memory, length: u64) {
     match memory {
         Memory::Table => *memories.table = vec![0; length as usize],
         Memory::Journal => *memories.journal = vec![0; length as usize],
         Memory::Bytes => *memories.bytes = vec![0; length as usize],
     }
-    Some(())
 }
 
-/// The part of a memory from a place on, so many long, if it lies within the memory.
-fn part<T>(memory: &mut [T], at: u64, count: u64) -> Option<&mut [T]> {
-    let end = at.checked_add(count)?;
-    memory.get_mut(usize::try_from(at).ok()?..usize::try_from(end).ok()?)
+/// The part of a memory from an index on, so many long, if it lies within the memory.
+fn part<T>(memory: Memory, lent: &mut [T], at: u64, count: u64) -> Result<&mut [T], Reason> {
+    let past_end = Reason::PastEnd { memory, length: lent.len() };
+    let end = at.checked_add(count).filter(|end| *end <= lent.len() as u64);
+    end.map(|end| &mut lent[at as usize..end as usize]).ok_or(past_end)
 }
 
-fn put(memories: Memories, at: u64, poke: &Poke) -> Option<()> {
+fn put(memories: Memories, at: u64, poke: &Poke) -> Result<(), Reason> {
     match poke {
-        Poke::Table(words) => part(memories.table, at, words.len() as u64)?.copy_from_slice(words),
-        Poke::Journal(words) => part(memories.journal, at, words.len() as u64)?.copy_from_slice(words),
-        Poke::Bytes(bytes) => part(memories.bytes, at, bytes.len() as u64)?.copy_from_slice(bytes),
+        Poke::Table(words) => {
+            part(Memory::Table, memories.table, at, words.len() as u64)?.copy_from_slice(words);
+        }
+        Poke::Journal(words) => {
+            part(Memory::Journal, memories.journal, at, words.len() as u64)?.copy_from_slice(words);
+        }
+        Poke::Bytes(bytes) => {
+            part(Memory::Bytes, memories.bytes, at, bytes.len() as u64)?.copy_from_slice(bytes);
+        }
     }
-    Some(())
+    Ok(())
 }
 
-fn fill(memories: Memories, memory: Memory, at: u64, count: u64, word: u64, rise: u64) -> Option<()> {
+fn fill(memories: Memories, memory: Memory, at: u64, count: u64, word: u64, rise: u64) -> Result<(), Reason> {
     let series = |index: usize| word.wrapping_add(rise.wrapping_mul(index as u64));
     let words = match memory {
         Memory::Table => memories.table,
         Memory::Journal => memories.journal,
         Memory::Bytes => {
-            let bytes = part(memories.bytes, at, count.checked_mul(8)?)?;
+            let bytes = part(memory, memories.bytes, at, count.saturating_mul(8))?;
             for (index, bytes) in bytes.chunks_exact_mut(8).enumerate() {
                 bytes.copy_from_slice(&series(index).to_be_bytes());
             }
-            return Some(());
+            return Ok(());
         }
     };
-    for (index, word) in part(words, at, count)?.iter_mut().enumerate() {
+    for (index, word) in part(memory, words, at, count)?.iter_mut().enumerate() {
         *word = series(index);
     }
-    Some(())
+    Ok(())
 }
 
-fn show(holding: &mut impl Holding, what: Show) -> Option<Vec<String>> {
+fn show(holding: &mut impl Holding, what: Show) -> Result<Vec<String>, Reason> {
     let text = match what {
         Show::Head => head_text(&holding.head()),
         Show::Tally => tally_text(holding.tally()),
         Show::Memory(memory) => memory_text(holding.memories(), memory),
         Show::Part { memory, at, count } => part_text(holding.memories(), memory, at, count)?,
-        Show::All => return Some(all_texts(holding)),
+        Show::All => return Ok(all_texts(holding)),
     };
-    Some(vec![text])
+    Ok(vec![text])
 }
 
 fn all_texts(holding: &mut impl Holding) -> Vec<String> {
@@ -121,14 +124,11 @@ fn memory_text(memories: Memories, memory: Memory) -> String {
     format!("{memory} {length} crc {crc:08X}")
 }
 
-fn part_text(memories: Memories, memory: Memory, at: u64, count: u64) -> Option<String> {
-    if count > LIST_WORDS as u64 {
-        return None;
-    }
+fn part_text(memories: Memories, memory: Memory, at: u64, count: u64) -> Result<String, Reason> {
     let values = match memory {
-        Memory::Table => words_text(part(memories.table, at, count)?),
-        Memory::Journal => words_text(part(memories.journal, at, count)?),
-        Memory::Bytes => bytes_text(part(memories.bytes, at, count)?),
+        Memory::Table => words_text(part(memory, memories.table, at, count)?),
+        Memory::Journal => words_text(part(memory, memories.journal, at, count)?),
+        Memory::Bytes => bytes_text(part(memory, memories.bytes, at, count)?),
     };
-    Some(format!("{memory} from {at}{values}"))
+    Ok(format!("{memory} from {at}{values}"))
 }

@@ -35,6 +35,7 @@ impl fmt::Display for Command {
             Command::Head(field) => write!(f, "head {field}"),
             Command::Tally(field) => write!(f, "tally {field}"),
             Command::Show(what) => write!(f, "show {what}"),
+            Command::LoadFile { name } => write!(f, "load_file {}", String::from_utf8_lossy(name)),
             Command::Call(call) => write!(f, "{call}"),
         }
     }

@@ -53,14 +53,8 @@ pub fn files(folder: &str, ending: &str) -> Vec<(PathBuf, Vec<u8>)> {
 /// What a script prints.
 pub fn run(script: &[u8]) -> String {
     let mut out = Vec::new();
-    script::run(&mut Unit::default(), script, &mut out).expect("writing into memory does not fail");
+    let mut unit = Unit::default();
+    script::run(&mut &script[..], b"", &mut out, |line| script::respond(&mut unit, line))
+        .expect("reading and writing memory does not fail");
     String::from_utf8(out).expect("what is printed is ASCII")
-}
-
-/// The example of docs/REPLAY.md: a script, and what it prints.
-pub fn example() -> [String; 2] {
-    let page = include_str!("../../../docs/REPLAY.md");
-    let blocks = page.split("\n\n").filter(|block| block.starts_with("    "));
-    let texts = blocks.map(|block| block.lines().map(|line| format!("{}\n", line.trim_start())).collect());
-    texts.collect::<Vec<String>>().try_into().expect("the page has one example, a script and what it prints")
 }

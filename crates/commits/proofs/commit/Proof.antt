@@ -98,6 +98,13 @@ with-step-requires c κs =
     let ok = known (c .before .before .before .before .before .before .before .before .before) in (
       omega (arith, ok .room, (c .before .before .before .before .before .before .before .before .held-count .ensures)),
       omega (arith, ok .not-last),
+      omega (
+        arith,
+        end-small ok (c .before .before .before .before .end-of .result)
+            (c .before .before .before .before .end-of .ensures
+            ∙ ap (startOf (start (c .before .before .before .before .before .before .before .before .before) .args .t3 .ends))
+            (c .before .before .before .before .before .before .before .before .held-count .ensures)),
+      ),
     )
 
 same-length-2 : tie.Need-same-length-2

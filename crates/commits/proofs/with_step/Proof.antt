@@ -9,6 +9,9 @@ use Rattle.commits.proofs.with_step.Tie as tie
 mul-next : tie.Need-mul-next
 mul-next c = search needs
 
+cast-next : tie.Need-cast-next
+cast-next c = search needs
+
 element-write-next : tie.Need-element-write-next
 element-write-next c = search needs
 
@@ -20,4 +23,4 @@ unfolding withStep
 returns c = refl
 
 pub with-step-spec : {M : Type 1} → statement M
-with-step-spec = tie.close (tie.spec mul-next element-write-next add-next returns)
+with-step-spec = tie.close (tie.spec cast-next mul-next element-write-next add-next returns)

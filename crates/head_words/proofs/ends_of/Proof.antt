@@ -1,16 +1,17 @@
 -- `head_words::ends_of` meets its contract: a mark for each word.
 -- Assumes nothing.
-use mathlib.Core.Path.{_≡_, sym, _∙_}
+use mathlib.Core.Path.{_≡_, sym}
 use Prim.Native.Nat.{_-_}
 use lib.ListN.{length}
 use native.Mathlib.Omega.{arith}
-use Rattle.head_words.proofs.Arrays.{Filling, filling, filled-one, filled-all, same, map-same}
+use Rattle.head_words.specs.HeadWords.{markIn}
+use Rattle.head_words.proofs.Arrays.{Filling, filling, filled-one, filled-all}
 use borrow.Author.Needs.{needs}
 use Rattle.head_words.proofs.ends_of.Statement.{statement}
 use Rattle.head_words.proofs.ends_of.Tie as tie
 
 abbrev Inv-loop : tie.InvT-loop
-Inv-loop words next₀ k₀ next k = Filling same next words k
+Inv-loop words next₀ k₀ next k = Filling markIn next words k
 
 abbrev μ-loop : tie.MeasureT-loop
 μ-loop words next₀ k₀ next k = 64 - k
@@ -23,6 +24,9 @@ mul-next c = omega (arith, (c .before .before .pre))
 
 shared-slice-read-next : tie.Need-shared-slice-read-next Inv-loop μ-loop
 shared-slice-read-next c = omega (arith, (c .before .before .before .pre))
+
+cast-next : tie.Need-cast-next Inv-loop μ-loop
+cast-next c = search needs
 
 mul-next-2 : tie.Need-mul-next-2 Inv-loop μ-loop
 mul-next-2 c = search needs
@@ -40,7 +44,7 @@ loop-again : tie.Need-loop-again Inv-loop μ-loop
 loop-again c = filled-one (c .before .before .loop .inv) 0 (omega (arith, (c .before .before .before .pre)))
 
 returns : tie.Need-returns Inv-loop μ-loop
-returns c = filled-all (c .before .loop .inv) (omega (arith, (c .before .before .pre))) ∙ map-same _
+returns c = filled-all (c .before .loop .inv) (omega (arith, (c .before .before .pre)))
 
 pub ends-of-spec : {M : Type 1} → statement M
 ends-of-spec =
@@ -51,6 +55,7 @@ ends-of-spec =
     loop-holds
     mul-next
     shared-slice-read-next
+    cast-next
     mul-next-2
     array-write-next
     add-k

@@ -23,6 +23,9 @@ mul-words c = omega (arith, (c .before .before .pre .1), (c .before .loop .inv .
 shared-slice-read-words : tie.Need-shared-slice-read-words Inv-loop μ-loop
 shared-slice-read-words c = omega (arith, (c .before .before .before .pre .0))
 
+cast-words : tie.Need-cast-words Inv-loop μ-loop
+cast-words c = omega (arith, c .shared-slice-known .given (c .before .before .loop .k))
+
 add-words : tie.Need-add-words Inv-loop μ-loop
 add-words c = omega (arith, (c .before .before .before .pre .1))
 
@@ -59,6 +62,7 @@ put-ends-spec =
     loop-holds
     mul-words
     shared-slice-read-words
+    cast-words
     add-words
     mul-words-2
     slice-write-words

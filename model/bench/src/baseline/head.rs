@@ -69,15 +69,15 @@ impl Head {
         head
     }
 
-    /// The words of the head.
-    pub fn words(&self) -> Vec<u64> {
-        let numbers = [self.oldest, self.checkpoint, self.tip];
-        let mut words = vec![self.used as u64];
-        words.extend(numbers.map(u64::from));
-        words.extend(self.held.map(u64::from));
-        words.extend(self.issued.map(u64::from));
-        words.extend(self.ends.map(|end| end as u64));
-        words
+    /// Puts the head into its words.
+    pub fn put_words(&self, words: &mut [u64; 84]) {
+        words[0] = self.used as u64;
+        words[1] = self.oldest.into();
+        words[2] = self.checkpoint.into();
+        words[3] = self.tip.into();
+        words[4..12].iter_mut().zip(self.held).for_each(|(word, held)| *word = held.into());
+        words[12..20].iter_mut().zip(self.issued).for_each(|(word, issued)| *word = issued.into());
+        words[20..].iter_mut().zip(self.ends).for_each(|(word, end)| *word = end as u64);
     }
 }
 

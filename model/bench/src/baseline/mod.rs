@@ -5,6 +5,7 @@ mod batch;
 mod changes;
 mod head;
 mod image;
+mod lent_words;
 mod reads;
 mod refusal;
 mod rest;
@@ -16,5 +17,6 @@ pub mod word;
 
 pub use batch::price_batch;
 pub use head::{Head, Tally};
+pub use lent_words::LentWords;
 pub use refusal::Refusal;
 pub use store::{Memory, Store};

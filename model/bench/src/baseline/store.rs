@@ -59,12 +59,15 @@ impl Memory {
     }
 }
 
+/// Whether table and journal have lengths that may be lent.
+pub(super) fn lengths_fit(table: &[u64], journal: &[u64]) -> bool {
+    (1..=TABLE_WORDS).contains(&table.len()) && (1..=JOURNAL_WORDS).contains(&journal.len())
+}
+
 impl Store<'_> {
     /// Ground 1.
     pub(super) fn test_lengths(&self) -> Result<(), Refusal> {
-        let table = (1..=TABLE_WORDS).contains(&self.table.len());
-        let journal = (1..=JOURNAL_WORDS).contains(&self.journal.len());
-        Refusal::Lengths.unless(table && journal)
+        Refusal::Lengths.unless(lengths_fit(self.table, self.journal))
     }
 
     /// Grounds 1 and 2.

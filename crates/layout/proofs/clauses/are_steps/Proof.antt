@@ -29,6 +29,9 @@ mul-end c = search needs
 shared-slice-read-end : tie.Need-shared-slice-read-end Inv-loop μ-loop
 shared-slice-read-end c = search needs
 
+cast-end : tie.Need-cast-end Inv-loop μ-loop
+cast-end c = omega (arith, c .shared-slice-known3 .given (c .before .before .loop .k))
+
 is-step-requires : tie.Need-is-step-requires Inv-loop μ-loop
 is-step-requires c κs = search needs
 
@@ -74,6 +77,7 @@ are-steps-spec =
     loop-holds
     mul-end
     shared-slice-read-end
+    cast-end
     is-step-requires
     returns
     add-k

@@ -2,7 +2,9 @@
 -- Assumes nothing.
 use mathlib.Core.Path.{sym}
 use Rattle.changes.proofs.Running.{start-later}
+use Prim.Native.Nat.{_-_}
 use borrow.Author.Needs.{needs}
+use native.Mathlib.Omega.{arith}
 use Rattle.layout.proofs.states.end_of.Statement.{statement}
 use Rattle.layout.proofs.states.end_of.Tie as tie
 
@@ -18,8 +20,11 @@ mul-result c = search needs
 shared-slice-read-result : tie.Need-shared-slice-read-result
 shared-slice-read-result c = search needs
 
+cast-result : tie.Need-cast-result
+cast-result c = omega (arith, c .shared-slice-known .given (c .before .before .args .n - 1))
+
 returns-2 : tie.Need-returns-2
 returns-2 c = sym (start-later ((c .before .before .args .ends .now)) (c .before .before .args .n) (c .before .if1 .left))
 
 pub end-of-spec : {M : Type 1} → statement M
-end-of-spec = tie.close (tie.spec returns sub-result mul-result shared-slice-read-result returns-2)
+end-of-spec = tie.close (tie.spec returns sub-result mul-result shared-slice-read-result cast-result returns-2)

@@ -23,32 +23,34 @@ loop-holds c =
 sub-loop : tie.Need-sub-loop Inv-loop μ-loop
 sub-loop c = (c .before .pre .0)
 
-add-next : tie.Need-add-next Inv-loop μ-loop
-add-next c = omega (arith, (c .before .before .pre .1))
+add-lower-mark : tie.Need-add-lower-mark Inv-loop μ-loop
+add-lower-mark c = omega (arith, (c .before .before .pre .1))
+
+mul-lower-mark : tie.Need-mul-lower-mark Inv-loop μ-loop
+mul-lower-mark c = omega (arith, (c .before .before .pre .1))
+
+array-read-lower-mark : tie.Need-array-read-lower-mark Inv-loop μ-loop
+array-read-lower-mark c = let long : length (c .before .before .args .t1) ≡ 64 = search needs in omega (arith, (c .before .before .pre .1))
+
+lower-mark-requires : tie.Need-lower-mark-requires Inv-loop μ-loop
+lower-mark-requires c κs = (c .before .before .pre .2) ((c .before .before .args .from) + (c .before .loop .k)) (omega arith) (omega arith)
 
 mul-next : tie.Need-mul-next Inv-loop μ-loop
-mul-next c = omega (arith, (c .before .before .pre .1))
-
-array-read-next : tie.Need-array-read-next Inv-loop μ-loop
-array-read-next c = let long : length (c .before .before .args .t1) ≡ 64 = search needs in omega (arith, (c .before .before .pre .1))
-
-sub-next : tie.Need-sub-next Inv-loop μ-loop
-sub-next c = (c .before .before .pre .2) ((c .before .before .args .from) + (c .before .loop .k)) (omega arith) (omega arith)
-
-mul-next-2 : tie.Need-mul-next-2 Inv-loop μ-loop
-mul-next-2 c = omega (arith, (c .before .before .pre .1))
+mul-next c = omega (arith, (c .before .before .before .pre .1))
 
 array-write-next : tie.Need-array-write-next Inv-loop μ-loop
-array-write-next c = omega (arith, (c .before .before .pre .1), (c .before .loop .inv .long))
+array-write-next c = omega (arith, (c .before .before .before .pre .1), (c .before .before .loop .inv .long))
 
 add-k : tie.Need-add-k Inv-loop μ-loop
-add-k c = omega (arith, (c .before .before .pre .1))
+add-k c = omega (arith, (c .before .before .before .pre .1))
 
 loop-less : tie.Need-loop-less Inv-loop μ-loop
 loop-less c = omega arith
 
 loop-again : tie.Need-loop-again Inv-loop μ-loop
-loop-again c = moved-one (c .before .loop .inv) (c .loop-test .taken) (c .before .before .pre .1)
+loop-again c =
+    let c3 = c .before .before .before in
+    rw (c .lower-mark .ensures) (moved-one (c .before .before .loop .inv) (c .before .loop-test .taken) (c3 .pre .1))
 
 returns : tie.Need-returns Inv-loop μ-loop
 returns c = moved-all (c .before .loop .inv) (omega arith)
@@ -61,11 +63,11 @@ move-ends-spec =
     μ-loop
     loop-holds
     sub-loop
-    add-next
+    add-lower-mark
+    mul-lower-mark
+    array-read-lower-mark
+    lower-mark-requires
     mul-next
-    array-read-next
-    sub-next
-    mul-next-2
     array-write-next
     add-k
     loop-less

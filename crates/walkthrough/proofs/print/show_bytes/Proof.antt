@@ -7,13 +7,10 @@ use Rattle.walkthrough.proofs.print.show_bytes.Statement.{statement}
 use Rattle.walkthrough.proofs.print.show_bytes.Tie as tie
 
 abbrev Inv-loop : tie.InvT-loop
-Inv-loop bytes i₀ t4 i = i ≤ length bytes
+Inv-loop text bytes i₀ i = i ≤ length bytes
 
 abbrev μ-loop : tie.MeasureT-loop
-μ-loop bytes i₀ t4 i = length bytes - i
-
-slice-aggregate-show-text : tie.Need-slice-aggregate-show-text Inv-loop μ-loop
-slice-aggregate-show-text c = search needs
+μ-loop text bytes i₀ i = length bytes - i
 
 show-text-requires : tie.Need-show-text-requires Inv-loop μ-loop
 show-text-requires c κs = search needs
@@ -36,12 +33,6 @@ loop-less c = search needs
 loop-again : tie.Need-loop-again Inv-loop μ-loop
 loop-again c = search needs
 
-slice-aggregate-show-text-2 : tie.Need-slice-aggregate-show-text-2 Inv-loop μ-loop
-slice-aggregate-show-text-2 c = search needs
-
-show-text-requires-2 : tie.Need-show-text-requires-2 Inv-loop μ-loop
-show-text-requires-2 c κs = search needs
-
 returns : tie.Need-returns Inv-loop μ-loop
 returns c = search needs
 
@@ -51,7 +42,6 @@ show-bytes-spec =
     (tie.spec
     Inv-loop
     μ-loop
-    slice-aggregate-show-text
     show-text-requires
     loop-holds
     shared-slice-read-show-byte
@@ -59,6 +49,4 @@ show-bytes-spec =
     add-i
     loop-less
     loop-again
-    slice-aggregate-show-text-2
-    show-text-requires-2
     returns)

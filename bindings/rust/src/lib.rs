@@ -1,0 +1,171 @@
+//! The price unit: a store of prices in memory that its caller lends.
+//!
+//! A store is fed lists of price changes and answers what an offer costs in any recent state. It steps back when the feed
+//! is corrected, lets a read start before the state that it serves exists, prices batches of orders, and writes and loads
+//! images. It is a C library whose functions are proved to do what is said of them, for every content and length of what
+//! they are lent; this crate is that library with Rust's types, and adds no rule of its own.
+//!
+//! ```
+//! use cechnuol::{price_batch, Entry, Order, Refusal, Store};
+//!
+//! # fn main() -> Result<(), Refusal> {
+//! // An empty store, as state 0: room for 1,000 offers in the table, and for 500 entries of steps in the journal.
+//! let mut store = Store::new(1000, 500)?;
+//!
+//! // A list of changes leads to state 1. Each state from the checkpoint to the tip can be quoted.
+//! store.commit(&[Entry::put(5, 1200), Entry::put(9, 700)])?;
+//! assert_eq!(store.look_up(5, 1)?, Some(1200));
+//! assert_eq!(store.look_up(5, 0)?, None);
+//!
+//! // A flush makes state 1 the checkpoint: the table holds its map, and the step to it is no longer needed.
+//! store.flush(1)?;
+//!
+//! // A read of offers 5 and 7 starts now, in slot 0, and is to serve a state that does not exist yet.
+//! let mut reads = [Entry::ask(5), Entry::ask(7)];
+//! store.issue(0, &mut reads)?;
+//! assert_eq!(reads, [Entry::put(5, 1200), Entry::remove(7)]);
+//!
+//! // State 2 comes, is corrected, and comes again.
+//! store.commit(&[Entry::put(5, 110), Entry::put(7, 300)])?;
+//! store.roll_back(1)?;
+//! store.commit(&[Entry::put(5, 1100), Entry::put(7, 300)])?;
+//! store.flush(2)?;
+//!
+//! // The read is brought forward to it, and the slot is free again.
+//! store.forward(0, 2, &mut reads)?;
+//! assert_eq!(reads, [Entry::put(5, 1100), Entry::put(7, 300)]);
+//!
+//! // Orders are priced on a read set alone; what they change is a list that can be committed.
+//! let mut changes = [Entry::from_word(0); 2];
+//! let count = price_batch(&reads, &[Order::raise(7, 50), Order::withdraw(5)], &mut changes)?;
+//! assert_eq!(changes[..count], [Entry::remove(5), Entry::put(7, 350)]);
+//! store.commit(&changes[..count])?;
+//! assert_eq!(store.look_up(7, 3)?, Some(350));
+//! # Ok(())
+//! # }
+//! ```
+//!
+//! # States, steps and slots
+//!
+//! States are numbered with 32 bits, one after another. The *checkpoint* is the state that the table holds, the *tip* the
+//! newest. A *step* leads from a state to the next; it is the list that was committed. A *slot* is the place of a read
+//! that has started and not ended: [`Store::issue`] opens it, and [`Store::forward`] or [`Store::release`] closes it. The
+//! *oldest* state is the least of the checkpoint and the states at which the open slots were issued, and the steps above
+//! it are held in the journal. [`Head`] has all of these.
+//!
+//! A [`Store::restart`] or an image that is written and loaded keeps the checkpoint and nothing above it.
+//!
+//! # Limits
+//!
+//! | what | limit | |
+//! |---|---|---|
+//! | an offer | 0 to 2^31 - 1 | a higher one is another offer in an [`Entry`], whose builders cut it; a lookup of it is [`Refusal::BadList`] |
+//! | a price | 0 to 2^32 - 1, and 0 is a price | |
+//! | a table | 1 to 8,000 words, an offer each | [`TABLE_WORDS`] |
+//! | a journal | 1 to 4,096 words, an entry of a held step each | [`JOURNAL_WORDS`] |
+//! | a list or read set | 0 to 64 entries, offers strictly rising | [`LIST_WORDS`] |
+//! | the orders of a batch | 0 to 64 | [`BATCH_ORDERS`] |
+//! | slots | 8, from 0 to 7 | [`SLOTS`] |
+//! | held steps | 64 | [`STEPS`] |
+//! | an image | 6 bytes and 8 for each offer, at most 64,006 | [`IMAGE_BYTES`], [`image_bytes_of`] |
+//!
+//! # Refusals, threads and stack
+//!
+//! A call is accepted, or refused with a [`Refusal`] that says why; then everything that it was lent is as it came. Where
+//! there is something to do about it, it is said there. No call panics, allocates, blocks or keeps anything between calls.
+//!
+//! A [`Store`] is `Send` and `Sync` where its memory is. Queries take `&self` and may be made from several threads at once.
+//!
+//! A flush needs up to 160 KiB of stack, and any other call less than 32 KiB. A flush of few prices takes less than 40
+//! KiB, so that a test with a small store does not show that a stack is too small. Rust's threads have 2 MiB unless they
+//! are given less.
+//!
+//! # Linking
+//!
+//! The build script looks for `libcechnuol.a` in the folder that `CECHNUOL_LIB_DIR` names (a relative one counts from the
+//! crate); else where `pkg-config` has the module `cechnuol` of this version; else beside the crate, in
+//! `../../target/staticlib` (the repository) or `../lib` (the tarball). The library is for x86-64 Linux.
+#![deny(missing_docs)]
+#![deny(unsafe_code)]
+
+#[cfg(not(all(target_os = "linux", target_arch = "x86_64")))]
+compile_error!("libcechnuol.a is for x86-64 Linux");
+
+mod entry;
+mod head;
+mod order;
+#[allow(unsafe_code)]
+pub mod raw;
+mod refusal;
+mod store;
+
+pub use entry::Entry;
+pub use head::{Head, Tally};
+pub use order::Order;
+pub use refusal::Refusal;
+pub use store::Store;
+
+/// The most words of a table; the least is 1.
+pub const TABLE_WORDS: usize = 8000;
+/// The most words of a journal; the least is 1.
+pub const JOURNAL_WORDS: usize = 4096;
+/// The most entries of a list or of a read set.
+pub const LIST_WORDS: usize = 64;
+/// The most orders of a batch.
+pub const BATCH_ORDERS: usize = 64;
+/// How many slots there are.
+pub const SLOTS: usize = 8;
+/// The most steps that are held.
+pub const STEPS: usize = 64;
+/// The bytes of the longest image, which has as many offers as the longest table has words.
+pub const IMAGE_BYTES: usize = image_bytes_of(TABLE_WORDS);
+/// The words of a head.
+pub const HEAD_WORDS: usize = 84;
+/// The words of a tally.
+pub const TALLY_WORDS: usize = 3;
+
+/// The version of this crate as a number: major * 1,000,000 + minor * 1,000 + patch.
+pub const VERSION: u64 = 1_000_000;
+
+/// The version of the library that is linked, as a number. It differs from [`VERSION`] where crate and library are not of
+/// one release.
+///
+/// ```
+/// assert_eq!(cechnuol::version(), cechnuol::VERSION);
+/// ```
+#[inline]
+pub fn version() -> u64 {
+    raw::version()
+}
+
+/// The bytes of an image of so many offers; the largest number where there are more than any memory has.
+pub const fn image_bytes_of(offers: usize) -> usize {
+    offers.saturating_mul(8).saturating_add(6)
+}
+
+/// Prices orders on a read set, without a store. The orders run in turn, each seeing what the earlier ones did; the changes
+/// go to the start of `out`, an entry for each offer that an order names, offers rising, and how many they are is the
+/// answer. Entries of `out` past them stay.
+///
+/// Refused: [`Refusal::BadList`] (the read set breaks the rules of a list, or there are over 64 orders),
+/// [`Refusal::BadOrder`], [`Refusal::OfferNotRead`]; then, by the first order that fails, [`Refusal::OrderNoPrice`] or
+/// [`Refusal::PriceRange`]; [`Refusal::OutputShort`].
+///
+/// ```
+/// use cechnuol::{price_batch, Entry, Order, Refusal};
+///
+/// let reads = [Entry::put(5, 1200), Entry::remove(9)];
+/// let mut out = [Entry::from_word(0); 2];
+/// let orders = [Order::cut(5, 200), Order::list(9, 500), Order::sixteenths(5, 8, 600)];
+/// assert_eq!(price_batch(&reads, &orders, &mut out), Ok(2));
+/// assert_eq!(out, [Entry::put(5, 600), Entry::put(9, 500)]);
+/// assert_eq!(price_batch(&reads, &[Order::cut(5, 1201)], &mut out), Err(Refusal::PriceRange));
+/// ```
+#[inline]
+pub fn price_batch(reads: &[Entry], orders: &[Order], out: &mut [Entry]) -> Result<usize, Refusal> {
+    let mut count = 0;
+    let [reads, orders] = [raw::words(reads), raw::words(orders)];
+    Refusal::check(raw::price_batch(reads, orders, raw::words_mut(out), &mut count))?;
+    // It is at most as many as `out` has.
+    Ok(count as usize)
+}

@@ -1,0 +1,131 @@
+//! Why a call is refused.
+
+use std::error::Error;
+use std::fmt;
+
+macro_rules! refusals {
+    ($($variant:ident = $number:literal $name:literal $text:literal $(, $more:literal)*;)*) => {
+        /// Why a call is refused. Everything that the call was lent is then as it came.
+        ///
+        /// Each method lists the refusals that it can meet in the order in which they are tested, and the first that is met
+        /// is the answer.
+        #[derive(Clone, Copy, Debug, PartialEq, Eq, Hash)]
+        #[non_exhaustive]
+        pub enum Refusal {
+            $(
+                #[doc = concat!("`", $name, "`, ", $number, ": ", $text, ".")]
+                $(#[doc = ""] #[doc = $more])*
+                $variant,
+            )*
+            /// A code that this version of the crate does not know, with its number: a later library may refuse for further
+            /// reasons.
+            Unknown(u64),
+        }
+
+        impl Refusal {
+            /// All that this version of the crate knows, by rising numbers.
+            pub const ALL: [Refusal; [$($number),*].len()] = [$(Refusal::$variant),*];
+
+            /// The number, which is the code that the library answers.
+            pub const fn number(self) -> u64 {
+                match self {
+                    $(Refusal::$variant => $number,)*
+                    Refusal::Unknown(number) => number,
+                }
+            }
+
+            /// The name that the C header has for it, without prefix: `"STEPS_FULL"`.
+            pub const fn name(self) -> &'static str {
+                match self {
+                    $(Refusal::$variant => $name,)*
+                    Refusal::Unknown(_) => "UNKNOWN",
+                }
+            }
+
+            /// The refusal of a number. One that is unknown is kept as it is.
+            pub const fn of_number(number: u64) -> Refusal {
+                match number {
+                    $($number => Refusal::$variant,)*
+                    number => Refusal::Unknown(number),
+                }
+            }
+
+            /// The sentence that the C header has for it, without the full stop.
+            const fn text(self) -> &'static str {
+                match self {
+                    $(Refusal::$variant => $text,)*
+                    Refusal::Unknown(_) => "the number is no answer",
+                }
+            }
+        }
+    };
+}
+
+refusals! {
+    Lengths = 1 "LENGTHS" "the length of the table or of the journal is outside its range",
+        "A table has 1 to 8,000 words, a journal 1 to 4,096.";
+    Unsound = 2 "UNSOUND" "the store is not sound",
+        "Table, journal and head are not what a call left. Clear the store, or load an image into it.";
+    SlotRange = 3 "SLOT_RANGE" "the slot is above 7";
+    SlotTaken = 4 "SLOT_TAKEN" "the slot named for an issue is open",
+        "Forward or release it, or name another.";
+    SlotClosed = 5 "SLOT_CLOSED" "the slot named for a forward or release is closed",
+        "It was forwarded or released before, or a restart closed it.";
+    BadList = 6 "BAD_LIST" "a list breaks its rules, or there are over 64 orders, or an offer is 2^31 or more",
+        "A list has 0 to 64 entries with strictly rising offers; that of an issue has only entries that ask.";
+    BadOrder = 7 "BAD_ORDER" "the kind of an order is unknown, or a withdrawal has an amount",
+        "[`Order::NO_ORDER`](crate::Order::NO_ORDER), which a builder gives for arguments out of range, is of unknown kind.";
+    OfferNotRead = 8 "OFFER_NOT_READ" "the offer of an order is not in the read set",
+        "Issue a read of every offer that the orders name.";
+    OrderNoPrice = 9 "ORDER_NO_PRICE" "a raise, cut or sixteenths order is on an offer without a price";
+    PriceRange = 10 "PRICE_RANGE" "an order takes a price below 0 or above 2^32 - 1";
+    StateRange = 11 "STATE_RANGE" "the state is below the checkpoint or above the tip",
+        "States below the checkpoint are gone: the way back is an earlier image.";
+    LastState = 12 "LAST_STATE" "the tip is the last state number, 2^32 - 1",
+        "Flush to the tip, write the image, put a lower state number into its first four bytes, and load it.";
+    StepsFull = 13 "STEPS_FULL" "64 steps are held",
+        "That is, tip - oldest is 64. Flush; if it is still full, a slot that was opened at the oldest state holds the \
+         steps: forward or release it ([`Head::oldest_slot`](crate::Head::oldest_slot)). To flush again and again does \
+         not help while that slot is open. [`Store::commit`](crate::Store::commit) has an example.";
+    JournalFull = 14 "JOURNAL_FULL" "the list has more words than the journal has unused",
+        "A list that is longer than the journal never fits: test that first. Flush; if it is still full, forward or \
+         release the slot that was opened at the oldest state, as for [`Refusal::StepsFull`].";
+    BadImage = 15 "BAD_IMAGE" "the length, the order of offers or a kind bit of the image is wrong";
+    TableFull = 16 "TABLE_FULL" "the state has more prices than the table has words",
+        "At a flush: flush to another state whose map fits, or commit removals first and flush to the state after them; \
+         or load the image of the checkpoint into a longer table, and commit the later lists again. At a load: load into \
+         a longer table.";
+    OutputShort = 17 "OUTPUT_SHORT" "the output is shorter than what is to be written",
+        "[`IMAGE_BYTES`](crate::IMAGE_BYTES) are enough for any image, and as many entries as there are orders for a batch.";
+}
+
+impl Refusal {
+    /// What a code says of a call that gives no value: accepted, or why not.
+    ///
+    /// ```
+    /// use cechnuol::Refusal;
+    ///
+    /// assert_eq!(Refusal::check(0), Ok(()));
+    /// assert_eq!(Refusal::check(13), Err(Refusal::StepsFull));
+    /// assert_eq!(Refusal::check(1000), Err(Refusal::Unknown(1000)));
+    /// ```
+    #[inline]
+    pub const fn check(code: u64) -> Result<(), Refusal> {
+        match code {
+            crate::raw::OK => Ok(()),
+            number => Err(Refusal::of_number(number)),
+        }
+    }
+}
+
+/// A sentence, without the full stop; where it is unknown, its number too.
+impl fmt::Display for Refusal {
+    fn fmt(&self, f: &mut fmt::Formatter<'_>) -> fmt::Result {
+        match self {
+            Refusal::Unknown(number) => write!(f, "{}: {number}", self.text()),
+            known => f.pad(known.text()),
+        }
+    }
+}
+
+impl Error for Refusal {}

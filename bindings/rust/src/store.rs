@@ -1,0 +1,414 @@
+//! A store: its memory, and the calls on it.
+
+use crate::raw::{self, StoreMut, StoreRef};
+use crate::{Entry, Head, Refusal, Tally, JOURNAL_WORDS, TABLE_WORDS};
+use std::fmt;
+
+/// A store of prices: states numbered one after another, each a map from offers to prices.
+///
+/// It stands in a table and a journal, of memory of its own ([`Store::new`]) or lent ([`Store::lend`]), with a head and a
+/// tally beside them; [`Store::from_parts`] takes up a store that was kept elsewhere. `T` and `J` are what the table and
+/// the journal are held by: anything that gives a slice of words.
+///
+/// The table holds the map at the checkpoint, the journal the steps since the oldest state. Methods that change the store
+/// take `&mut self`, the queries [`look_up`](Store::look_up) and [`write_image`](Store::write_image) `&self`, so that
+/// several threads may query a store at once. No call panics or allocates; a refused one leaves everything as it came.
+#[derive(Clone, PartialEq, Eq)]
+pub struct Store<T = Vec<u64>, J = T> {
+    table: T,
+    journal: J,
+    head: Head,
+    tally: Tally,
+}
+
+impl Store {
+    /// An empty store, as state 0, in memory of its own: so many words of table, 1 to 8,000, one for each offer that a map
+    /// may have at a flush, and so many of journal, 1 to 4,096, one for each entry of the steps that may be held.
+    ///
+    /// Refused: [`Refusal::Lengths`], before anything is allocated that is longer.
+    ///
+    /// ```
+    /// use cechnuol::{Refusal, Store};
+    ///
+    /// let store = Store::new(8000, 4096)?;
+    /// assert_eq!(store.head().tip(), 0);
+    /// assert_eq!(Store::new(8001, 4096), Err(Refusal::Lengths));
+    /// # Ok::<(), Refusal>(())
+    /// ```
+    pub fn new(table_words: usize, journal_words: usize) -> Result<Store, Refusal> {
+        if table_words > TABLE_WORDS || journal_words > JOURNAL_WORDS {
+            return Err(Refusal::Lengths);
+        }
+        Store::cleared(vec![0; table_words], vec![0; journal_words])
+    }
+}
+
+impl<'a> Store<&'a mut [u64]> {
+    /// An empty store, as state 0, in memory that is lent for as long as the store is used. What the memory holds before does
+    /// not matter, and is gone.
+    ///
+    /// Refused: [`Refusal::Lengths`]; the memory is then as it came.
+    ///
+    /// ```
+    /// use cechnuol::{Entry, Refusal, Store};
+    ///
+    /// let (mut table, mut journal) = ([7; 4], [7; 16]);
+    /// let mut store = Store::lend(&mut table, &mut journal)?;
+    /// store.commit(&[Entry::put(5, 1200)])?;
+    /// store.flush(1)?;
+    /// assert_eq!(table, [Entry::put(5, 1200).word(), 0, 0, 0]);
+    /// # Ok::<(), Refusal>(())
+    /// ```
+    pub fn lend(table: &'a mut [u64], journal: &'a mut [u64]) -> Result<Self, Refusal> {
+        Store::cleared(table, journal)
+    }
+}
+
+impl<T, J> Store<T, J> {
+    /// The store of these parts as they are: one that was kept elsewhere and is taken up again, or one in a `static`, where
+    /// all zeros are an empty store. Nothing is tested or written here; the calls test its form ([`Refusal::Unsound`]).
+    ///
+    /// ```
+    /// use cechnuol::{Entry, Refusal, Store};
+    ///
+    /// let mut store = Store::new(4, 16)?;
+    /// store.commit(&[Entry::put(5, 1200)])?;
+    /// let (table, journal, head, tally) = store.into_parts();
+    /// let store = Store::from_parts(table, journal, head, tally);
+    /// assert_eq!(store.look_up(5, 1), Ok(Some(1200)));
+    /// # Ok::<(), Refusal>(())
+    /// ```
+    ///
+    /// ```
+    /// use cechnuol::{Head, Store, Tally, HEAD_WORDS, TALLY_WORDS};
+    /// use std::sync::RwLock;
+    ///
+    /// static PRICES: RwLock<Store<[u64; 100], [u64; 50]>> = RwLock::new(Store::from_parts(
+    ///     [0; 100],
+    ///     [0; 50],
+    ///     Head::from_words([0; HEAD_WORDS]),
+    ///     Tally::from_words([0; TALLY_WORDS]),
+    /// ));
+    /// assert_eq!(PRICES.read().unwrap().look_up(5, 0), Ok(None));
+    /// ```
+    pub const fn from_parts(table: T, journal: J, head: Head, tally: Tally) -> Store<T, J> {
+        Store { table, journal, head, tally }
+    }
+
+    /// The parts: table, journal, head and tally.
+    pub fn into_parts(self) -> (T, J, Head, Tally) {
+        (self.table, self.journal, self.head, self.tally)
+    }
+
+    /// The head, which says what states and steps there are and which slots are open.
+    pub const fn head(&self) -> &Head {
+        &self.head
+    }
+
+    /// The tally.
+    pub const fn tally(&self) -> &Tally {
+        &self.tally
+    }
+}
+
+/// What reads a store.
+impl<T: AsRef<[u64]>, J: AsRef<[u64]>> Store<T, J> {
+    /// The table's words.
+    pub fn table(&self) -> &[u64] {
+        self.table.as_ref()
+    }
+
+    /// The journal's words.
+    pub fn journal(&self) -> &[u64] {
+        self.journal.as_ref()
+    }
+
+    /// The map at the checkpoint: an entry for each offer that has a price, offers rising.
+    pub fn entries(&self) -> &[Entry] {
+        let table = self.table();
+        Entry::from_words(table.get(..self.head.used()).unwrap_or(table))
+    }
+
+    /// The store as a query of the plain functions is lent it.
+    #[inline]
+    pub fn as_raw(&self) -> StoreRef<'_> {
+        StoreRef { table: self.table.as_ref(), journal: self.journal.as_ref(), head: self.head.words() }
+    }
+
+    /// The price of an offer at a state from the checkpoint to the tip, or none.
+    ///
+    /// Refused: [`Refusal::Lengths`], [`Refusal::Unsound`], [`Refusal::BadList`] (an offer of 2^31 or more),
+    /// [`Refusal::StateRange`].
+    ///
+    /// ```
+    /// use cechnuol::{Entry, Refusal, Store};
+    ///
+    /// let mut store = Store::new(4, 16)?;
+    /// store.commit(&[Entry::put(5, 0)])?;
+    /// assert_eq!(store.look_up(5, 0), Ok(None));
+    /// assert_eq!(store.look_up(5, 1), Ok(Some(0)));
+    /// assert_eq!(store.look_up(5, 2), Err(Refusal::StateRange));
+    /// # Ok::<(), Refusal>(())
+    /// ```
+    #[inline]
+    pub fn look_up(&self, offer: u32, state: u32) -> Result<Option<u32>, Refusal> {
+        let mut price = 0;
+        match self.as_raw().look_up(offer, state, &mut price) {
+            raw::NO_PRICE => Ok(None),
+            // A price has 32 bits; it comes in a word.
+            code => Refusal::check(code).map(|()| Some(price as u32)),
+        }
+    }
+
+    /// Writes the image of the checkpoint to the start of the bytes, and gives its length: 6 bytes and 8 for each offer
+    /// ([`image_bytes_of`](crate::image_bytes_of)). Bytes past it stay. Steps above the checkpoint are not in an image; to
+    /// have the newest state in it, flush to the tip before.
+    ///
+    /// Refused: [`Refusal::Lengths`], [`Refusal::Unsound`], [`Refusal::OutputShort`].
+    ///
+    /// ```
+    /// use cechnuol::{image_bytes_of, Refusal, Store};
+    ///
+    /// let store = Store::new(4, 16)?;
+    /// let mut bytes = vec![0xAA; image_bytes_of(store.head().used())];
+    /// assert_eq!(store.write_image(&mut bytes), Ok(6));
+    /// assert_eq!(bytes, [0; 6]);
+    /// # Ok::<(), Refusal>(())
+    /// ```
+    #[inline]
+    pub fn write_image(&self, bytes: &mut [u8]) -> Result<usize, Refusal> {
+        let mut count = 0;
+        Refusal::check(self.as_raw().write_image(bytes, &mut count))?;
+        // It is at most as long as the bytes.
+        Ok(count as usize)
+    }
+}
+
+/// What changes a store.
+impl<T: AsMut<[u64]>, J: AsMut<[u64]>> Store<T, J> {
+    fn cleared(table: T, journal: J) -> Result<Store<T, J>, Refusal> {
+        let mut store = Store::from_parts(table, journal, Head::default(), Tally::default());
+        store.clear().map(|()| store)
+    }
+
+    /// The store as a call of the plain functions is lent it.
+    #[inline]
+    pub fn as_raw_mut(&mut self) -> StoreMut<'_> {
+        StoreMut {
+            table: self.table.as_mut(),
+            journal: self.journal.as_mut(),
+            head: self.head.words_mut(),
+            tally: self.tally.words_mut(),
+        }
+    }
+
+    /// Makes the store the empty map, as state 0, with all slots closed and the tally at zero. What it held before is not
+    /// tested, and is gone.
+    ///
+    /// Refused: [`Refusal::Lengths`].
+    #[inline]
+    pub fn clear(&mut self) -> Result<(), Refusal> {
+        Refusal::check(self.as_raw_mut().clear())
+    }
+
+    /// Makes the store the map of an image, under its state number, which becomes oldest, checkpoint and tip; all slots
+    /// close and the tally is set to zero. What the store held before is not tested, and is gone.
+    ///
+    /// An image is the state number in 4 bytes, the number of offers in 2 and then the entries, 8 bytes each, offers rising,
+    /// all with the most significant byte first. The bytes are the image and no more.
+    ///
+    /// Refused: [`Refusal::Lengths`], [`Refusal::BadImage`], [`Refusal::TableFull`] (load it into a longer table).
+    ///
+    /// ```
+    /// use cechnuol::{Refusal, Store};
+    ///
+    /// let mut store = Store::new(4, 16)?;
+    /// store.load(&[0, 0, 0, 7, 0, 1, 0x80, 0, 0, 5, 0, 0, 0x04, 0xB0])?;
+    /// assert_eq!(store.look_up(5, 7), Ok(Some(1200)));
+    /// # Ok::<(), Refusal>(())
+    /// ```
+    #[inline]
+    pub fn load(&mut self, image: &[u8]) -> Result<(), Refusal> {
+        Refusal::check(self.as_raw_mut().load(image))
+    }
+
+    /// Writes the image of the checkpoint to the start of the bytes and loads it from there. The tip falls back to the
+    /// checkpoint: the steps above it are lost, all slots close, and the tally is set to zero. To keep the newest state,
+    /// flush to the tip before.
+    ///
+    /// Refused: [`Refusal::Lengths`], [`Refusal::Unsound`], [`Refusal::OutputShort`].
+    ///
+    /// ```
+    /// use cechnuol::{Entry, Refusal, Store, IMAGE_BYTES};
+    ///
+    /// let mut store = Store::new(4, 16)?;
+    /// store.commit(&[Entry::put(5, 1200)])?;
+    /// store.restart(&mut [0; IMAGE_BYTES])?;
+    /// assert_eq!(store.head().tip(), 0);
+    /// assert_eq!(store.look_up(5, 0), Ok(None));
+    /// # Ok::<(), Refusal>(())
+    /// ```
+    #[inline]
+    pub fn restart(&mut self, bytes: &mut [u8]) -> Result<(), Refusal> {
+        Refusal::check(self.as_raw_mut().restart(bytes))
+    }
+
+    /// Commits a list of 0 to 64 entries, offers strictly rising, as the state after the tip, which becomes the tip. The list
+    /// is copied to the journal.
+    ///
+    /// Refused: [`Refusal::Lengths`], [`Refusal::Unsound`], [`Refusal::BadList`], [`Refusal::LastState`],
+    /// [`Refusal::StepsFull`], [`Refusal::JournalFull`].
+    ///
+    /// The last two say that there is no room, of 64 steps or of the journal's words. A list longer than the journal never
+    /// fits. A flush to the tip makes room, but not while a slot is open that was issued at an old state, since its steps are
+    /// held for it; so to flush and try again is not enough. If there is still no room, or no flush is possible, forward or
+    /// release the slot that was issued at the oldest state:
+    ///
+    /// ```
+    /// use cechnuol::{Entry, Refusal, Store};
+    ///
+    /// /// Commits a list, and makes room for it where there is none.
+    /// fn commit(store: &mut Store, list: &[Entry]) -> Result<(), Refusal> {
+    ///     loop {
+    ///         let full = match store.commit(list) {
+    ///             Err(full @ (Refusal::StepsFull | Refusal::JournalFull)) if list.len() <= store.journal().len() => full,
+    ///             answer => return answer,
+    ///         };
+    ///         let (tip, slot) = (store.head().tip(), store.head().oldest_slot());
+    ///         if store.head().checkpoint() == tip || store.flush(tip).is_err() {
+    ///             // whoever reads in this slot has to issue it again
+    ///             store.release(slot.ok_or(full)?)?;
+    ///         }
+    ///     }
+    /// }
+    ///
+    /// let mut store = Store::new(100, 500)?;
+    /// store.issue(3, &mut [Entry::ask(5)])?;
+    /// for price in 0..100 {
+    ///     commit(&mut store, &[Entry::put(5, price)])?;
+    /// }
+    /// assert_eq!(store.look_up(5, 100), Ok(Some(99)));
+    /// assert!(!store.head().is_open(3));
+    /// # Ok::<(), Refusal>(())
+    /// ```
+    #[inline]
+    pub fn commit(&mut self, list: &[Entry]) -> Result<(), Refusal> {
+        Refusal::check(self.as_raw_mut().commit(raw::words(list)))
+    }
+
+    /// Makes a state from the checkpoint to the tip the tip. The steps above it are gone, and later commits use their
+    /// numbers again.
+    ///
+    /// Refused: [`Refusal::Lengths`], [`Refusal::Unsound`], [`Refusal::StateRange`].
+    ///
+    /// ```
+    /// use cechnuol::{Entry, Refusal, Store};
+    ///
+    /// let mut store = Store::new(4, 16)?;
+    /// store.commit(&[Entry::put(5, 1100)])?;
+    /// store.roll_back(0)?;
+    /// store.commit(&[Entry::put(5, 1300)])?;
+    /// assert_eq!(store.look_up(5, 1), Ok(Some(1300)));
+    /// # Ok::<(), Refusal>(())
+    /// ```
+    #[inline]
+    pub fn roll_back(&mut self, state: u32) -> Result<(), Refusal> {
+        Refusal::check(self.as_raw_mut().roll_back(state))
+    }
+
+    /// Makes a state from the checkpoint to the tip the checkpoint: the table becomes the map at that state. Steps that no
+    /// open slot needs go, and make room for commits; states below it can no longer be looked up or rolled back to.
+    ///
+    /// Needs up to 160 KiB of stack.
+    ///
+    /// Refused: [`Refusal::Lengths`], [`Refusal::Unsound`], [`Refusal::StateRange`], [`Refusal::TableFull`]. At the last
+    /// the map at the state has more offers than the table has words. Flush to another state whose map fits, or commit
+    /// removals first and flush to the state after them (only the map at the state named has to fit); or load the image of
+    /// the checkpoint into a longer table, and commit the lists since then again.
+    ///
+    /// ```
+    /// use cechnuol::{Entry, Refusal, Store};
+    ///
+    /// let mut store = Store::new(1, 16)?;
+    /// store.commit(&[Entry::put(5, 1200)])?;
+    /// store.commit(&[Entry::put(9, 700)])?;
+    /// assert_eq!(store.flush(2), Err(Refusal::TableFull));
+    /// store.commit(&[Entry::remove(5)])?;
+    /// store.flush(3)?;
+    /// assert_eq!(store.entries(), [Entry::put(9, 700)]);
+    /// # Ok::<(), Refusal>(())
+    /// ```
+    #[inline]
+    pub fn flush(&mut self, state: u32) -> Result<(), Refusal> {
+        Refusal::check(self.as_raw_mut().flush(state))
+    }
+
+    /// Starts a read in a slot from 0 to 7: fills a list of entries that ask, offers strictly rising, from the table, and
+    /// opens the slot. The entries then show what is there at the checkpoint, and the steps since are held until the slot is
+    /// forwarded or released. The caller keeps the entries for the forward.
+    ///
+    /// Refused: [`Refusal::Lengths`], [`Refusal::Unsound`], [`Refusal::SlotRange`], [`Refusal::SlotTaken`],
+    /// [`Refusal::BadList`].
+    ///
+    /// ```
+    /// use cechnuol::{Entry, Refusal, Store};
+    ///
+    /// let mut store = Store::new(4, 16)?;
+    /// let mut reads = [Entry::ask(5), Entry::ask(9)];
+    /// store.issue(0, &mut reads)?;
+    /// assert_eq!(reads.map(|entry| entry.price()), [None, None]);
+    /// assert_eq!(store.head().issued(0), Some(0));
+    /// # Ok::<(), Refusal>(())
+    /// ```
+    #[inline]
+    pub fn issue(&mut self, slot: usize, reads: &mut [Entry]) -> Result<(), Refusal> {
+        Refusal::check(self.as_raw_mut().issue(slot, raw::words_mut(reads)))
+    }
+
+    /// Brings a read set that an issue filled forward to a state from the checkpoint to the tip, and closes its slot. Each
+    /// entry then shows its offer's price at that state, or none; steps that no open slot needs any more go.
+    ///
+    /// The read set is the caller's, and only its form is tested: another one, such as that of an earlier issue of the slot,
+    /// is brought forward from what it says, and its prices are then wrong.
+    ///
+    /// Refused: [`Refusal::Lengths`], [`Refusal::Unsound`], [`Refusal::SlotRange`], [`Refusal::SlotClosed`],
+    /// [`Refusal::BadList`], [`Refusal::StateRange`].
+    ///
+    /// ```
+    /// use cechnuol::{Entry, Refusal, Store};
+    ///
+    /// let mut store = Store::new(4, 16)?;
+    /// let mut reads = [Entry::ask(5), Entry::ask(9)];
+    /// store.issue(0, &mut reads)?;
+    /// store.commit(&[Entry::put(5, 1100)])?;
+    /// store.flush(1)?;
+    /// store.forward(0, 1, &mut reads)?;
+    /// assert_eq!(reads, [Entry::put(5, 1100), Entry::remove(9)]);
+    /// # Ok::<(), Refusal>(())
+    /// ```
+    #[inline]
+    pub fn forward(&mut self, slot: usize, state: u32, reads: &mut [Entry]) -> Result<(), Refusal> {
+        Refusal::check(self.as_raw_mut().forward(slot, state, raw::words_mut(reads)))
+    }
+
+    /// Closes a slot without a forward: the read is given up. Steps that no open slot needs any more go. Tell the reader before
+    /// the slot is issued again: the unit cannot know whose read set a forward is lent.
+    ///
+    /// Refused: [`Refusal::Lengths`], [`Refusal::Unsound`], [`Refusal::SlotRange`], [`Refusal::SlotClosed`].
+    #[inline]
+    pub fn release(&mut self, slot: usize) -> Result<(), Refusal> {
+        Refusal::check(self.as_raw_mut().release(slot))
+    }
+}
+
+/// Head and tally, and how long table and journal are.
+impl<T: AsRef<[u64]>, J: AsRef<[u64]>> fmt::Debug for Store<T, J> {
+    fn fmt(&self, f: &mut fmt::Formatter<'_>) -> fmt::Result {
+        f.debug_struct("Store")
+            .field("table_words", &self.table().len())
+            .field("journal_words", &self.journal().len())
+            .field("head", &self.head)
+            .field("tally", &self.tally)
+            .finish_non_exhaustive()
+    }
+}

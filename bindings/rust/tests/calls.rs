@@ -1,0 +1,236 @@
+//! Every call accepted, and refused on each ground that it can meet.
+
+mod common;
+
+use cechnuol::raw::{ENDS, TAKEN, TIP};
+use cechnuol::Refusal::{self, *};
+use cechnuol::{price_batch, Entry, Head, Order, Store, Tally};
+use common::{of_lengths, refused, store, with_head, CALLS, IMAGE};
+
+#[test]
+fn every_call_tests_the_lengths() {
+    for (table, journal) in [(0, 16), (8, 0), (8001, 16), (8, 4097)] {
+        for (_, call) in CALLS {
+            refused(&of_lengths(table, journal), Lengths, call);
+        }
+    }
+}
+
+#[test]
+fn every_call_but_clear_and_load_tests_the_store() {
+    let damages = [(TIP, 1 << 32), (TAKEN, 2), (ENDS, 100), (0, 9)];
+    for damage in damages {
+        let damaged = with_head(&store(), &[damage]);
+        for (name, call) in CALLS {
+            match name {
+                "clear" | "load" => assert_eq!(call(&mut damaged.clone()), Ok(()), "{name}"),
+                _ => refused(&damaged, Unsound, call),
+            }
+        }
+    }
+}
+
+#[test]
+fn every_call_is_accepted() {
+    for (name, call) in CALLS {
+        assert_eq!(call(&mut store()), Ok(()), "{name}");
+    }
+}
+
+#[test]
+fn clear() {
+    let mut store = store();
+    assert_eq!(store.clear(), Ok(()));
+    assert_eq!(store, of_lengths(8, 16));
+}
+
+#[test]
+fn load() {
+    let mut store = store();
+    assert_eq!(store.load(&IMAGE), Ok(()));
+    assert_eq!(store.entries(), [Entry::put(5, 1200), Entry::put(9, 700)]);
+    let head = store.head();
+    assert_eq!((head.oldest(), head.checkpoint(), head.tip(), head.used()), (1, 1, 1, 2));
+    assert_eq!((head.is_open(3), store.tally()), (false, &Tally::default()));
+    refused(&store, BadImage, |store| store.load(&[]));
+    refused(&store, BadImage, |store| store.load(&IMAGE[..21]));
+    refused(&store, BadImage, |store| store.load(&[&IMAGE[..], &[0]].concat()));
+    refused(&of_lengths(1, 1), TableFull, |store| store.load(&IMAGE));
+}
+
+#[test]
+fn write_image() {
+    let mut bytes = [0xAA; 25];
+    assert_eq!(store().write_image(&mut bytes), Ok(22));
+    assert_eq!(bytes[..], [&IMAGE[..], &[0xAA; 3]].concat());
+    let mut bytes = [0xAA; 21];
+    refused(&store(), OutputShort, |store| store.write_image(&mut bytes));
+    assert_eq!(bytes, [0xAA; 21]);
+}
+
+#[test]
+fn restart() {
+    let (mut store, mut bytes) = (store(), [0xAA; 23]);
+    refused(&store, OutputShort, |store| store.restart(&mut bytes[..21]));
+    assert_eq!(bytes, [0xAA; 23]);
+    assert_eq!(store.restart(&mut bytes), Ok(()));
+    assert_eq!(bytes[..], [&IMAGE[..], &[0xAA]].concat());
+    let mut loaded = of_lengths(8, 16);
+    assert_eq!(loaded.load(&IMAGE), Ok(()));
+    assert_eq!(store, loaded);
+}
+
+#[test]
+fn commit() {
+    let mut store = store();
+    assert_eq!(store.commit(&[Entry::put(5, 1000)]), Ok(()));
+    assert_eq!(store.look_up(5, 3), Ok(Some(1000)));
+    assert_eq!(store.look_up(5, 2), Ok(Some(1100)));
+    assert_eq!((store.head().held_steps(), store.head().ends()), (2, &[3, 4][..]));
+    refused(&store, BadList, |store| store.commit(&[Entry::put(5, 1), Entry::put(5, 2)]));
+    refused(&store, BadList, |store| store.commit(&[Entry::put(5, 1), Entry::put(4, 2)]));
+    refused(&store, BadList, |store| store.commit(&[Entry::from_word(1)]));
+    let rising: Vec<Entry> = (0..65).map(Entry::remove).collect();
+    refused(&store, BadList, |store| store.commit(&rising));
+    refused(&store, JournalFull, |store| store.commit(&rising[..13]));
+    assert_eq!(store.commit(&rising[..12]), Ok(()));
+    let mut last = of_lengths(1, 1);
+    assert_eq!(last.load(&[0xFF, 0xFF, 0xFF, 0xFF, 0, 0]), Ok(()));
+    refused(&last, LastState, |store| store.commit(&[]));
+}
+
+/// The steps are full with a slot open since the oldest state: a flush alone does not help, its release does.
+#[test]
+fn room_for_steps() {
+    let mut store = of_lengths(4, 64);
+    assert_eq!(store.issue(6, &mut [Entry::ask(5)]), Ok(()));
+    (0..64).for_each(|price| assert_eq!(store.commit(&[Entry::put(5, price)]), Ok(())));
+    refused(&store, StepsFull, |store| store.commit(&[]));
+    assert_eq!(store.flush(64), Ok(()));
+    assert_eq!(store.issue(2, &mut [Entry::ask(5)]), Ok(()));
+    refused(&store, StepsFull, |store| store.commit(&[]));
+    assert_eq!((store.head().oldest_slot(), store.head().issued(6)), (Some(6), Some(0)));
+    assert_eq!(store.release(6), Ok(()));
+    assert_eq!((store.head().held_steps(), store.head().oldest_slot()), (0, Some(2)));
+    assert_eq!(store.commit(&[]), Ok(()));
+}
+
+#[test]
+fn roll_back() {
+    let mut store = store();
+    refused(&store, StateRange, |store| store.roll_back(0));
+    refused(&store, StateRange, |store| store.roll_back(3));
+    assert_eq!(store.roll_back(1), Ok(()));
+    assert_eq!((store.head().tip(), store.tally().rolled_back()), (1, 1));
+    assert_eq!(store.look_up(5, 2), Err(StateRange));
+}
+
+#[test]
+fn flush() {
+    let mut store = store();
+    refused(&store, StateRange, |store| store.flush(0));
+    refused(&store, StateRange, |store| store.flush(u32::MAX));
+    assert_eq!(store.flush(2), Ok(()));
+    assert_eq!(store.entries(), [Entry::put(5, 1100), Entry::put(11, 0)]);
+    assert_eq!((store.tally().committed(), store.tally().flushed()), (2, 2));
+    let mut small = of_lengths(1, 4);
+    assert_eq!(small.commit(&[Entry::put(1, 1), Entry::put(2, 2)]), Ok(()));
+    refused(&small, TableFull, |store| store.flush(1));
+}
+
+#[test]
+fn look_up() {
+    let store = store();
+    let prices = [(5, 1, Some(1200)), (9, 1, Some(700)), (11, 1, None), (9, 2, None), (11, 2, Some(0))];
+    for (offer, state, price) in prices {
+        assert_eq!(store.look_up(offer, state), Ok(price), "offer {offer} at {state}");
+    }
+    for state in [0, 3, u32::MAX] {
+        assert_eq!(store.look_up(5, state), Err(StateRange));
+    }
+    for offer in [1 << 31, u32::MAX] {
+        assert_eq!(store.look_up(offer, 1), Err(BadList));
+    }
+    assert_eq!(store.look_up((1 << 31) - 1, 1), Ok(None));
+}
+
+#[test]
+fn issue() {
+    let (mut store, mut reads) = (store(), [Entry::ask(5), Entry::ask(6)]);
+    for (slot, refusal) in [(3, SlotTaken), (8, SlotRange), (usize::MAX, SlotRange)] {
+        refused(&store, refusal, |store| store.issue(slot, &mut reads));
+    }
+    refused(&store, BadList, |store| store.issue(0, &mut [Entry::put(5, 1)]));
+    refused(&store, BadList, |store| store.issue(0, &mut [Entry::ask(6), Entry::ask(5)]));
+    assert_eq!(store.issue(0, &mut reads), Ok(()));
+    assert_eq!(reads, [Entry::put(5, 1200), Entry::remove(6)]);
+    let open: Vec<bool> = (0..9).map(|slot| store.head().is_open(slot)).collect();
+    assert_eq!(open, [true, false, false, true, false, false, false, false, false]);
+}
+
+#[test]
+fn forward() {
+    let (mut store, read) = (store(), [Entry::put(5, 1200)]);
+    for (slot, state, refusal) in
+        [(8, 2, SlotRange), (0, 2, SlotClosed), (3, 0, StateRange), (3, 3, StateRange)]
+    {
+        let mut reads = read;
+        refused(&store, refusal, |store| store.forward(slot, state, &mut reads));
+        assert_eq!(reads, read);
+    }
+    refused(&store, BadList, |store| store.forward(3, 2, &mut [read[0]; 2]));
+    let mut reads = read;
+    assert_eq!(store.forward(3, 2, &mut reads), Ok(()));
+    assert_eq!((reads, store.head().is_open(3)), ([Entry::put(5, 1100)], false));
+    refused(&store, SlotClosed, |store| store.forward(3, 2, &mut reads));
+}
+
+#[test]
+fn release() {
+    let mut store = store();
+    refused(&store, SlotRange, |store| store.release(8));
+    refused(&store, SlotClosed, |store| store.release(4));
+    assert_eq!(store.release(3), Ok(()));
+    assert_eq!(store.head().oldest_slot(), None);
+}
+
+#[test]
+fn batches() {
+    let reads = [Entry::put(5, 1001), Entry::remove(9)];
+    let priced = |orders: &[Order]| {
+        let mut out = [Entry::from_word(7); 3];
+        price_batch(&reads, orders, &mut out).map(|count| (count, out))
+    };
+    let rest = Entry::from_word(7);
+    assert_eq!(priced(&[]), Ok((0, [rest; 3])));
+    let orders = [Order::list(9, 40), Order::raise(9, 2), Order::sixteenths(5, 12, 0), Order::cut(9, 41)];
+    assert_eq!(priced(&orders), Ok((2, [Entry::put(5, 750), Entry::put(9, 1), rest])));
+    assert_eq!(priced(&[Order::sixteenths(5, 12, 800)]), Ok((1, [Entry::put(5, 800), rest, rest])));
+    assert_eq!(priced(&[Order::withdraw(5)]), Ok((1, [Entry::remove(5), rest, rest])));
+    let refusals: [(Order, Refusal); 6] = [
+        (Order::NO_ORDER, BadOrder),
+        (Order::new(Order::WITHDRAW, 1, 5), BadOrder),
+        (Order::list(6, 1), OfferNotRead),
+        (Order::raise(9, 1), OrderNoPrice),
+        (Order::sixteenths(9, 16, 1), OrderNoPrice),
+        (Order::cut(5, 1002), PriceRange),
+    ];
+    for (order, refusal) in refusals {
+        assert_eq!(priced(&[order]), Err(refusal), "{order}");
+    }
+    assert_eq!(price_batch(&reads, &[Order::list(5, 1)], &mut []), Err(OutputShort));
+    assert_eq!(price_batch(&[reads[1], reads[0]], &[], &mut []), Err(BadList));
+    assert_eq!(price_batch(&[Entry::put(1, u32::MAX)], &[Order::raise(1, 1)], &mut [rest]), Err(PriceRange));
+}
+
+/// A store that is kept elsewhere, as words, and taken up again.
+#[test]
+fn a_store_taken_up_again() {
+    let (table, journal, head, tally) = store().into_parts();
+    let (head, tally) = (Head::from_words(*head.words()), Tally::from_words(*tally.words()));
+    let mut again = Store::from_parts(table, journal, head, tally);
+    assert_eq!(again, store());
+    let mut reads = [Entry::put(5, 1200)];
+    assert_eq!(again.forward(3, 2, &mut reads), Ok(()));
+    assert_eq!(reads, [Entry::put(5, 1100)]);
+}

@@ -1,0 +1,93 @@
+//! Each constant against what the library does at its edge.
+
+mod common;
+
+use cechnuol::raw::StoreMut;
+use cechnuol::{image_bytes_of, price_batch, Entry, Order, Refusal, Store};
+use cechnuol::{
+    BATCH_ORDERS, HEAD_WORDS, IMAGE_BYTES, JOURNAL_WORDS, LIST_WORDS, SLOTS, STEPS, TABLE_WORDS, TALLY_WORDS,
+};
+use common::{of_lengths, store, with_head};
+
+#[test]
+fn tables_and_journals() {
+    for (table, journal) in [(1, 1), (TABLE_WORDS, JOURNAL_WORDS)] {
+        assert_eq!(of_lengths(table, journal).clear(), Ok(()));
+        assert!(Store::new(table, journal).is_ok());
+    }
+    for (table, journal) in [(0, 1), (1, 0), (TABLE_WORDS + 1, 1), (1, JOURNAL_WORDS + 1)] {
+        assert_eq!(of_lengths(table, journal).clear(), Err(Refusal::Lengths));
+        assert_eq!(Store::new(table, journal), Err(Refusal::Lengths));
+    }
+    for huge in [usize::MAX, usize::MAX / 8, 1 << 40] {
+        assert_eq!(Store::new(huge, 1), Err(Refusal::Lengths));
+        assert_eq!(Store::new(1, huge), Err(Refusal::Lengths));
+    }
+}
+
+#[test]
+fn lists() {
+    let entries: Vec<Entry> = (0..LIST_WORDS as u32 + 1).map(Entry::ask).collect();
+    let mut store = of_lengths(1, 4096);
+    assert_eq!(store.commit(&entries[..LIST_WORDS]), Ok(()));
+    assert_eq!(store.commit(&entries), Err(Refusal::BadList));
+    assert_eq!(store.issue(0, &mut entries[..LIST_WORDS].to_vec()), Ok(()));
+    assert_eq!(store.issue(1, &mut entries.clone()), Err(Refusal::BadList));
+    assert_eq!(store.forward(0, 1, &mut entries.clone()), Err(Refusal::BadList));
+}
+
+#[test]
+fn batches() {
+    let orders = vec![Order::list(5, 7); BATCH_ORDERS + 1];
+    let mut out = [Entry::from_word(0)];
+    assert_eq!(price_batch(&[Entry::ask(5)], &orders[..BATCH_ORDERS], &mut out), Ok(1));
+    assert_eq!(price_batch(&[Entry::ask(5)], &orders, &mut out), Err(Refusal::BadList));
+}
+
+#[test]
+fn slots() {
+    let mut store = of_lengths(1, 1);
+    (0..SLOTS).for_each(|slot| assert_eq!(store.issue(slot, &mut []), Ok(())));
+    assert_eq!(store.issue(SLOTS, &mut []), Err(Refusal::SlotRange));
+    assert!((0..SLOTS).all(|slot| store.head().is_open(slot) && store.head().issued(slot) == Some(0)));
+    assert!(!store.head().is_open(SLOTS) && store.head().issued(SLOTS).is_none());
+}
+
+#[test]
+fn steps() {
+    let mut store = of_lengths(1, 1);
+    (0..STEPS).for_each(|_| assert_eq!(store.commit(&[]), Ok(())));
+    assert_eq!(store.head().held_steps(), STEPS);
+    assert_eq!(store.commit(&[]), Err(Refusal::StepsFull));
+}
+
+#[test]
+fn images() {
+    assert_eq!((IMAGE_BYTES, image_bytes_of(0), image_bytes_of(usize::MAX)), (64_006, 6, usize::MAX));
+    let mut image = vec![0, 0, 0, 0];
+    image.extend((TABLE_WORDS as u16).to_be_bytes());
+    image.extend((0..TABLE_WORDS as u32).flat_map(|offer| Entry::put(offer, 7).word().to_be_bytes()));
+    let mut store = of_lengths(TABLE_WORDS, 1);
+    assert_eq!(store.load(&image), Ok(()));
+    assert_eq!(store.write_image(&mut [0; IMAGE_BYTES - 1]), Err(Refusal::OutputShort));
+    let mut bytes = [0; IMAGE_BYTES];
+    assert_eq!(store.write_image(&mut bytes), Ok(IMAGE_BYTES));
+    assert_eq!(bytes[..], image);
+}
+
+/// The last word of the head is tested, and the last of the tally counted; the library writes nothing behind them.
+#[test]
+fn heads_and_tallies() {
+    assert_eq!(with_head(&store(), &[(HEAD_WORDS - 1, 1)]).release(3), Err(Refusal::Unsound));
+    let (mut table, mut journal) = ([7; 2], [7; 2]);
+    let mut head = [[u64::MAX; HEAD_WORDS]; 2];
+    let mut tally = [[u64::MAX; TALLY_WORDS]; 2];
+    let ([head, after_head], [tally, after_tally]) = (&mut head, &mut tally);
+    let calls: [fn(StoreMut) -> u64; 3] =
+        [|lent| lent.clear(), |lent| lent.commit(&[]), |lent| lent.flush(1)];
+    for call in calls {
+        assert_eq!(call(StoreMut { table: &mut table, journal: &mut journal, head, tally }), 0);
+    }
+    assert_eq!((tally[0], tally[TALLY_WORDS - 1]), (1, 1));
+    assert_eq!((*after_head, *after_tally), ([u64::MAX; HEAD_WORDS], [u64::MAX; TALLY_WORDS]));
+}

@@ -1,0 +1,79 @@
+//! Stores over memory that is owned, lent, of arrays, or only to be read; and what follows for threads.
+
+mod common;
+
+use cechnuol::{Entry, Head, Refusal, Store, Tally};
+use common::store;
+use std::thread;
+
+const ENTRY: Entry = Entry::put(5, 1200);
+
+#[test]
+fn lent_memory() {
+    let (mut table, mut journal) = (vec![7; 8], [7; 16]);
+    let mut lent = Store::lend(&mut table, &mut journal).expect("lengths in their range");
+    assert_eq!(lent.commit(&[ENTRY]), Ok(()));
+    assert_eq!((lent.table(), lent.journal()[0]), (&[0; 8][..], ENTRY.word()));
+    assert_eq!(lent.flush(1), Ok(()));
+    let (_, _, head, tally) = lent.into_parts();
+    assert_eq!((table[0], &journal), (ENTRY.word(), &[0; 16]));
+    // taken up again, over the same memory
+    let again = Store::from_parts(&mut table[..], &mut journal[..], head, tally);
+    assert_eq!(again.look_up(5, 1), Ok(Some(1200)));
+}
+
+#[test]
+fn memory_that_is_refused() {
+    let (mut table, mut journal) = ([7; 8], vec![7; 4097]);
+    assert_eq!(Store::lend(&mut [], &mut journal).unwrap_err(), Refusal::Lengths);
+    assert_eq!(Store::lend(&mut table, &mut journal).unwrap_err(), Refusal::Lengths);
+    assert_eq!((table, journal), ([7; 8], vec![7; 4097]));
+}
+
+#[test]
+fn arrays_and_boxes() {
+    let mut arrays = Store::from_parts([7; 4], [7; 16], Head::from_words([7; 84]), Tally::from_words([7; 3]));
+    assert_eq!(arrays.commit(&[ENTRY]), Err(Refusal::Unsound));
+    assert_eq!(
+        (arrays.clear(), arrays.commit(&[ENTRY]), arrays.look_up(5, 1)),
+        (Ok(()), Ok(()), Ok(Some(1200)))
+    );
+    let (table, journal) = (vec![0; 4].into_boxed_slice(), vec![0; 16]);
+    let mut boxed = Store::from_parts(table, journal, Head::default(), Tally::default());
+    assert_eq!((boxed.commit(&[ENTRY]), boxed.look_up(5, 1)), (Ok(()), Ok(Some(1200))));
+}
+
+/// A store over slices that cannot be written has the queries, and only those.
+#[test]
+fn memory_to_read() {
+    let kept = store();
+    let reader = Store::from_parts(kept.table(), kept.journal(), kept.head().clone(), *kept.tally());
+    assert_eq!(reader.look_up(5, 2), Ok(Some(1100)));
+    assert_eq!(reader.write_image(&mut [0; 22]), Ok(22));
+    assert_eq!(reader.entries(), kept.entries());
+}
+
+#[test]
+fn queries_from_several_threads() {
+    let store = store();
+    thread::scope(|scope| {
+        for _ in 0..4 {
+            scope.spawn(|| (0..1000).for_each(|_| assert_eq!(store.look_up(5, 2), Ok(Some(1100)))));
+        }
+    });
+    let moved = thread::spawn(move || store.look_up(9, 1));
+    assert_eq!(moved.join().expect("a lookup"), Ok(Some(700)));
+}
+
+/// What is printed of a store for those who look for a fault: every word of head and tally, and no table of 8,000 words.
+#[test]
+fn what_is_printed() {
+    let text = format!("{:?}", store());
+    for part in
+        ["table_words: 8", "journal_words: 16", "used: 2", "checkpoint: 1", "tip: 2", "committed: 2", ".."]
+    {
+        assert!(text.contains(part), "{part} in {text}");
+    }
+    let odd = format!("{:?}", Head::from_words([u64::MAX; 84]));
+    assert_eq!(odd.matches(&u64::MAX.to_string()).count(), 84);
+}

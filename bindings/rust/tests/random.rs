@@ -1,0 +1,150 @@
+//! Random bytes as images, random words as lists, orders, heads and stores: no call panics, and a refused one leaves everything
+//! that it was lent as it came.
+
+mod common;
+
+use cechnuol::{price_batch, Entry, Head, Order, Refusal, Store, Tally, HEAD_WORDS, TALLY_WORDS};
+use common::{of_lengths, store, Rng, CALLS};
+
+fn entries(rng: &mut Rng) -> Vec<Entry> {
+    let count = rng.below(70);
+    Entry::from_words(&rng.words(count)).to_vec()
+}
+
+#[test]
+fn random_bytes_as_images() {
+    let (mut rng, mut accepted) = (Rng(1), 0);
+    for _ in 0..20_000 {
+        let mut store = store();
+        let count = rng.below(5);
+        let length = if rng.below(2) == 0 { 6 + 8 * count } else { rng.below(100) };
+        let mut image = rng.bytes(length);
+        if length >= 6 && rng.below(4) != 0 {
+            image[4..6].copy_from_slice(&(count as u16).to_be_bytes());
+        }
+        image.iter_mut().skip(6).step_by(8).for_each(|byte| *byte |= 0x80);
+        let before = (store.clone(), image.clone());
+        match store.load(&image) {
+            Ok(()) => {
+                accepted += 1;
+                let mut bytes = vec![0; length];
+                assert_eq!((store.write_image(&mut bytes), &bytes), (Ok(length), &image));
+            }
+            Err(refusal) => {
+                assert!(matches!(refusal, Refusal::BadImage | Refusal::TableFull), "{refusal}");
+                assert!((store, image) == before);
+            }
+        }
+    }
+    assert!((1000..19_000).contains(&accepted), "{accepted}");
+}
+
+/// A commit takes a list by the rules of a list, and its entries are then those that are looked up.
+#[test]
+fn random_words_as_lists() {
+    let (mut rng, mut accepted) = (Rng(2), 0);
+    for _ in 0..5000 {
+        let (mut store, list) = (of_lengths(8, 4096), entries(&mut rng));
+        let rises = list.windows(2).all(|pair| pair[0].offer() < pair[1].offer());
+        let valid = list.iter().all(|entry| entry.price().is_some() || entry.word() as u32 == 0);
+        if list.len() > 64 || !rises || !valid {
+            common::refused(&store, Refusal::BadList, |store| store.commit(&list));
+            continue;
+        }
+        accepted += 1;
+        assert_eq!(store.commit(&list), Ok(()));
+        list.iter().for_each(|entry| assert_eq!(store.look_up(entry.offer(), 1), Ok(entry.price())));
+    }
+    assert!((100..4900).contains(&accepted), "{accepted}");
+}
+
+#[test]
+fn random_words_as_read_sets() {
+    let mut rng = Rng(3);
+    for turn in 0..5000 {
+        let (mut store, mut reads) = (store(), entries(&mut rng));
+        let before = (store.clone(), reads.clone());
+        let answer = match turn % 2 {
+            0 => store.issue(rng.below(10), &mut reads),
+            _ => store.forward(rng.below(10), rng.below(4) as u32, &mut reads),
+        };
+        assert!(answer.is_ok() || (store, reads) == before, "{answer:?}");
+    }
+}
+
+#[test]
+fn random_words_as_batches() {
+    let (mut rng, mut answers) = (Rng(4), std::collections::BTreeMap::new());
+    for _ in 0..50_000 {
+        let reads = entries(&mut rng);
+        let count = rng.below(67);
+        let mut orders: Vec<Order> = rng.words(count).into_iter().map(Order::from_word).collect();
+        if let Some(entry) = reads.first().filter(|_| rng.below(4) != 0) {
+            let kind = [0, 2, 3, 20][rng.below(4)];
+            orders.fill_with(|| Order::new(kind, rng.bits() as u32 >> 7, entry.offer()));
+        }
+        let mut out = entries(&mut rng);
+        let before = (reads.clone(), orders.clone(), out.clone());
+        let answer = price_batch(&reads, &orders, &mut out);
+        let written = answer.unwrap_or(0);
+        assert_eq!(out[written..], before.2[written..], "entries past the changes stay");
+        assert_eq!((&reads, &orders), (&before.0, &before.1));
+        *answers.entry(answer.map_or_else(Refusal::number, |_| 0)).or_insert(0) += 1;
+    }
+    let met: Vec<u64> = answers.keys().copied().collect();
+    assert_eq!(met, [0, 6, 7, 8, 9, 10, 17], "{answers:?}");
+}
+
+/// A store of random lengths whose words are random, or of which some words are.
+fn random_store(rng: &mut Rng) -> Store {
+    if rng.below(2) == 0 {
+        let (table, journal) = (rng.below(10), rng.below(100));
+        let [head, tally] = [HEAD_WORDS, TALLY_WORDS].map(|count| rng.words(count));
+        let head = Head::from_words(head.try_into().expect("as many words"));
+        let tally = Tally::from_words(tally.try_into().expect("as many words"));
+        return Store::from_parts(rng.words(table), rng.words(journal), head, tally);
+    }
+    let small = [0, 1, 2, 3, 7, u64::MAX][rng.below(6)];
+    let (mut table, mut journal, head, tally) =
+        common::with_head(&store(), &[(rng.below(84), small)]).into_parts();
+    let (at, step) = (rng.below(8), rng.below(16));
+    table[at] ^= (rng.bits() & rng.bits()) * rng.below(2) as u64;
+    journal[step] ^= (1 << rng.below(64)) * rng.below(2) as u64;
+    Store::from_parts(table, journal, head, tally)
+}
+
+#[test]
+fn random_stores() {
+    let mut rng = Rng(5);
+    let (mut accepted, mut refused) = (0, 0);
+    for turn in 0..20_000 {
+        let before = random_store(&mut rng);
+        let (name, call) = CALLS[turn % CALLS.len()];
+        let mut store = before.clone();
+        match call(&mut store) {
+            Ok(()) => accepted += 1,
+            Err(refusal) => {
+                refused += 1;
+                assert!(Refusal::ALL.contains(&refusal), "{name}: {refusal}");
+                assert!(store == before, "{name}: {refusal} leaves the store as it came");
+            }
+        }
+    }
+    assert!(accepted > 2000 && refused > 2000, "{accepted} accepted, {refused} refused");
+}
+
+/// What is read of a head and shown of a store, of any words.
+#[test]
+fn random_heads_are_read() {
+    let mut rng = Rng(6);
+    for _ in 0..2000 {
+        let store = random_store(&mut rng);
+        let head = store.head();
+        let slots = [0, 7, 8, usize::MAX, rng.bits() as usize];
+        assert!(slots.iter().all(|&slot| head.is_open(slot) == head.issued(slot).is_some()));
+        assert!(head.oldest_slot().is_none_or(|slot| head.is_open(slot)));
+        assert_eq!(head.ends().len(), head.held_steps().min(64));
+        assert!(store.entries().len() <= store.table().len());
+        assert!(!format!("{store:?}").is_empty());
+    }
+}

@@ -1,0 +1,7 @@
+-- The version of the library.
+-- Assumes nothing.
+use Prim.Native.Nat.{ℕ}
+
+-- 1.0.0: major × 1,000,000 + minor × 1,000 + patch
+abbrev pub version : ℕ
+version = 1000000

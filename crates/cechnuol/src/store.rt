@@ -1,0 +1,262 @@
+// The calls on a store, for C.
+use crate::memory::ask_on;
+use crate::memory::call_on;
+use crate::memory::clear_on;
+use crate::memory::commit_on;
+use crate::memory::load_on;
+use crate::memory::serve_store;
+use crate::memory::serve_words;
+use answers::call::Call;
+use answers::call::LookUp;
+use answers::call::Query;
+use answers::call::Read;
+use answers::call::Reader;
+use answers::call::Reset;
+use answers::call::Step;
+use head_words::HEAD_WORDS;
+use lent::codes::code_of;
+use lent::codes::value_of;
+use lent::storing::TALLY_WORDS;
+ghost use mathlib.Core.Path.{_≡_};
+ghost use mathlib.Core.List.{[]};
+ghost use Rattle.lent.specs.Asked.{clear, load, restart, commit, rollBack, flush, issue, forward, release, lookUp, writeImage};
+ghost use Rattle.lent.specs.Lent.{Serves, Tells, wordsAfter, bytesAfter, bytesWritten};
+
+// The empty map as state 0.
+#[no_mangle]
+pub extern "C" fn cechnuol_clear(
+    table: &mut [u64],
+    journal: &mut [u64],
+    head: &mut [u64; HEAD_WORDS],
+    tally: &mut [u64; TALLY_WORDS],
+) -> u64
+    ensures { λ r. ⌜ Serves (now (table .entry)) (now (journal .entry)) [] [] (now (head .entry)) (now (tally .entry))
+        clear r (now (table .exit)) (now (journal .exit)) (now (head .exit)) (now (tally .exit)) ⌝ }
+{
+    let answer = clear_on(table, journal, head, tally);
+    code_of(answer)
+}
+
+// Loads the image that the bytes are.
+#[no_mangle]
+pub extern "C" fn cechnuol_load(
+    table: &mut [u64],
+    journal: &mut [u64],
+    head: &mut [u64; HEAD_WORDS],
+    tally: &mut [u64; TALLY_WORDS],
+    bytes: &[u8],
+) -> u64
+    ensures { λ r. ⌜ Serves (now (table .entry)) (now (journal .entry)) [] (now (bytes .entry)) (now (head .entry))
+        (now (tally .entry)) load r (now (table .exit)) (now (journal .exit)) (now (head .exit)) (now (tally .exit))
+        × (now (bytes .entry)
+        ≡ bytesAfter (now (table .entry)) (now (journal .entry)) [] (now (bytes .entry)) (now (head .entry))
+        (now (tally .entry)) load) ⌝ }
+{
+    let answer = load_on(table, journal, bytes, head, tally);
+    code_of(answer)
+}
+
+// Writes the image of the checkpoint to the start of the bytes, and its length to `count`.
+#[no_mangle]
+pub extern "C" fn cechnuol_write_image(
+    table: &[u64],
+    journal: &[u64],
+    head: &[u64; HEAD_WORDS],
+    bytes: &mut [u8],
+    count: &mut u64,
+) -> u64
+    ensures { λ r. ⌜ Tells (now (table .entry)) (now (journal .entry)) [] (now (bytes .entry)) (now (head .entry))
+        writeImage r (now (count .exit)) (now (count .entry))
+        × (now (bytes .exit)
+        ≡ bytesWritten (now (table .entry)) (now (journal .entry)) [] (now (bytes .entry)) (now (head .entry)) writeImage) ⌝ }
+{
+    let mut words = [0u64; 0];
+    let answer = ask_on(table, journal, &mut words, bytes, head, Query::WriteImage);
+    *count = value_of(answer, *count);
+    code_of(answer)
+}
+
+// Writes the image of the checkpoint to the start of the bytes and loads it back.
+#[no_mangle]
+pub extern "C" fn cechnuol_restart(
+    table: &mut [u64],
+    journal: &mut [u64],
+    head: &mut [u64; HEAD_WORDS],
+    tally: &mut [u64; TALLY_WORDS],
+    bytes: &mut [u8],
+) -> u64
+    ensures { λ r. ⌜ Serves (now (table .entry)) (now (journal .entry)) [] (now (bytes .entry)) (now (head .entry))
+        (now (tally .entry)) restart r (now (table .exit)) (now (journal .exit)) (now (head .exit)) (now (tally .exit))
+        × (now (bytes .exit)
+        ≡ bytesAfter (now (table .entry)) (now (journal .entry)) [] (now (bytes .entry)) (now (head .entry))
+        (now (tally .entry)) restart) ⌝ }
+{
+    let mut words = [0u64; 0];
+    let answer = call_on(
+        table,
+        journal,
+        &mut words,
+        bytes,
+        head,
+        tally,
+        Call::Reset(Reset::Restart),
+    );
+    code_of(answer)
+}
+
+// Commits the list that the words are.
+#[no_mangle]
+pub extern "C" fn cechnuol_commit(
+    table: &mut [u64],
+    journal: &mut [u64],
+    head: &mut [u64; HEAD_WORDS],
+    tally: &mut [u64; TALLY_WORDS],
+    words: &[u64],
+) -> u64
+    ensures { λ r. ⌜ Serves (now (table .entry)) (now (journal .entry)) (now (words .entry)) [] (now (head .entry))
+        (now (tally .entry)) commit r (now (table .exit)) (now (journal .exit)) (now (head .exit)) (now (tally .exit))
+        × (now (words .entry)
+        ≡ wordsAfter (now (table .entry)) (now (journal .entry)) (now (words .entry)) [] (now (head .entry))
+        (now (tally .entry)) commit) ⌝ }
+{
+    let answer = commit_on(table, journal, words, head, tally);
+    code_of(answer)
+}
+
+// Goes back to a state.
+#[no_mangle]
+pub extern "C" fn cechnuol_roll_back(
+    table: &mut [u64],
+    journal: &mut [u64],
+    head: &mut [u64; HEAD_WORDS],
+    tally: &mut [u64; TALLY_WORDS],
+    state: u32,
+) -> u64
+    ensures { λ r. ⌜ Serves (now (table .entry)) (now (journal .entry)) [] [] (now (head .entry)) (now (tally .entry))
+        (rollBack state) r (now (table .exit)) (now (journal .exit)) (now (head .exit)) (now (tally .exit)) ⌝ }
+{
+    serve_store(
+        table,
+        journal,
+        head,
+        tally,
+        Call::Step(Step::RollBack(state)),
+    )
+}
+
+// Makes the table the map at a state.
+#[no_mangle]
+pub extern "C" fn cechnuol_flush(
+    table: &mut [u64],
+    journal: &mut [u64],
+    head: &mut [u64; HEAD_WORDS],
+    tally: &mut [u64; TALLY_WORDS],
+    state: u32,
+) -> u64
+    ensures { λ r. ⌜ Serves (now (table .entry)) (now (journal .entry)) [] [] (now (head .entry)) (now (tally .entry))
+        (flush state) r (now (table .exit)) (now (journal .exit)) (now (head .exit)) (now (tally .exit)) ⌝ }
+{
+    serve_store(table, journal, head, tally, Call::Step(Step::Flush(state)))
+}
+
+// Writes the price of an offer at a state to `price`, or finds none.
+#[no_mangle]
+pub extern "C" fn cechnuol_look_up(
+    table: &[u64],
+    journal: &[u64],
+    head: &[u64; HEAD_WORDS],
+    offer: u32,
+    state: u32,
+    price: &mut u64,
+) -> u64
+    ensures { λ r. ⌜ Tells (now (table .entry)) (now (journal .entry)) [] [] (now (head .entry)) (lookUp offer state) r
+        (now (price .exit)) (now (price .entry)) ⌝ }
+{
+    let mut words = [0u64; 0];
+    let mut bytes = [0u8; 0];
+    let asked = LookUp { offer, state };
+    let answer = ask_on(
+        table,
+        journal,
+        &mut words,
+        &mut bytes,
+        head,
+        Query::LookUp(asked),
+    );
+    *price = value_of(answer, *price);
+    code_of(answer)
+}
+
+// Issues a read of the list that the words are, and fills it.
+#[no_mangle]
+pub extern "C" fn cechnuol_issue(
+    table: &mut [u64],
+    journal: &mut [u64],
+    head: &mut [u64; HEAD_WORDS],
+    tally: &mut [u64; TALLY_WORDS],
+    slot: usize,
+    words: &mut [u64],
+) -> u64
+    ensures { λ r. ⌜ Serves (now (table .entry)) (now (journal .entry)) (now (words .entry)) [] (now (head .entry))
+        (now (tally .entry)) (issue slot) r (now (table .exit)) (now (journal .exit)) (now (head .exit)) (now (tally .exit))
+        × (now (words .exit)
+        ≡ wordsAfter (now (table .entry)) (now (journal .entry)) (now (words .entry)) [] (now (head .entry))
+        (now (tally .entry)) (issue slot)) ⌝ }
+{
+    serve_words(
+        table,
+        journal,
+        head,
+        tally,
+        words,
+        Call::Read(Read::Issue(Reader { slot })),
+    )
+}
+
+// Forwards a read to a state; the words are the read set.
+#[no_mangle]
+pub extern "C" fn cechnuol_forward(
+    table: &mut [u64],
+    journal: &mut [u64],
+    head: &mut [u64; HEAD_WORDS],
+    tally: &mut [u64; TALLY_WORDS],
+    slot: usize,
+    state: u32,
+    words: &mut [u64],
+) -> u64
+    ensures { λ r. ⌜ Serves (now (table .entry)) (now (journal .entry)) (now (words .entry)) [] (now (head .entry))
+        (now (tally .entry)) (forward slot state) r (now (table .exit)) (now (journal .exit)) (now (head .exit)) (now (tally .exit))
+        × (now (words .exit)
+        ≡ wordsAfter (now (table .entry)) (now (journal .entry)) (now (words .entry)) [] (now (head .entry))
+        (now (tally .entry)) (forward slot state)) ⌝ }
+{
+    serve_words(
+        table,
+        journal,
+        head,
+        tally,
+        words,
+        Call::Read(Read::Forward(Reader { slot }, state)),
+    )
+}
+
+// Closes a slot (document 01: drop).
+#[no_mangle]
+pub extern "C" fn cechnuol_release(
+    table: &mut [u64],
+    journal: &mut [u64],
+    head: &mut [u64; HEAD_WORDS],
+    tally: &mut [u64; TALLY_WORDS],
+    slot: usize,
+) -> u64
+    ensures { λ r. ⌜ Serves (now (table .entry)) (now (journal .entry)) [] [] (now (head .entry)) (now (tally .entry))
+        (release slot) r (now (table .exit)) (now (journal .exit)) (now (head .exit)) (now (tally .exit)) ⌝ }
+{
+    serve_store(
+        table,
+        journal,
+        head,
+        tally,
+        Call::Read(Read::Release(Reader { slot })),
+    )
+}

@@ -1,0 +1,72 @@
+//! The baseline on lent words as something that is measured.
+
+use crate::baseline::{self, LentWords};
+use crate::scene::{Scene, Variant};
+use crate::subject::{code, price_code, Subject};
+
+impl Subject for LentWords {
+    fn of(scene: &Scene) -> LentWords {
+        let Variant { journal, words, .. } = scene.variant(0);
+        LentWords { table: scene.table.clone(), journal: journal.clone(), head: *words, tally: [0; 3] }
+    }
+
+    fn table(&mut self) -> &mut [u64] {
+        &mut self.table
+    }
+
+    fn journal(&mut self) -> &mut [u64] {
+        &mut self.journal
+    }
+
+    fn set_head(&mut self, variant: &Variant) {
+        self.head = variant.words;
+    }
+
+    fn clear(&mut self) -> u64 {
+        code(self.any(|store| store.clear()))
+    }
+
+    fn load(&mut self, bytes: &[u8]) -> u64 {
+        code(self.any(|store| store.load(bytes)))
+    }
+
+    fn write_image(&mut self, bytes: &mut [u8]) -> u64 {
+        code(self.query(|store| store.write_image(bytes)))
+    }
+
+    fn restart(&mut self, bytes: &mut [u8]) -> u64 {
+        code(self.call(|store| store.restart(bytes)))
+    }
+
+    fn commit(&mut self, list: &[u64]) -> u64 {
+        code(self.call(|store| store.commit(list)))
+    }
+
+    fn roll_back(&mut self, state: u32) -> u64 {
+        code(self.call(|store| store.roll_back(state)))
+    }
+
+    fn flush(&mut self, state: u32) -> u64 {
+        code(self.call(|store| store.flush(state)))
+    }
+
+    fn look_up(&mut self, offer: u32, state: u32) -> u64 {
+        price_code(self.query(|store| store.look_up(offer, state)))
+    }
+
+    fn issue(&mut self, slot: usize, list: &mut [u64]) -> u64 {
+        code(self.call(|store| store.issue(slot, list)))
+    }
+
+    fn forward(&mut self, slot: usize, state: u32, reads: &mut [u64]) -> u64 {
+        code(self.call(|store| store.forward(slot, state, reads)))
+    }
+
+    fn release(&mut self, slot: usize) -> u64 {
+        code(self.call(|store| store.release(slot)))
+    }
+
+    fn price_batch(reads: &[u64], orders: &[u64], out: &mut [u64]) -> u64 {
+        code(baseline::price_batch(reads, orders, out))
+    }
+}

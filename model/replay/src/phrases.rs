@@ -1,0 +1,56 @@
+//! Entry words and orders as people write them.
+
+use model::batch::order_offer;
+use model::word::{is_entry, kind, offer, price};
+
+/// An entry word: an offer's price, or that it has none.
+pub fn entry(word: u64) -> String {
+    match kind(word) {
+        1 => format!("offer {} price {}", offer(word), price(word)),
+        _ if is_entry(word) => format!("offer {} none", offer(word)),
+        _ => format!("no entry {word:016X}"),
+    }
+}
+
+/// A word of an issue's list, which asks for an offer's price.
+pub fn question(word: u64) -> String {
+    if kind(word) == 0 && is_entry(word) {
+        format!("offer {}", offer(word))
+    } else {
+        entry(word)
+    }
+}
+
+/// An order word, most significant bit first: kind 8 bits, amount 25 bits, offer 31 bits.
+pub fn order(word: u64) -> String {
+    let (kind, amount, offer) = (word >> 56, word >> 31 & 0x01FF_FFFF, order_offer(word));
+    match (kind, amount) {
+        (0, _) => format!("list offer {offer} at {amount}"),
+        (1, 0) => format!("withdraw offer {offer}"),
+        (2, _) => format!("raise offer {offer} by {amount}"),
+        (3, _) => format!("cut offer {offer} by {amount}"),
+        (16..=31, 0) => format!("keep {}/16 of offer {offer}", kind - 15),
+        (16..=31, _) => format!("keep {}/16 of offer {offer} but at least {amount}", kind - 15),
+        _ => format!("no order {word:016X}"),
+    }
+}
+
+/// Words one after another.
+pub fn words(words: &[u64], phrase: fn(u64) -> String) -> String {
+    listed(words.iter().map(|&word| phrase(word)), ", ")
+}
+
+/// Phrases one after another, or that there are none.
+pub fn listed(phrases: impl Iterator<Item = String>, between: &str) -> String {
+    let phrases: Vec<String> = phrases.collect();
+    if phrases.is_empty() {
+        "nothing".to_string()
+    } else {
+        phrases.join(between)
+    }
+}
+
+/// A number of things.
+pub fn count(number: u64, thing: &str) -> String {
+    format!("{number} {thing}{}", if number == 1 { "" } else { "s" })
+}

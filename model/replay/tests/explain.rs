@@ -1,0 +1,131 @@
+//! What replay prints with `--explain`, worked out by hand from docs/REPLAY.md.
+
+mod program;
+
+use program::ran;
+use std::collections::BTreeSet;
+
+/// Holds what a script prints to the texts that stand after `-> ` in its comments, one for each line that prints one.
+fn explains(script: &str) {
+    let mut expected = String::new();
+    for (index, line) in script.lines().enumerate() {
+        let (_, text) = line.split_once("# -> ").expect("each line says what it prints");
+        expected += &format!("line {}: {text}\n", index + 1);
+    }
+    let (_, printed, error) = ran(&["--explain"], script.as_bytes());
+    assert_eq!((printed, error), (expected, String::new()));
+}
+
+#[test]
+fn calls_and_answers() {
+    explains(
+        "lend table 2 # -> lend table 2
+lend journal 5 # -> lend journal 5
+clear # -> clear: ok
+commit 80000005000004B0 0000000900000000 # -> commit offer 5 price 1200, offer 9 none: ok
+look_up 5 1 # -> look up offer 5 at state 1: price 1200
+look_up 9 1 # -> look up offer 9 at state 1: none
+look_up 5 2 # -> look up offer 5 at state 2: refused 11 STATE_RANGE: the state is below the checkpoint or above the tip
+flush 1 # -> flush to state 1: ok
+issue 3 0000000500000000 0000000900000000 # -> issue slot 3 for offer 5, offer 9: ok: offer 5 price 1200, offer 9 none
+issue 3 0000000500000000 # -> issue slot 3 for offer 5: refused 4 SLOT_TAKEN: the slot named for an issue is open
+issue 4 # -> issue slot 4 for nothing: ok: nothing
+commit # -> commit nothing: ok
+commit 80000009000002BC # -> commit offer 9 price 700: ok
+forward 3 3 # -> forward slot 3 to state 3: ok: offer 5 price 1200, offer 9 price 700
+forward 4 2 with 0000000700000000 # -> forward slot 4 to state 2 with offer 7 none: ok: offer 7 none
+release 4 # -> release slot 4: refused 5 SLOT_CLOSED: the slot named for a forward or release is closed
+roll_back 2 # -> roll back to state 2: ok
+lend bytes 14 # -> lend bytes 14
+write_image # -> write the image: ok, 14 bytes
+load # -> load an image of 14 bytes: ok
+restart # -> restart: ok
+",
+    );
+}
+
+#[test]
+fn orders() {
+    explains(
+        "price_batch 80000005000004B0 / 0200003200000005 / 0000000000000000 # -> \
+price orders (raise offer 5 by 100) on (offer 5 price 1200) into 1 word: ok: offer 5 price 1300
+price_batch 80000005000004B0 / 0300025800000005 0100000000000005 / 0000000000000001 0000000000000002 # -> \
+price orders (cut offer 5 by 1200, withdraw offer 5) on (offer 5 price 1200) into 2 words: ok: offer 5 none
+price_batch 80000001000003E9 / 1B00000000000001 1B00019000000001 / 0000000000000000 # -> \
+price orders (keep 12/16 of offer 1, keep 12/16 of offer 1 but at least 800) on (offer 1 price 1001) into 1 word: \
+ok: offer 1 price 800
+price_batch / 00FFFFFFFFFFFFFF / # -> \
+price orders (list offer 2147483647 at 33554431) on (nothing) into 0 words: \
+refused 8 OFFER_NOT_READ: the offer of an order is not in the read set
+price_batch / 0100000080000000 FF00000000000000 0400000000000005 / # -> \
+price orders (no order 0100000080000000, no order FF00000000000000, no order 0400000000000005) on (nothing) into 0 words: \
+refused 7 BAD_ORDER: the kind of an order is unknown, or a withdrawal has an amount
+price_batch / / # -> price orders (nothing) on (nothing) into 0 words: ok: nothing
+",
+    );
+}
+
+#[test]
+fn what_is_shown() {
+    explains(
+        "lend table 3 # -> lend table 3
+lend journal 3 # -> lend journal 3
+clear # -> clear: ok
+show head # -> head: 0 words of the table used; oldest 0, checkpoint 0, tip 0; no step held; all slots closed
+commit 80000005000004B0 # -> commit offer 5 price 1200: ok
+flush 1 # -> flush to state 1: ok
+issue 2 # -> issue slot 2 for nothing: ok: nothing
+commit 0000000000000000 # -> commit offer 0 none: ok
+commit # -> commit nothing: ok
+show head # -> head: 1 word of the table used; oldest 1, checkpoint 1, tip 3; 2 steps held, marks 1, 1; slot 2 open since state 1
+show tally # -> tally: 3 steps committed, 0 rolled back, 1 flushed
+show table 0 3 # -> table from 0: offer 5 price 1200, unused, unused
+show journal 0 2 # -> journal from 0: offer 0 none, unused
+show journal 3 0 # -> journal from 3: nothing
+show table 2 2 # -> no call: past the end of the table, whose length is 3
+show bytes # -> bytes: 0 bytes, CRC-32 00000000
+lend bytes 3 # -> lend bytes 3
+poke bytes 1 0a fF # -> poke bytes 1 0A FF
+show bytes 0 3 # -> bytes from 0: 00 0A FF
+poke table 1 0000000000000007 8000000000000000 # -> poke table 1: no entry 0000000000000007, offer 0 price 0
+head tip 0 # -> head tip 0
+head ends 2 9 # -> head ends 2 9
+head held 2 0 # -> head held 2 0
+show head # -> head: 1 word of the table used; oldest 1, checkpoint 1, tip 0; 0 steps held, marks 1, 1, 9; slot 2 closed with number 1
+look_up 5 1 # -> look up offer 5 at state 1: refused 2 UNSOUND: the store is not sound
+",
+    );
+}
+
+#[test]
+fn files() {
+    explains(
+        "lend table 1 # -> lend table 1
+lend journal 1 # -> lend journal 1
+load_file ../../tests/listing/paper.in # -> load the file '../../tests/listing/paper.in', 14 bytes: ok
+look_up 5 7 # -> look up offer 5 at state 7: price 1200
+load_file tests # -> no call: 'tests' is a directory
+load_file ../../tests/listing/no_input.in # -> \
+load the file '../../tests/listing/no_input.in', 0 bytes: refused 15 BAD_IMAGE: \
+the length, the order of offers or a kind bit of the image is wrong
+",
+    );
+}
+
+/// Each refusal has the name that the C header gives its number.
+#[test]
+fn refusals_have_the_names_of_the_header() {
+    let header = include_str!("../../../include/cechnuol.h");
+    let words: Vec<&str> = header.split_whitespace().collect();
+    let (_, printed, _) = ran(&["--explain", "../scripts/refusals.script"], b"");
+    let mut met = BTreeSet::new();
+    for (_, refusal) in printed.lines().filter_map(|line| line.split_once(": refused ")) {
+        let (number, rest) = refusal.split_once(' ').expect("a name follows the number");
+        let (name, sentence) = rest.split_once(": ").expect("a sentence follows the name");
+        let declared = [format!("CECHNUOL_{name}"), "=".to_string(), format!("{number},")];
+        assert!(words.windows(3).any(|words| *words == declared), "{refusal}");
+        assert!(!sentence.is_empty(), "{refusal}");
+        met.insert(number.parse::<u64>().expect("a number"));
+    }
+    assert_eq!(met, (1..=17).collect());
+}

@@ -1,0 +1,280 @@
+/* What the header advises where a call is refused, carried out. Each test shows first that the call is refused, and for
+ * how long what suggests itself does not help; then the advice, and that the call is accepted. */
+#include "hold.h"
+
+static uint64_t table[4], journal[128], longer[8];
+static uint8_t image[CECHNUOL_IMAGE_BYTES_OF(8)];
+static struct cechnuol_store store = {table, 4, journal, 128, {0}, {0}};
+
+static uint64_t commit_put(uint32_t offer, uint32_t price)
+{
+    const uint64_t word = cechnuol_put(offer, price);
+    return cechnuol_store_commit(&store, &word, 1);
+}
+
+static void hold_price(const struct cechnuol_store *of, uint32_t offer, uint32_t price)
+{
+    uint64_t quoted = 0;
+    ANSWERS(cechnuol_store_look_up(of, offer, cechnuol_store_tip(of), &quoted), OK);
+    IS(quoted, price);
+}
+
+/* An empty store, with so many steps above the checkpoint, each of which puts offer 1. */
+static void begin(size_t table_words, size_t journal_words, uint32_t steps)
+{
+    store.table_words = table_words;
+    store.journal_words = journal_words;
+    ANSWERS(cechnuol_store_clear(&store), OK);
+    while (steps-- > 0)
+        ANSWERS(commit_put(1, steps), OK);
+}
+
+/* 64 steps and no slot open: one flush helps, to the tip or below it. */
+static void steps_full_and_no_slot(void)
+{
+    begin(4, 128, 64);
+    ANSWERS(commit_put(2, 1), STEPS_FULL);
+    IS(cechnuol_oldest_slot(store.head), CECHNUOL_SLOTS);
+    ANSWERS(cechnuol_store_flush(&store, 1), OK);
+    ANSWERS(commit_put(2, 1), OK);
+    ANSWERS(commit_put(2, 2), STEPS_FULL);
+    ANSWERS(cechnuol_store_flush(&store, cechnuol_store_tip(&store)), OK);
+    ANSWERS(commit_put(2, 2), OK);
+}
+
+/* Slots 6 and 2 are open since state 0, slot 4 since state 1: to flush and try again does not end. Closing the oldest
+ * one by one does; a forward then serves as well as a release. */
+static void steps_full_and_slots(void)
+{
+    uint64_t asked[3] = {cechnuol_ask(1), cechnuol_ask(1), cechnuol_ask(1)};
+    int i;
+    begin(4, 128, 1);
+    ANSWERS(cechnuol_store_issue(&store, 6, asked, 1), OK);
+    ANSWERS(cechnuol_store_issue(&store, 2, asked + 1, 1), OK);
+    ANSWERS(cechnuol_store_flush(&store, 1), OK);
+    ANSWERS(cechnuol_store_issue(&store, 4, asked + 2, 1), OK);
+    for (i = 1; i < 64; i++)
+        ANSWERS(commit_put(1, 5), OK);
+    for (i = 0; i < 100; i++) {
+        ANSWERS(commit_put(1, 6), STEPS_FULL);
+        ANSWERS(cechnuol_store_flush(&store, cechnuol_store_tip(&store)), OK);
+    }
+    IS(cechnuol_oldest_slot(store.head), 2);
+    ANSWERS(cechnuol_store_release(&store, 4), OK);
+    ANSWERS(commit_put(1, 6), STEPS_FULL);
+    ANSWERS(cechnuol_store_release(&store, 2), OK);
+    ANSWERS(commit_put(1, 6), STEPS_FULL);
+    IS(cechnuol_oldest_slot(store.head), 6);
+    ANSWERS(cechnuol_store_forward(&store, 6, 64, asked, 1), OK);
+    IS(asked[0], cechnuol_put(1, 5));
+    ANSWERS(commit_put(1, 6), OK);
+    IS(cechnuol_oldest_slot(store.head), CECHNUOL_SLOTS);
+}
+
+/* The same for the words of the journal. */
+static void journal_full(void)
+{
+    uint64_t asked = cechnuol_ask(1);
+    int i;
+    begin(4, 8, 8);
+    ANSWERS(commit_put(1, 9), JOURNAL_FULL);
+    ANSWERS(cechnuol_store_flush(&store, 8), OK);
+    ANSWERS(cechnuol_store_issue(&store, 0, &asked, 1), OK);
+    for (i = 0; i < 8; i++)
+        ANSWERS(commit_put(1, 9), OK);
+    for (i = 0; i < 100; i++) {
+        ANSWERS(commit_put(1, 10), JOURNAL_FULL);
+        ANSWERS(cechnuol_store_flush(&store, cechnuol_store_tip(&store)), OK);
+    }
+    ANSWERS(cechnuol_store_release(&store, cechnuol_oldest_slot(store.head)), OK);
+    ANSWERS(commit_put(1, 10), OK);
+}
+
+/* Nothing is held, and still the list does not fit: in parts it does, and in a store with a longer journal. */
+static void list_longer_than_journal(void)
+{
+    struct cechnuol_store other = {longer, 8, journal + 64, 3, {0}, {0}};
+    uint64_t words[3], count = 0;
+    put_offers(words, 3, 1, 100);
+    begin(4, 2, 1);
+    ANSWERS(cechnuol_store_flush(&store, 1), OK);
+    IS(cechnuol_store_oldest(&store), cechnuol_store_tip(&store));
+    ANSWERS(cechnuol_store_commit(&store, words, 3), JOURNAL_FULL);
+    ANSWERS(cechnuol_store_write_image(&store, image, sizeof image, &count), OK);
+    ANSWERS(cechnuol_store_load(&other, image, count), OK);
+    ANSWERS(cechnuol_store_commit(&other, words, 3), OK);
+    hold_price(&other, 3, 100);
+    ANSWERS(cechnuol_store_commit(&store, words, 2), OK);
+    ANSWERS(cechnuol_store_flush(&store, 2), OK);
+    ANSWERS(cechnuol_store_commit(&store, words + 2, 1), OK);
+    hold_price(&store, 1, 100);
+    hold_price(&store, 3, 100);
+}
+
+/* Neither words nor a flush: the tip has more prices than the table. Closing the slot whose number is below the
+ * checkpoint frees words all the same. */
+static void journal_full_and_table_full(void)
+{
+    const uint64_t removal = cechnuol_remove(6);
+    begin(1, 3, 0);
+    ANSWERS(cechnuol_store_issue(&store, 0, NULL, 0), OK);
+    ANSWERS(commit_put(5, 1), OK);
+    ANSWERS(cechnuol_store_flush(&store, 1), OK);
+    ANSWERS(commit_put(6, 1), OK);
+    ANSWERS(commit_put(7, 1), OK);
+    ANSWERS(cechnuol_store_commit(&store, &removal, 1), JOURNAL_FULL);
+    ANSWERS(cechnuol_store_flush(&store, 3), TABLE_FULL);
+    ANSWERS(cechnuol_store_release(&store, cechnuol_oldest_slot(store.head)), OK);
+    ANSWERS(cechnuol_store_commit(&store, &removal, 1), OK);
+}
+
+/* What the header warns of: a slot that was given up and issued again brings the first reader's words forward from what
+ * they say. */
+static void another_read_set(void)
+{
+    uint64_t first[1] = {cechnuol_ask(5)}, second[1] = {cechnuol_ask(5)};
+    begin(4, 128, 0);
+    ANSWERS(cechnuol_store_issue(&store, 0, first, 1), OK);
+    ANSWERS(commit_put(5, 1200), OK);
+    ANSWERS(cechnuol_store_flush(&store, 1), OK);
+    ANSWERS(cechnuol_store_release(&store, 0), OK);
+    ANSWERS(cechnuol_store_issue(&store, 0, second, 1), OK);
+    ANSWERS(cechnuol_store_forward(&store, 0, 1, first, 1), OK);
+    IS(first[0], cechnuol_remove(5));
+    IS(second[0], cechnuol_put(5, 1200));
+}
+
+/* A table of one word, offer 1 at the checkpoint, offer 2 besides at state 1. */
+static void begin_with_table_full(void)
+{
+    begin(1, 8, 0);
+    ANSWERS(commit_put(1, 10), OK);
+    ANSWERS(cechnuol_store_flush(&store, 1), OK);
+    ANSWERS(commit_put(1, 11), OK);
+    ANSWERS(commit_put(2, 20), OK);
+    ANSWERS(cechnuol_store_flush(&store, 3), TABLE_FULL);
+}
+
+/* A flush to a lower state, one to a newer state after a removal, and a rollback where a removal has no room. */
+static void table_full_at_a_flush(void)
+{
+    const uint64_t cut = cechnuol_remove(1);
+    begin_with_table_full();
+    ANSWERS(cechnuol_store_flush(&store, 2), OK);
+    ANSWERS(cechnuol_store_flush(&store, 3), TABLE_FULL);
+    ANSWERS(cechnuol_store_commit(&store, &cut, 1), OK);
+    ANSWERS(cechnuol_store_flush(&store, 3), TABLE_FULL);
+    ANSWERS(cechnuol_store_flush(&store, 4), OK);
+    hold_price(&store, 2, 20);
+    begin(1, 2, 0);
+    ANSWERS(commit_put(1, 10), OK);
+    ANSWERS(commit_put(2, 20), OK);
+    ANSWERS(cechnuol_store_flush(&store, 2), TABLE_FULL);
+    ANSWERS(cechnuol_store_commit(&store, &cut, 1), JOURNAL_FULL);
+    ANSWERS(cechnuol_store_roll_back(&store, 1), OK);
+    ANSWERS(cechnuol_store_commit(&store, &cut, 1), OK);
+    ANSWERS(cechnuol_store_flush(&store, 2), OK);
+}
+
+/* To a longer table by an image; what was committed above the checkpoint is committed again. */
+static void longer_table(void)
+{
+    struct cechnuol_store other = {longer, 2, journal + 64, 8, {0}, {0}};
+    struct cechnuol_store shorter = {longer, 1, journal + 64, 8, {0}, {0}};
+    const uint64_t again[2] = {cechnuol_put(1, 11), cechnuol_put(2, 20)};
+    uint64_t count = 0;
+    begin_with_table_full();
+    ANSWERS(cechnuol_store_write_image(&store, image, sizeof image, &count), OK);
+    ANSWERS(cechnuol_store_load(&other, image, count), OK);
+    hold_price(&other, 1, 10);
+    ANSWERS(cechnuol_store_look_up(&other, 2, cechnuol_store_tip(&other), &count), NO_PRICE);
+    ANSWERS(cechnuol_store_commit(&other, again, 1), OK);
+    ANSWERS(cechnuol_store_commit(&other, again + 1, 1), OK);
+    ANSWERS(cechnuol_store_flush(&other, 3), OK);
+    hold_price(&other, 1, 11);
+    hold_price(&other, 2, 20);
+    /* a load into a table that is too short: the fifth and sixth byte say how long it must be */
+    ANSWERS(cechnuol_store_write_image(&other, image, sizeof image, &count), OK);
+    ANSWERS(cechnuol_store_load(&shorter, image, count), TABLE_FULL);
+    IS((uint64_t)image[4] << 8 | image[5], 2);
+    shorter.table_words = 2;
+    ANSWERS(cechnuol_store_load(&shorter, image, count), OK);
+}
+
+/* An image and a restart have the checkpoint: what is above it is lost, unless it is flushed before. */
+static void images_hold_the_checkpoint(void)
+{
+    struct cechnuol_store other = {longer, 4, journal + 64, 8, {0}, {0}};
+    uint64_t asked = cechnuol_ask(1), count = 0;
+    begin(4, 8, 0);
+    ANSWERS(commit_put(1, 10), OK);
+    ANSWERS(cechnuol_store_issue(&store, 3, &asked, 1), OK);
+    ANSWERS(cechnuol_store_write_image(&store, image, sizeof image, &count), OK);
+    IS(count, 6);
+    ANSWERS(cechnuol_store_flush(&store, 1), OK);
+    IS(cechnuol_store_image_bytes(&store), 14);
+    ANSWERS(cechnuol_store_write_image(&store, image, cechnuol_store_image_bytes(&store), &count), OK);
+    ANSWERS(cechnuol_store_load(&other, image, count), OK);
+    hold_price(&other, 1, 10);
+    ANSWERS(commit_put(1, 11), OK);
+    ANSWERS(cechnuol_store_restart(&store, image, sizeof image), OK);
+    IS(cechnuol_store_tip(&store), 1);
+    IS(cechnuol_store_is_open(&store, 3) != 0, 0);
+    hold_price(&store, 1, 10);
+    ANSWERS(cechnuol_store_forward(&store, 3, 1, &asked, 1), SLOT_CLOSED);
+    ANSWERS(commit_put(1, 11), OK);
+    ANSWERS(cechnuol_store_flush(&store, 2), OK);
+    ANSWERS(cechnuol_store_restart(&store, image, sizeof image), OK);
+    hold_price(&store, 1, 11);
+}
+
+/* At the last state number: the image with number 0 has the same prices. */
+static void last_state(void)
+{
+    const uint8_t last_but_one[6] = {0xFF, 0xFF, 0xFF, 0xFE, 0, 0};
+    uint64_t count = 0;
+    begin(4, 8, 0);
+    ANSWERS(cechnuol_store_load(&store, last_but_one, 6), OK);
+    ANSWERS(commit_put(1, 10), OK);
+    ANSWERS(commit_put(1, 11), LAST_STATE);
+    ANSWERS(cechnuol_store_flush(&store, cechnuol_store_tip(&store)), OK);
+    ANSWERS(cechnuol_store_write_image(&store, image, sizeof image, &count), OK);
+    memset(image, 0, 4);
+    ANSWERS(cechnuol_store_load(&store, image, count), OK);
+    IS(cechnuol_store_tip(&store), 0);
+    hold_price(&store, 1, 10);
+    ANSWERS(commit_put(1, 11), OK);
+}
+
+/* Output of the lengths that the header names is enough, and a word or byte less is not. */
+static void output_short(void)
+{
+    const uint64_t reads[2] = {cechnuol_put(1, 10), cechnuol_put(2, 20)};
+    const uint64_t orders[3] = {cechnuol_order(CECHNUOL_RAISE, 1, 1), cechnuol_order(CECHNUOL_RAISE, 1, 2),
+                                cechnuol_order(CECHNUOL_RAISE, 1, 1)};
+    uint64_t out[2], count = 0;
+    ANSWERS(cechnuol_price_batch(reads, 2, orders, 3, out, 1, &count), OUTPUT_SHORT);
+    ANSWERS(cechnuol_price_batch(reads, 2, orders, 3, out, 2, &count), OK);
+    ANSWERS(cechnuol_price_batch(reads, 2, orders, 1, out, 0, &count), OUTPUT_SHORT);
+    ANSWERS(cechnuol_price_batch(reads, 2, orders, 1, out, 1, &count), OK);
+    begin(4, 8, 1);
+    ANSWERS(cechnuol_store_flush(&store, 1), OK);
+    ANSWERS(cechnuol_store_write_image(&store, image, cechnuol_store_image_bytes(&store) - 1, &count), OUTPUT_SHORT);
+    ANSWERS(cechnuol_store_write_image(&store, image, cechnuol_store_image_bytes(&store), &count), OK);
+}
+
+int main(void)
+{
+    steps_full_and_no_slot();
+    steps_full_and_slots();
+    journal_full();
+    list_longer_than_journal();
+    journal_full_and_table_full();
+    another_read_set();
+    table_full_at_a_flush();
+    longer_table();
+    images_hold_the_checkpoint();
+    last_state();
+    output_short();
+    return differences != 0;
+}

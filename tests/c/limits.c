@@ -1,0 +1,165 @@
+/* Every limit of the header against the library: what is as long as the limit is taken, and one more is refused. */
+#include "hold.h"
+
+enum { GUARD = 0x5A };
+
+/* Each memory with a word, or byte, more than its limit. */
+static uint64_t table[CECHNUOL_TABLE_WORDS + 1], journal[CECHNUOL_JOURNAL_WORDS + 1];
+static uint64_t words[CECHNUOL_LIST_WORDS + 1], orders[CECHNUOL_BATCH_ORDERS + 1], out[CECHNUOL_LIST_WORDS + 1];
+static uint8_t image[CECHNUOL_IMAGE_BYTES + 8], copy[CECHNUOL_IMAGE_BYTES + 8];
+static struct cechnuol_store store = {table, CECHNUOL_TABLE_WORDS, journal, CECHNUOL_JOURNAL_WORDS, {0}, {0}};
+
+/* A store whose table or journal is as long as given. */
+static struct cechnuol_store of(size_t table_words, size_t journal_words)
+{
+    struct cechnuol_store other = store;
+    other.table_words = table_words;
+    other.journal_words = journal_words;
+    return other;
+}
+
+static void lengths(void)
+{
+    struct cechnuol_store none = of(0, 1), no_journal = of(1, 0), least = of(1, 1);
+    struct cechnuol_store long_table = of(CECHNUOL_TABLE_WORDS + 1, 1);
+    struct cechnuol_store long_journal = of(1, CECHNUOL_JOURNAL_WORDS + 1);
+    table[CECHNUOL_TABLE_WORDS] = journal[CECHNUOL_JOURNAL_WORDS] = GUARD;
+    table[CECHNUOL_TABLE_WORDS - 1] = journal[CECHNUOL_JOURNAL_WORDS - 1] = 7;
+    ANSWERS(cechnuol_store_clear(&none), LENGTHS);
+    ANSWERS(cechnuol_store_clear(&no_journal), LENGTHS);
+    ANSWERS(cechnuol_store_clear(&long_table), LENGTHS);
+    ANSWERS(cechnuol_store_clear(&long_journal), LENGTHS);
+    ANSWERS(cechnuol_store_clear(&least), OK);
+    IS(table[CECHNUOL_TABLE_WORDS - 1] + journal[CECHNUOL_JOURNAL_WORDS - 1], 14);
+    ANSWERS(cechnuol_store_clear(&store), OK);
+    IS(table[CECHNUOL_TABLE_WORDS - 1] + journal[CECHNUOL_JOURNAL_WORDS - 1], 0);
+    IS(table[CECHNUOL_TABLE_WORDS], GUARD);
+    IS(journal[CECHNUOL_JOURNAL_WORDS], GUARD);
+}
+
+/* An image of so many offers, all at price 1; its length. */
+static size_t image_of(size_t offers)
+{
+    size_t i, j;
+    memset(image, 0, sizeof image);
+    image[4] = offers >> 8 & 0xFF;
+    image[5] = offers & 0xFF;
+    for (i = 0; i < offers; i++)
+        for (j = 0; j < 8; j++)
+            image[6 + 8 * i + j] = cechnuol_put(cechnuol_low_bits(i), 1) >> (56 - 8 * j) & 0xFF;
+    return CECHNUOL_IMAGE_BYTES_OF(offers);
+}
+
+static void images(void)
+{
+    uint64_t count = 7;
+    IS(image_of(CECHNUOL_TABLE_WORDS + 1), CECHNUOL_IMAGE_BYTES + 8);
+    ANSWERS(cechnuol_store_load(&store, image, CECHNUOL_IMAGE_BYTES + 8), TABLE_FULL);
+    IS(image_of(CECHNUOL_TABLE_WORDS), CECHNUOL_IMAGE_BYTES);
+    ANSWERS(cechnuol_store_load(&store, image, CECHNUOL_IMAGE_BYTES + 1), BAD_IMAGE);
+    ANSWERS(cechnuol_store_load(&store, image, CECHNUOL_IMAGE_BYTES - 1), BAD_IMAGE);
+    ANSWERS(cechnuol_store_load(&store, image, CECHNUOL_IMAGE_BYTES), OK);
+    IS(store.head[CECHNUOL_USED], CECHNUOL_TABLE_WORDS);
+    IS(cechnuol_store_image_bytes(&store), CECHNUOL_IMAGE_BYTES);
+    memset(copy, GUARD, sizeof copy);
+    ANSWERS(cechnuol_store_write_image(&store, copy, CECHNUOL_IMAGE_BYTES - 1, &count), OUTPUT_SHORT);
+    ANSWERS(cechnuol_store_write_image(&store, copy, sizeof copy, &count), OK);
+    IS(count, CECHNUOL_IMAGE_BYTES);
+    IS(memcmp(copy, image, CECHNUOL_IMAGE_BYTES) == 0, 1);
+    IS(copy[CECHNUOL_IMAGE_BYTES], GUARD);
+    ANSWERS(cechnuol_store_load(&store, image, image_of(0)), OK);
+    IS(image_of(0), 6);
+}
+
+static void lists(void)
+{
+    size_t i;
+    ANSWERS(cechnuol_store_clear(&store), OK);
+    put_offers(words, CECHNUOL_LIST_WORDS + 1, 0, 1);
+    ANSWERS(cechnuol_store_commit(&store, words, CECHNUOL_LIST_WORDS), OK);
+    ANSWERS(cechnuol_store_commit(&store, words, CECHNUOL_LIST_WORDS + 1), BAD_LIST);
+    for (i = 0; i <= CECHNUOL_LIST_WORDS; i++)
+        out[i] = cechnuol_ask(cechnuol_low_bits(i));
+    ANSWERS(cechnuol_store_issue(&store, 0, out, CECHNUOL_LIST_WORDS + 1), BAD_LIST);
+    ANSWERS(cechnuol_store_issue(&store, 0, out, CECHNUOL_LIST_WORDS), OK);
+    ANSWERS(cechnuol_store_forward(&store, 0, 1, out, CECHNUOL_LIST_WORDS + 1), BAD_LIST);
+    ANSWERS(cechnuol_store_forward(&store, 0, 1, out, CECHNUOL_LIST_WORDS), OK);
+    IS(memcmp(out, words, sizeof *out * CECHNUOL_LIST_WORDS) == 0, 1);
+}
+
+/* So many orders on different offers of the read set, the first of them twice where there are more. */
+static void batches(void)
+{
+    uint64_t count = 7;
+    size_t i;
+    put_offers(words, CECHNUOL_LIST_WORDS + 1, 0, 1);
+    for (i = 0; i <= CECHNUOL_BATCH_ORDERS; i++)
+        orders[i] = cechnuol_order(CECHNUOL_RAISE, 1, cechnuol_low_bits(i) % CECHNUOL_LIST_WORDS);
+    memset(out, GUARD, sizeof out);
+    ANSWERS(cechnuol_price_batch(words, CECHNUOL_LIST_WORDS + 1, orders, 1, out, 64, &count), BAD_LIST);
+    ANSWERS(cechnuol_price_batch(words, 64, orders, CECHNUOL_BATCH_ORDERS + 1, out, 64, &count), BAD_LIST);
+    ANSWERS(cechnuol_price_batch(words, 64, orders, CECHNUOL_BATCH_ORDERS, out, 63, &count), OUTPUT_SHORT);
+    IS(count, 7);
+    ANSWERS(cechnuol_price_batch(words, CECHNUOL_LIST_WORDS, orders, CECHNUOL_BATCH_ORDERS, out, 65, &count), OK);
+    IS(count, CECHNUOL_BATCH_ORDERS);
+    IS(out[CECHNUOL_BATCH_ORDERS - 1], cechnuol_put(CECHNUOL_BATCH_ORDERS - 1, 2));
+    IS(out[CECHNUOL_BATCH_ORDERS], UINT64_C(0x5A5A5A5A5A5A5A5A));
+}
+
+static void slots(void)
+{
+    ANSWERS(cechnuol_store_clear(&store), OK);
+    ANSWERS(cechnuol_store_issue(&store, CECHNUOL_SLOTS, NULL, 0), SLOT_RANGE);
+    ANSWERS(cechnuol_store_issue(&store, SIZE_MAX, NULL, 0), SLOT_RANGE);
+    ANSWERS(cechnuol_store_issue(&store, CECHNUOL_SLOTS - 1, NULL, 0), OK);
+    IS(store.head[CECHNUOL_TAKEN + CECHNUOL_SLOTS - 1], 1);
+    ANSWERS(cechnuol_store_forward(&store, CECHNUOL_SLOTS, 0, NULL, 0), SLOT_RANGE);
+    ANSWERS(cechnuol_store_release(&store, CECHNUOL_SLOTS), SLOT_RANGE);
+    ANSWERS(cechnuol_store_release(&store, CECHNUOL_SLOTS - 1), OK);
+}
+
+/* Full lists until the steps are full, which fills the longest journal too; one a word shorter is full before. */
+static void steps(void)
+{
+    struct cechnuol_store shorter = of(1, CECHNUOL_JOURNAL_WORDS - 1);
+    size_t i;
+    put_offers(words, CECHNUOL_LIST_WORDS, 0, 1);
+    ANSWERS(cechnuol_store_clear(&store), OK);
+    for (i = 0; i < CECHNUOL_STEPS; i++)
+        ANSWERS(cechnuol_store_commit(&store, words, CECHNUOL_LIST_WORDS), OK);
+    IS(store.head[CECHNUOL_ENDS + CECHNUOL_STEPS - 1], CECHNUOL_JOURNAL_WORDS);
+    ANSWERS(cechnuol_store_commit(&store, NULL, 0), STEPS_FULL);
+    IS(journal[CECHNUOL_JOURNAL_WORDS], GUARD);
+    ANSWERS(cechnuol_store_clear(&shorter), OK);
+    for (i = 0; i < CECHNUOL_STEPS - 1; i++)
+        ANSWERS(cechnuol_store_commit(&shorter, words, CECHNUOL_LIST_WORDS), OK);
+    ANSWERS(cechnuol_store_commit(&shorter, words, CECHNUOL_LIST_WORDS), JOURNAL_FULL);
+    ANSWERS(cechnuol_store_commit(&shorter, words, CECHNUOL_LIST_WORDS - 1), OK);
+}
+
+/* Head and tally lie between words that no call touches; of their own words clear writes the first and the last. */
+static void head_and_tally(void)
+{
+    static uint64_t head[CECHNUOL_HEAD_WORDS + 2], tally[CECHNUOL_TALLY_WORDS + 2];
+    memset(head, GUARD, sizeof head);
+    memset(tally, GUARD, sizeof tally);
+    ANSWERS(cechnuol_clear(table, 4, journal, 4, head + 1, tally + 1), OK);
+    IS(head[0], UINT64_C(0x5A5A5A5A5A5A5A5A));
+    IS(head[1] + head[CECHNUOL_HEAD_WORDS], 0);
+    IS(head[CECHNUOL_HEAD_WORDS + 1], UINT64_C(0x5A5A5A5A5A5A5A5A));
+    IS(tally[0], UINT64_C(0x5A5A5A5A5A5A5A5A));
+    IS(tally[1] + tally[CECHNUOL_TALLY_WORDS], 0);
+    IS(tally[CECHNUOL_TALLY_WORDS + 1], UINT64_C(0x5A5A5A5A5A5A5A5A));
+}
+
+int main(void)
+{
+    lengths();
+    images();
+    lists();
+    batches();
+    slots();
+    steps();
+    head_and_tally();
+    return differences != 0;
+}

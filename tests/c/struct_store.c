@@ -1,0 +1,112 @@
+/* The functions over struct cechnuol_store beside the plain ones: the same calls on two stores, one by each, give the
+ * same answers, values and memory. And the readers of the struct beside the words of its head. */
+#include "hold.h"
+
+/* Of different lengths, so that table and journal cannot be taken for each other. */
+enum { TABLE_LENGTH = 4, JOURNAL_LENGTH = 4000 };
+
+static struct {
+    uint64_t table[TABLE_LENGTH], journal[JOURNAL_LENGTH], head[CECHNUOL_HEAD_WORDS], tally[CECHNUOL_TALLY_WORDS];
+    uint64_t words[3], value;
+    uint8_t bytes[64];
+} plain, other;
+static struct cechnuol_store store = {other.table, TABLE_LENGTH, other.journal, JOURNAL_LENGTH, {0}, {0}};
+
+#define TO_READ plain.table, TABLE_LENGTH, plain.journal, JOURNAL_LENGTH, plain.head
+#define STORE TO_READ, plain.tally
+
+static void hold_alike(uint64_t by_plain, uint64_t by_struct, const char *what)
+{
+    memcpy(other.head, store.head, sizeof other.head);
+    memcpy(other.tally, store.tally, sizeof other.tally);
+    hold(by_struct, by_plain, what);
+    hold(memcmp(&plain, &other, sizeof plain) == 0, 1, what);
+    hold(cechnuol_store_oldest(&store), plain.head[1], "oldest");
+    hold(cechnuol_store_checkpoint(&store), plain.head[2], "checkpoint");
+    hold(cechnuol_store_tip(&store), plain.head[3], "tip");
+    hold(cechnuol_store_image_bytes(&store), 6 + 8 * plain.head[0], "bytes of the image");
+}
+
+/* The same words for both. */
+static void give(uint64_t first, uint64_t second, uint64_t third)
+{
+    plain.words[0] = other.words[0] = first;
+    plain.words[1] = other.words[1] = second;
+    plain.words[2] = other.words[2] = third;
+}
+
+#define ALIKE(name, ...) \
+    hold_alike(cechnuol_##name(STORE, __VA_ARGS__), cechnuol_store_##name(&store, __VA_ARGS__), #name " " #__VA_ARGS__)
+
+static void steps(void)
+{
+    hold_alike(cechnuol_clear(STORE), cechnuol_store_clear(&store), "clear");
+    give(cechnuol_put(1, 10), cechnuol_put(2, 20), cechnuol_put(3, 30));
+    ALIKE(commit, other.words, 3);
+    ALIKE(commit, other.words, 2);
+    ALIKE(commit, other.words + 1, 1);
+    ALIKE(roll_back, 2);
+    ALIKE(roll_back, 3);
+    ALIKE(flush, 1);
+    ALIKE(flush, 0);
+}
+
+static void reads(void)
+{
+    give(cechnuol_ask(1), cechnuol_ask(2), cechnuol_ask(7));
+    hold_alike(cechnuol_issue(STORE, 5, plain.words, 3), cechnuol_store_issue(&store, 5, other.words, 3), "issue");
+    IS(cechnuol_store_is_open(&store, 5) != 0, 1);
+    IS(cechnuol_store_is_open(&store, 4) != 0, 0);
+    IS(cechnuol_store_is_open(&store, 8) != 0, 0);
+    IS(cechnuol_store_is_open(&store, SIZE_MAX) != 0, 0);
+    ALIKE(flush, 2);
+    hold_alike(cechnuol_forward(STORE, 5, 2, plain.words, 3), cechnuol_store_forward(&store, 5, 2, other.words, 3),
+               "forward");
+    hold_alike(cechnuol_issue(STORE, 0, NULL, 0), cechnuol_store_issue(&store, 0, NULL, 0), "issue of nothing");
+    ALIKE(release, 0);
+    ALIKE(release, 1);
+    hold_alike(cechnuol_look_up(TO_READ, 2, 2, &plain.value), cechnuol_store_look_up(&store, 2, 2, &other.value),
+               "look_up of a price");
+    hold_alike(cechnuol_look_up(TO_READ, 7, 2, &plain.value), cechnuol_store_look_up(&store, 7, 2, &other.value),
+               "look_up of none");
+}
+
+static void images(void)
+{
+    const uint8_t image[14] = {0, 0, 0, 7, 0, 1, 0x80, 0, 0, 5, 0, 0, 0x04, 0xB0};
+    hold_alike(cechnuol_write_image(TO_READ, plain.bytes, 64, &plain.value),
+               cechnuol_store_write_image(&store, other.bytes, 64, &other.value), "write_image");
+    hold_alike(cechnuol_restart(STORE, plain.bytes, 64), cechnuol_store_restart(&store, other.bytes, 64), "restart");
+    ALIKE(load, image, 14);
+    ALIKE(load, image, 13);
+    hold_alike(cechnuol_write_image(TO_READ, plain.bytes, 13, &plain.value),
+               cechnuol_store_write_image(&store, other.bytes, 13, &other.value), "write_image, short");
+}
+
+/* Heads with slots open as given, and the slot that is the oldest of them. */
+static void oldest_slots(void)
+{
+    uint64_t head[CECHNUOL_HEAD_WORDS] = {0};
+    IS(cechnuol_oldest_slot(head), 8);
+    head[4 + 7] = 1, head[12 + 7] = 4294967295;
+    IS(cechnuol_oldest_slot(head), 7);
+    head[4 + 5] = 1, head[12 + 5] = 9;
+    IS(cechnuol_oldest_slot(head), 5);
+    head[4 + 2] = 1, head[12 + 2] = 9;
+    IS(cechnuol_oldest_slot(head), 2);
+    head[4 + 3] = 1, head[12 + 3] = 0;
+    IS(cechnuol_oldest_slot(head), 3);
+    head[4 + 0] = 1, head[12 + 0] = 1;
+    IS(cechnuol_oldest_slot(head), 3);
+}
+
+int main(void)
+{
+    steps();
+    reads();
+    images();
+    oldest_slots();
+    IS(sizeof store.head / sizeof *store.head, 84);
+    IS(sizeof store.tally / sizeof *store.tally, 3);
+    return differences != 0;
+}
