@@ -8,6 +8,7 @@
 #   make uninstall  takes these three files away again
 #   make dist       writes target/dist/cechnuol-VERSION.tar.gz: what an integrator needs, with checksums and how it was built
 #   make replay     builds model/target/release/replay, which runs a script of calls on the unit (docs/REPLAY.md)
+#   make listing    proves the program that prints an image, and writes target/bin/listing
 #   make check      the quick loop: proves what has changed and runs the tests, without the must-fail edits; no verdict
 #   make test       the whole gate: every proof from nothing, the must-fail edits, the programs and the tests
 #   make bench      measures the unit beside the same work in Rust, LMDB and SQLite, and writes target/bench/BENCHMARKS.md and its plot,
@@ -28,7 +29,7 @@ installed = "$(DESTDIR)$(PREFIX)"
 need = @command -v $(1) >/dev/null || \
 	{ echo "make $@ needs $(2): the command $(1) is not on the PATH (see README.md)." >&2; exit 1; }
 
-.PHONY: help run lib example install uninstall dist replay check test bench
+.PHONY: help run lib example install uninstall dist replay listing check test bench
 
 help:
 	@sed -n '/^#/!q; s/^# \{0,1\}//p' Makefile
@@ -49,6 +50,7 @@ example: $(library)
 	@target/box_office
 
 install: $(library)
+	$(call need,install,the command that copies files (coreutils))
 	@install -d $(installed)/include $(installed)/lib/pkgconfig
 	@install -m 644 include/cechnuol.h $(installed)/include/cechnuol.h
 	@install -m 644 $(library) $(installed)/lib/libcechnuol.a
@@ -67,7 +69,17 @@ dist: $(library)
 
 replay: $(library)
 	$(call need,cargo,Rust)
+	$(call need,cc,a C compiler by which Rust links)
 	@cd model && cargo build --release --offline --quiet -p replay
+	@echo "replay: model/target/release/replay is built"
+
+# rt proves nothing again that is proved already.
+listing: SHELL = bash
+listing:
+	$(call need,rt,the Rattle kit)
+	$(call need,python3,Python)
+	@set -o pipefail; rt check listing 2>&1 | python3 tools/gate_log.py listing
+	@echo "listing: target/bin/listing is proved and built"
 
 check:
 	@.ci/run --quick
@@ -77,4 +89,5 @@ test:
 
 bench: $(library)
 	$(call need,cargo,Rust)
+	$(call need,cc,a C compiler by which Rust links)
 	@cd model && cargo run --release --offline --quiet -p bench --bin benchmarks $(if $(DOCS),../docs,../target/bench)

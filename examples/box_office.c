@@ -3,7 +3,7 @@
  *     cc -std=c99 box_office.c $(pkg-config --cflags --libs cechnuol) -o box_office
  *
  * It says in words what happens, and checks it. Status 0: all is as it says; 1: something is not; 2: the output cannot
- * be written, or the arguments are wrong. */
+ * be written, or the arguments are wrong. Where the reader of a pipe leaves, SIGPIPE ends it. */
 #include <cechnuol.h>
 
 #include <inttypes.h>
@@ -50,19 +50,26 @@ static int is_full(uint64_t answer)
     return answer == CECHNUOL_STEPS_FULL || answer == CECHNUOL_JOURNAL_FULL;
 }
 
-/* Commits changes. Where the store is full it flushes, and then gives up the oldest reads until there is room. A list
- * that is longer than the journal never fits, and nothing is given up for it. */
+/* Makes room in a store that is full: flushes to the tip or, where that is done already or refused, gives up the oldest
+ * read, if it holds steps below the checkpoint. To give up any other would free nothing. */
+static uint64_t make_room(uint64_t full)
+{
+    if (cechnuol_store_checkpoint(&store) < cechnuol_store_tip(&store)) {
+        full = cechnuol_store_flush(&store, cechnuol_store_tip(&store));
+        if (full == CECHNUOL_OK)
+            return full;
+    }
+    if (cechnuol_store_oldest(&store) < cechnuol_store_checkpoint(&store))
+        return cechnuol_store_release(&store, cechnuol_oldest_slot(store.head));
+    return full;
+}
+
+/* Commits changes, and makes room for them as often as it takes. A list longer than the journal never fits. */
 static void commit(const uint64_t *changes, size_t count)
 {
     uint64_t answer = cechnuol_store_commit(&store, changes, count);
     while (is_full(answer) && count <= store.journal_words) {
-        uint32_t tip = cechnuol_store_tip(&store);
-        size_t slot = cechnuol_oldest_slot(store.head);
-        if (cechnuol_store_checkpoint(&store) == tip || cechnuol_store_flush(&store, tip) != CECHNUOL_OK) {
-            if (slot == CECHNUOL_SLOTS)
-                break;
-            must(cechnuol_store_release(&store, slot), "the release");
-        }
+        must(make_room(answer), "making room");
         answer = cechnuol_store_commit(&store, changes, count);
     }
     must(answer, "the commit");

@@ -52,10 +52,12 @@
  *   than 40 KiB, so a test with a small store does not show that a stack is too small. Beware of small ones, as the 128
  *   KiB that musl gives a thread, or those that pthread_attr_setstacksize made smaller. A stack that is too small ends
  *   the program where a guard page lies below it; one in memory of the program's own (pthread_attr_setstack,
- *   coroutines) has none, and what lies below is overwritten.
+ *   coroutines) has none, and what lies below is overwritten. The library has no unwind tables: where a program ends
+ *   within a call, a debugger shows the innermost function and none of its callers.
  *
- * What a call costs. Every call but clear and load tests the whole store: one pass over the words lent, which takes
- * some microseconds where all of them are.
+ * What a call costs. Every call on a store but clear and load tests the whole of it, in one pass over table and
+ * journal: some microseconds where they are as long as can be. A flush of 64 steps of 64 words into the longest table
+ * takes about a hundred, and a forward of 64 words over as many steps some tens.
  *
  * What a refusal leaves. A call that answers anything but CECHNUOL_OK leaves everything lent as it came: table,
  * journal, head, tally, words, bytes, price and count.
@@ -383,12 +385,14 @@ uint64_t cechnuol_restart(CECHNUOL_STORE, uint8_t *bytes, size_t byte_count);
  * Changes: journal, head, tally.
  * Refusals: LENGTHS, UNSOUND, BAD_LIST, LAST_STATE, STEPS_FULL, JOURNAL_FULL.
  * At STEPS_FULL, which is met where tip - oldest is 64, flush to the tip, or to the highest state that no rollback will
- * go below. If it is still full, or the flush is refused by TABLE_FULL, a slot may be open whose number is the oldest,
- * and no flush lets its steps go: forward or release that slot, cechnuol_oldest_slot(head), and then the next, until
- * the commit passes. To flush and try again is not enough.
+ * go below. To flush and try again is not enough: while a slot is open, no flush lets go a step from its number on. If
+ * it is still full, or the flush is refused by TABLE_FULL, and oldest is below the checkpoint, forward or release the
+ * slot whose number is the oldest, cechnuol_oldest_slot(head), and then the next, until the commit passes. Where oldest
+ * is the checkpoint, no slot holds a step back and to close one frees nothing: what helps then is said at TABLE_FULL of
+ * cechnuol_flush.
  * At JOURNAL_FULL do the same, but first test the list: one of more than journal_words words never fits, whatever is
  * given up. Commit it in parts, each a state of its own, or move to a store with a longer journal (flush to the tip,
- * write the image, load it there).
+ * write the image, load it there; open reads and the tally stay behind).
  * At LAST_STATE there is no further number: flush to the tip, write the image, set its first four bytes to 0, and load
  * it. The same prices are then state 0. */
 uint64_t cechnuol_commit(CECHNUOL_STORE, const uint64_t *words, size_t word_count);
@@ -408,7 +412,9 @@ uint64_t cechnuol_roll_back(CECHNUOL_STORE, uint32_t state);
  * At TABLE_FULL the state named has more prices than the table has words; the states on the way to it do not count.
  * Flush to another one: a lower one that fits, or commit removals (where there is no room for them, roll back first)
  * and flush to the new tip. Or move to a longer table: write the image, load it into a store that has one, and commit
- * again what was committed above the checkpoint, which the image does not hold. */
+ * again what was committed above the checkpoint, which the image does not hold. Those lists stand in the journal: held
+ * step k, counted from 0, ends before word head[CECHNUOL_ENDS + k] and begins where the one before it ends, and the
+ * first above the checkpoint is k = checkpoint - oldest. Open reads and the tally stay behind. */
 uint64_t cechnuol_flush(CECHNUOL_STORE, uint32_t state);
 
 /* A query. Gives the price of an offer at a state, a number below 2^32, to *price, or answers CECHNUOL_NO_PRICE.

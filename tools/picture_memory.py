@@ -11,7 +11,7 @@ MEANINGS = {
     "tip": "the number of the newest state",
     "taken": "for each slot 1 where it is open, else 0",
     "issued": "for each open slot the checkpoint at its issue, else 0",
-    "ends": "for each held step its mark, the journal words through its end; marks not in use are 0",
+    "ends": "for each held step its mark, where it ends in the journal; marks not in use are 0",
 }
 
 

@@ -46,8 +46,6 @@ FILES = {
 # A file that need not be there: the Rust crate over the library.
 RUST = "bindings/rust/Cargo.toml"
 CC = ["cc", "-std=c99", "-O2", "-Wall", "-Wextra", "-Wpedantic", "-Werror"]
-# The header's names that are not those of the definitions in capitals: a lookup's answer has the name NO_PRICE.
-NAMES = {"NoPrice": "ORDER_NO_PRICE"}
 # Where each limit stands, in code and in definitions: a text, and what comes before its number there and behind it.
 LIMITS = {
     "TABLE_WORDS": [("layout", "pub const TABLE_WORDS: usize = ", ";"), ("clauses", "leb 1 table ∷ leb table ", " ∷")],
@@ -89,7 +87,7 @@ def texts():
 
 def constant(name):
     """A ground's name, a field's or a call's, as the header has it."""
-    return NAMES.get(name) or re.sub(r"(?<=[a-z])(?=[A-Z])", "_", name).upper()
+    return re.sub(r"(?<=[a-z])(?=[A-Z])", "_", name).upper()
 
 
 def number_in(text, before, behind):

@@ -178,7 +178,7 @@ class Day:
         self.tell(f"roll back to state {state}", self.unit.roll_back, state)
 
     def price(self, reads, *orders):
-        what = "price " + ", ".join(order_text(*order) for order in orders)
+        what = "price the orders (" + ", ".join(order_text(*order) for order in orders) + ")"
         gives = lambda changes: "" if changes is None else "; gives " + entries(changes)
         return self.tell(what, price_batch, reads, orders, after=gives)
 
@@ -203,7 +203,7 @@ def pass_day():
     print("Each list of changes makes the next state. States from the checkpoint to the newest are quoted.")
     day = Day()
 
-    print("\nMorning: last night's image is loaded.")
+    print("\nMorning: last night's image is loaded: the number of a state, how many offers it has, and each with its price.")
     rows = [(5, 1200), (9, 700), (12, 2500)]
     day.load(bytes([0, 0, 0, 7, 0, len(rows)]) + b"".join(word_of(*row).to_bytes(8, "big") for row in rows))
     day.quote(7)

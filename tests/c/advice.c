@@ -128,6 +128,41 @@ static void journal_full_and_table_full(void)
     ANSWERS(cechnuol_store_commit(&store, &removal, 1), OK);
 }
 
+/* All slots are open, and none is the cause: the oldest state is the checkpoint. To close them frees nothing; a flush to
+ * a lower state, whose prices fit the table, does. */
+static void steps_full_and_slots_at_the_checkpoint(void)
+{
+    uint64_t words[2];
+    size_t slot;
+    put_offers(words, 2, 1, 100);
+    begin(1, 128, 1);
+    for (slot = 0; slot < CECHNUOL_SLOTS; slot++)
+        ANSWERS(cechnuol_store_issue(&store, slot, NULL, 0), OK);
+    ANSWERS(cechnuol_store_commit(&store, words, 2), OK);
+    while (cechnuol_store_tip(&store) < CECHNUOL_STEPS)
+        ANSWERS(commit_put(1, 7), OK);
+    ANSWERS(commit_put(1, 8), STEPS_FULL);
+    ANSWERS(cechnuol_store_flush(&store, cechnuol_store_tip(&store)), TABLE_FULL);
+    IS(cechnuol_store_oldest(&store), cechnuol_store_checkpoint(&store));
+    ANSWERS(cechnuol_store_flush(&store, 1), OK);
+    ANSWERS(commit_put(1, 8), STEPS_FULL);
+    for (slot = 0; slot < CECHNUOL_SLOTS; slot++) {
+        ANSWERS(commit_put(1, 8), STEPS_FULL);
+        IS(cechnuol_store_oldest(&store) < cechnuol_store_checkpoint(&store), 1);
+        ANSWERS(cechnuol_store_release(&store, cechnuol_oldest_slot(store.head)), OK);
+    }
+    ANSWERS(commit_put(1, 8), OK);
+    /* full again, and now the slots lie at the checkpoint: each is closed in vain */
+    for (slot = 0; slot < CECHNUOL_SLOTS; slot++)
+        ANSWERS(cechnuol_store_issue(&store, slot, NULL, 0), OK);
+    ANSWERS(commit_put(1, 9), STEPS_FULL);
+    for (slot = 0; slot < CECHNUOL_SLOTS; slot++) {
+        IS(cechnuol_store_oldest(&store), cechnuol_store_checkpoint(&store));
+        ANSWERS(cechnuol_store_release(&store, slot), OK);
+        ANSWERS(commit_put(1, 9), STEPS_FULL);
+    }
+}
+
 /* What the header warns of: a slot that was given up and issued again brings the first reader's words forward from what
  * they say. */
 static void another_read_set(void)
@@ -144,10 +179,11 @@ static void another_read_set(void)
     IS(second[0], cechnuol_put(5, 1200));
 }
 
-/* A table of one word, offer 1 at the checkpoint, offer 2 besides at state 1. */
+/* A table of one word, offer 1 at the checkpoint, offer 2 besides at state 3; a slot open since state 0. */
 static void begin_with_table_full(void)
 {
     begin(1, 8, 0);
+    ANSWERS(cechnuol_store_issue(&store, 0, NULL, 0), OK);
     ANSWERS(commit_put(1, 10), OK);
     ANSWERS(cechnuol_store_flush(&store, 1), OK);
     ANSWERS(commit_put(1, 11), OK);
@@ -176,20 +212,34 @@ static void table_full_at_a_flush(void)
     ANSWERS(cechnuol_store_flush(&store, 2), OK);
 }
 
-/* To a longer table by an image; what was committed above the checkpoint is committed again. */
+/* Commits to another store the lists of this one that lie above its checkpoint, from where the header says that they
+ * stand in the journal. */
+static void commit_again(struct cechnuol_store *other)
+{
+    const uint64_t *ends = store.head + CECHNUOL_ENDS;
+    size_t k = cechnuol_store_checkpoint(&store) - cechnuol_store_oldest(&store);
+    size_t held = cechnuol_store_tip(&store) - cechnuol_store_oldest(&store);
+    for (; k < held; k++) {
+        size_t start = k == 0 ? 0 : ends[k - 1];
+        ANSWERS(cechnuol_store_commit(other, store.journal + start, ends[k] - start), OK);
+    }
+}
+
+/* To a longer table by an image; what was committed above the checkpoint is committed again. A slot that is open since
+ * state 0 holds steps below the checkpoint, which are not. */
 static void longer_table(void)
 {
     struct cechnuol_store other = {longer, 2, journal + 64, 8, {0}, {0}};
     struct cechnuol_store shorter = {longer, 1, journal + 64, 8, {0}, {0}};
-    const uint64_t again[2] = {cechnuol_put(1, 11), cechnuol_put(2, 20)};
     uint64_t count = 0;
     begin_with_table_full();
+    IS(cechnuol_store_checkpoint(&store) - cechnuol_store_oldest(&store), 1);
     ANSWERS(cechnuol_store_write_image(&store, image, sizeof image, &count), OK);
     ANSWERS(cechnuol_store_load(&other, image, count), OK);
     hold_price(&other, 1, 10);
     ANSWERS(cechnuol_store_look_up(&other, 2, cechnuol_store_tip(&other), &count), NO_PRICE);
-    ANSWERS(cechnuol_store_commit(&other, again, 1), OK);
-    ANSWERS(cechnuol_store_commit(&other, again + 1, 1), OK);
+    commit_again(&other);
+    IS(cechnuol_store_tip(&other), cechnuol_store_tip(&store));
     ANSWERS(cechnuol_store_flush(&other, 3), OK);
     hold_price(&other, 1, 11);
     hold_price(&other, 2, 20);
@@ -270,6 +320,7 @@ int main(void)
     journal_full();
     list_longer_than_journal();
     journal_full_and_table_full();
+    steps_full_and_slots_at_the_checkpoint();
     another_read_set();
     table_full_at_a_flush();
     longer_table();

@@ -60,7 +60,8 @@ impl Head {
     }
 
     /// The open slot that was issued at the lowest state, the first of them where there are several: the one that keeps the
-    /// oldest steps held. To forward or release it makes room where a flush to the tip did not.
+    /// oldest steps held. To forward or release it makes room where a flush to the tip did not, if [`Head::oldest`] is below
+    /// [`Head::checkpoint`]; else no slot keeps anything.
     pub fn oldest_slot(&self) -> Option<usize> {
         (0..SLOTS).filter(|&slot| self.is_open(slot)).min_by_key(|&slot| self.issued(slot))
     }

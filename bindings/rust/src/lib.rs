@@ -80,11 +80,22 @@
 //! KiB, so that a test with a small store does not show that a stack is too small. Rust's threads have 2 MiB unless they
 //! are given less.
 //!
+//! # What a call tests, and what it does not
+//!
+//! Every call on a store but `clear` and `load` tests the whole of it, in one pass over table and journal: some microseconds
+//! where they are as long as can be. A flush of 64 steps of 64 entries into the longest table takes about a hundred, and a
+//! forward of 64 entries over as many steps some tens.
+//!
+//! [`Refusal::Unsound`] is answered where the form of a store is broken: the order of offers, the zeros, or numbers that do
+//! not fit each other. A price, an offer, the end of a step or the checkpoint that was changed within that form is taken as
+//! it is. A call that was cut off, by a kill or a loss of power, may leave such a store: go on from an image, and keep a
+//! checksum of your own where memory may fail. An image has none either.
+//!
 //! # Linking
 //!
 //! The build script looks for `libcechnuol.a` in the folder that `CECHNUOL_LIB_DIR` names (a relative one counts from the
 //! crate); else where `pkg-config` has the module `cechnuol` of this version; else beside the crate, in
-//! `../../target/staticlib` (the repository) or `../lib` (the tarball). The library is for x86-64 Linux.
+//! `../lib` (the tarball) or `../../target/staticlib` (the repository). The library is for x86-64 Linux.
 #![deny(missing_docs)]
 #![deny(unsafe_code)]
 

@@ -75,7 +75,9 @@ impl Order {
         }
     }
 
-    /// The order of these fields, or [`Order::NO_ORDER`] where the amount is 2^25 or more or the offer 2^31 or more.
+    /// The order of these fields, or [`Order::NO_ORDER`] where the amount is 2^25 or more or the offer 2^31 or more. The
+    /// fields come as they stand in the word, and as C's `cechnuol_order` takes them: the amount before the offer, where the
+    /// builders of each kind take the offer first.
     #[inline]
     pub const fn new(kind: u8, amount: u32, offer: u32) -> Order {
         if amount >= 1 << 25 || offer >= 1 << 31 {

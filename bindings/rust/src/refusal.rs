@@ -17,8 +17,8 @@ macro_rules! refusals {
                 $(#[doc = ""] #[doc = $more])*
                 $variant,
             )*
-            /// A code that this version of the crate does not know, with its number: a later library may refuse for further
-            /// reasons.
+            /// A code that this version of the crate does not know, with its number: that of a library of another version,
+            /// which belongs to another version of the crate, or [`NO_PRICE`](crate::raw::NO_PRICE), which is no refusal.
             Unknown(u64),
         }
 
@@ -70,7 +70,7 @@ refusals! {
     SlotTaken = 4 "SLOT_TAKEN" "the slot named for an issue is open",
         "Forward or release it, or name another.";
     SlotClosed = 5 "SLOT_CLOSED" "the slot named for a forward or release is closed",
-        "It was forwarded or released before, or a restart closed it.";
+        "It was forwarded or released before, or a restart, a load or a clear closed it.";
     BadList = 6 "BAD_LIST" "a list breaks its rules, or there are over 64 orders, or an offer is 2^31 or more",
         "A list has 0 to 64 entries with strictly rising offers; that of an issue has only entries that ask.";
     BadOrder = 7 "BAD_ORDER" "the kind of an order is unknown, or a withdrawal has an amount",
@@ -84,9 +84,10 @@ refusals! {
     LastState = 12 "LAST_STATE" "the tip is the last state number, 2^32 - 1",
         "Flush to the tip, write the image, put a lower state number into its first four bytes, and load it.";
     StepsFull = 13 "STEPS_FULL" "64 steps are held",
-        "That is, tip - oldest is 64. Flush; if it is still full, a slot that was opened at the oldest state holds the \
-         steps: forward or release it ([`Head::oldest_slot`](crate::Head::oldest_slot)). To flush again and again does \
-         not help while that slot is open. [`Store::commit`](crate::Store::commit) has an example.";
+        "That is, tip - oldest is 64. Flush; if it is still full and the oldest state is below the checkpoint, a slot that \
+         was opened there holds the steps: forward or release it ([`Head::oldest_slot`](crate::Head::oldest_slot)). To \
+         flush again and again does not help while that slot is open. [`Store::commit`](crate::Store::commit) has an \
+         example.";
     JournalFull = 14 "JOURNAL_FULL" "the list has more words than the journal has unused",
         "A list that is longer than the journal never fits: test that first. Flush; if it is still full, forward or \
          release the slot that was opened at the oldest state, as for [`Refusal::StepsFull`].";
@@ -100,7 +101,8 @@ refusals! {
 }
 
 impl Refusal {
-    /// What a code says of a call that gives no value: accepted, or why not.
+    /// What a code says of a call that gives no value: accepted, or why not. Of a lookup's codes test
+    /// [`NO_PRICE`](crate::raw::NO_PRICE) before: it is neither.
     ///
     /// ```
     /// use cechnuol::Refusal;

@@ -261,23 +261,32 @@ impl<T: AsMut<[u64]>, J: AsMut<[u64]>> Store<T, J> {
     ///
     /// The last two say that there is no room, of 64 steps or of the journal's words. A list longer than the journal never
     /// fits. A flush to the tip makes room, but not while a slot is open that was issued at an old state, since its steps are
-    /// held for it; so to flush and try again is not enough. If there is still no room, or no flush is possible, forward or
-    /// release the slot that was issued at the oldest state:
+    /// held for it; so to flush and try again is not enough. If there is still no room, or no flush is possible, and the
+    /// oldest state is below the checkpoint, forward or release the slot that was issued there. Where it is the checkpoint,
+    /// no slot holds a step back and to close one frees nothing; then see [`Store::flush`] on [`Refusal::TableFull`].
     ///
     /// ```
     /// use cechnuol::{Entry, Refusal, Store};
     ///
-    /// /// Commits a list, and makes room for it where there is none.
+    /// /// Makes room in a store that is full, by a flush or by the release of a slot that keeps it full.
+    /// fn make_room(store: &mut Store, full: Refusal) -> Result<(), Refusal> {
+    ///     let (oldest, checkpoint, tip) = (store.head().oldest(), store.head().checkpoint(), store.head().tip());
+    ///     let flushed = if checkpoint < tip { store.flush(tip) } else { Err(full) };
+    ///     match store.head().oldest_slot() {
+    ///         // whoever reads in this slot has to issue it again
+    ///         Some(slot) if flushed.is_err() && oldest < checkpoint => store.release(slot),
+    ///         _ => flushed,
+    ///     }
+    /// }
+    ///
+    /// /// Commits a list, and makes room for it as often as it takes.
     /// fn commit(store: &mut Store, list: &[Entry]) -> Result<(), Refusal> {
     ///     loop {
-    ///         let full = match store.commit(list) {
-    ///             Err(full @ (Refusal::StepsFull | Refusal::JournalFull)) if list.len() <= store.journal().len() => full,
+    ///         match store.commit(list) {
+    ///             Err(full @ (Refusal::StepsFull | Refusal::JournalFull)) if list.len() <= store.journal().len() => {
+    ///                 make_room(store, full)?
+    ///             }
     ///             answer => return answer,
-    ///         };
-    ///         let (tip, slot) = (store.head().tip(), store.head().oldest_slot());
-    ///         if store.head().checkpoint() == tip || store.flush(tip).is_err() {
-    ///             // whoever reads in this slot has to issue it again
-    ///             store.release(slot.ok_or(full)?)?;
     ///         }
     ///     }
     /// }
@@ -289,6 +298,16 @@ impl<T: AsMut<[u64]>, J: AsMut<[u64]>> Store<T, J> {
     /// }
     /// assert_eq!(store.look_up(5, 100), Ok(Some(99)));
     /// assert!(!store.head().is_open(3));
+    ///
+    /// // No read is given up in vain: here the table is too short for a flush to the tip.
+    /// let mut store = Store::new(1, 500)?;
+    /// store.issue(3, &mut [Entry::ask(5)])?;
+    /// store.commit(&[Entry::put(5, 1200), Entry::put(9, 700)])?;
+    /// for price in 1..64 {
+    ///     store.commit(&[Entry::put(5, price)])?;
+    /// }
+    /// assert_eq!(commit(&mut store, &[Entry::remove(9)]), Err(Refusal::TableFull));
+    /// assert!(store.head().is_open(3));
     /// # Ok::<(), Refusal>(())
     /// ```
     #[inline]
@@ -323,8 +342,10 @@ impl<T: AsMut<[u64]>, J: AsMut<[u64]>> Store<T, J> {
     ///
     /// Refused: [`Refusal::Lengths`], [`Refusal::Unsound`], [`Refusal::StateRange`], [`Refusal::TableFull`]. At the last
     /// the map at the state has more offers than the table has words. Flush to another state whose map fits, or commit
-    /// removals first and flush to the state after them (only the map at the state named has to fit); or load the image of
-    /// the checkpoint into a longer table, and commit the lists since then again.
+    /// removals first and flush to the state after them (only the map at the state named has to fit; where there is no room
+    /// for a commit, roll back before); or load the image of the checkpoint into a longer table, and commit the lists since
+    /// then again, which [`Store::journal`] and [`Head::ends`](crate::Head::ends) still have. Open reads and the tally stay
+    /// behind.
     ///
     /// ```
     /// use cechnuol::{Entry, Refusal, Store};

@@ -3,7 +3,7 @@
 use Prim.Native.Nat.{ℕ}
 use Rattle.answers.specs.declared.ground.Ground.{Ground}
 use Rattle.answers.specs.declared.ground.Ground.the-variants.{Lengths, Unsound, SlotRange, SlotTaken, SlotClosed, BadList}
-use Rattle.answers.specs.declared.ground.Ground.the-variants.{BadOrder, OfferNotRead, NoPrice, PriceRange, StateRange, LastState}
+use Rattle.answers.specs.declared.ground.Ground.the-variants.{BadOrder, OfferNotRead, OrderNoPrice, PriceRange, StateRange, LastState}
 use Rattle.answers.specs.declared.ground.Ground.the-variants.{StepsFull, JournalFull, BadImage, TableFull, OutputShort}
 
 -- the number of each ground, in the order in which they are checked
@@ -16,7 +16,7 @@ numberOf SlotClosed = 5
 numberOf BadList = 6
 numberOf BadOrder = 7
 numberOf OfferNotRead = 8
-numberOf NoPrice = 9
+numberOf OrderNoPrice = 9
 numberOf PriceRange = 10
 numberOf StateRange = 11
 numberOf LastState = 12

@@ -23,7 +23,7 @@ pub enum Ground {
     // 8. Some order's offer isn't in the read set.
     OfferNotRead,
     // 9. The first order that fails is a raise, cut or sixteenths on an offer without a price.
-    NoPrice,
+    OrderNoPrice,
     // 10. The first order that fails takes a price below 0 or above 2^32 - 1.
     PriceRange,
     // 11. The state named is below the anchor or above the tip.
@@ -55,7 +55,7 @@ pub fn number(ground: Ground) -> u32
         Ground::BadList => 6,
         Ground::BadOrder => 7,
         Ground::OfferNotRead => 8,
-        Ground::NoPrice => 9,
+        Ground::OrderNoPrice => 9,
         Ground::PriceRange => 10,
         Ground::StateRange => 11,
         Ground::LastState => 12,

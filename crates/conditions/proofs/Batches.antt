@@ -18,7 +18,7 @@ use Rattle.changes.proofs.ListTest.{and-both}
 use Rattle.answers.specs.declared.answer.Check.{Check}
 use Rattle.answers.specs.declared.answer.Check.the-variants.{Passed, Refused}
 use Rattle.answers.specs.declared.ground.Ground.{Ground}
-use Rattle.answers.specs.declared.ground.Ground.the-variants.{BadList, NoPrice, PriceRange}
+use Rattle.answers.specs.declared.ground.Ground.the-variants.{BadList, OrderNoPrice, PriceRange}
 use Rattle.answers.specs.Numbers.{numberOf}
 use Rattle.answers.proofs.Firsts.{passed-not}
 use Rattle.orders.specs.declared.effects.Effect.{Effect}
@@ -63,8 +63,9 @@ put-fails offer price = by-test (ltb price (2 ^ 32)) (Change (putOf offer price)
 
 with-price : (found : Found) (f : ℕ → Effect) → ((price : ℕ) → FailsSo (f price)) → FailsSo (withPrice found f)
 unfolding withPrice
-with-price (Word w) f h = by-test (isPut w) (f (priceOf w)) NoPrice refl (h (priceOf w))
-with-price Nothing f h = by-test false (Fails NoPrice) NoPrice refl (λ ground e. ap (λ (x : Effect). nineOrTen (numberIn x)) (sym e))
+with-price (Word w) f h = by-test (isPut w) (f (priceOf w)) OrderNoPrice refl (h (priceOf w))
+with-price Nothing f h =
+    by-test false (Fails OrderNoPrice) OrderNoPrice refl (λ ground e. ap (λ (x : Effect). nineOrTen (numberIn x)) (sym e))
 
 by-kind : (named : Kind) (kind amount offer : ℕ) (found : Found) → allowedWith named amount ≡ true
     → FailsSo (effectBy named kind amount offer found)

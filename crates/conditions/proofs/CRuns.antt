@@ -15,7 +15,7 @@ use Rattle.answers.specs.declared.call.Read.the-variants.{Issue, Forward, Relea
 use Rattle.answers.specs.declared.call.Reset.the-variants.{Load}
 use Rattle.answers.specs.declared.ground.Ground.{Ground}
 use Rattle.answers.specs.declared.ground.Ground.the-variants.{Lengths, Unsound, SlotRange, SlotTaken, SlotClosed, BadList}
-use Rattle.answers.specs.declared.ground.Ground.the-variants.{BadOrder, OfferNotRead, NoPrice as PriceMissing, PriceRange, StateRange}
+use Rattle.answers.specs.declared.ground.Ground.the-variants.{BadOrder, OfferNotRead, OrderNoPrice, PriceRange, StateRange}
 use Rattle.answers.specs.declared.ground.Ground.the-variants.{LastState, StepsFull, JournalFull, BadImage, TableFull, OutputShort}
 use Rattle.answers.specs.Answers.{Said, accepted, saidBy}
 use Rattle.answers.specs.Numbers.{numberOf}
@@ -54,7 +54,7 @@ refused-code named SlotClosed value words bytes = refl
 refused-code named BadList value words bytes = refl
 refused-code named BadOrder value words bytes = refl
 refused-code named OfferNotRead value words bytes = refl
-refused-code named PriceMissing value words bytes = refl
+refused-code named OrderNoPrice value words bytes = refl
 refused-code named PriceRange value words bytes = refl
 refused-code named StateRange value words bytes = refl
 refused-code named LastState value words bytes = refl

@@ -17,7 +17,7 @@ use Rattle.answers.specs.declared.call.Reset.the-variants.{Clear, Load, Restart
 use Rattle.answers.specs.declared.call.Step.the-variants.{Commit, RollBack, Flush}
 use Rattle.answers.specs.declared.ground.Ground.{Ground}
 use Rattle.answers.specs.declared.ground.Ground.the-variants.{Lengths, Unsound, SlotRange, SlotTaken, SlotClosed, BadList}
-use Rattle.answers.specs.declared.ground.Ground.the-variants.{BadOrder, OfferNotRead, NoPrice as PriceMissing, PriceRange, StateRange}
+use Rattle.answers.specs.declared.ground.Ground.the-variants.{BadOrder, OfferNotRead, OrderNoPrice, PriceRange, StateRange}
 use Rattle.answers.specs.declared.ground.Ground.the-variants.{LastState, StepsFull, JournalFull, BadImage, TableFull, OutputShort}
 use Rattle.answers.specs.Answers.{saidBy, groundIn, acceptedB, answered}
 use Rattle.answers.specs.First.{Test, met, first}
@@ -45,7 +45,7 @@ number-range SlotClosed = (omega arith, omega arith)
 number-range BadList = (omega arith, omega arith)
 number-range BadOrder = (omega arith, omega arith)
 number-range OfferNotRead = (omega arith, omega arith)
-number-range PriceMissing = (omega arith, omega arith)
+number-range OrderNoPrice = (omega arith, omega arith)
 number-range PriceRange = (omega arith, omega arith)
 number-range StateRange = (omega arith, omega arith)
 number-range LastState = (omega arith, omega arith)

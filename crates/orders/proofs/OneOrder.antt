@@ -11,7 +11,7 @@ use lib.Dec.{leb}
 use Rattle.entry.specs.Word.{kindOf, offerOf, priceOf, putOf, Valid}
 use Rattle.changes.specs.declared.search.Found.{Found}
 use Rattle.changes.specs.declared.search.Found.the-variants.{Word, Nothing}
-use Rattle.answers.specs.declared.ground.Ground.the-variants.{NoPrice, PriceRange}
+use Rattle.answers.specs.declared.ground.Ground.the-variants.{OrderNoPrice, PriceRange}
 use Rattle.orders.specs.declared.effects.Effect.{Effect}
 use Rattle.orders.specs.declared.effects.Effect.the-variants.{Change, Fails}
 use Rattle.orders.specs.Orders.{orderKind, orderAmount, orderOffer, Kind, lists, withdraws, raises, cuts, keeps, unknown, kindNamed}
@@ -38,7 +38,7 @@ unfolding putAt
 put-over offer price h = rw (le-ltb price (2 ^ 32) h)
 
 module _ (w : ℕ) (f : ℕ → Effect) where
-  pub no-price : (kindOf w ≡ 1 → ⊥) → withPrice (Word w) f ≡ Fails NoPrice
+  pub no-price : (kindOf w ≡ 1 → ⊥) → withPrice (Word w) f ≡ Fails OrderNoPrice
   unfolding withPrice
   no-price n = rw (ne-eqb (kindOf w) 1 n)
 

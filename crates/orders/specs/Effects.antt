@@ -7,7 +7,7 @@ use lib.Dec.{leb, ltb}
 use Rattle.entry.specs.Word.{priceOf, putOf, noneOf, isPut}
 use Rattle.changes.specs.declared.search.Found.{Found}
 use Rattle.changes.specs.declared.search.Found.the-variants.{Word, Nothing}
-use Rattle.answers.specs.declared.ground.Ground.the-variants.{BadOrder, NoPrice, PriceRange}
+use Rattle.answers.specs.declared.ground.Ground.the-variants.{BadOrder, OrderNoPrice, PriceRange}
 use Rattle.answers.specs.Answers.{Said, accepted, refused}
 use Rattle.answers.specs.Numbers.{numberOf}
 use Rattle.orders.specs.declared.effects.Effect.{Effect}
@@ -33,8 +33,8 @@ putAt offer price = cond (ltb price (2 ^ 32)) (Change (putOf offer price)) (Fail
 
 -- what is done with the price shown; ground 9 where none is
 unfoldable pub withPrice : Found → (ℕ → Effect) → Effect
-withPrice (Word w) f = cond (isPut w) (f (priceOf w)) (Fails NoPrice)
-withPrice Nothing f = Fails NoPrice
+withPrice (Word w) f = cond (isPut w) (f (priceOf w)) (Fails OrderNoPrice)
+withPrice Nothing f = Fails OrderNoPrice
 
 -- a raise, a cut and sixteenths, of what is found at the offer
 abbrev pub raised : ℕ → ℕ → Found → Effect

@@ -34,7 +34,7 @@ fn raise(offer: u32, amount: u32, shown: u64) -> Effect
     ensures { λ r. ⌜ r ≡ raised offer amount (Word shown) ⌝ }
 {
     if Entry::kind_of(shown) != Entry::PUT {
-        return Effect::Fails(Ground::NoPrice);
+        return Effect::Fails(Ground::OrderNoPrice);
     }
     let sum = (Entry::price_of(shown) as u64) + (amount as u64);
     if MAX_PRICE < sum {
@@ -49,7 +49,7 @@ fn cut(offer: u32, amount: u32, shown: u64) -> Effect
     ensures { λ r. ⌜ r ≡ lowered offer amount (Word shown) ⌝ }
 {
     if Entry::kind_of(shown) != Entry::PUT {
-        return Effect::Fails(Ground::NoPrice);
+        return Effect::Fails(Ground::OrderNoPrice);
     }
     let price = Entry::price_of(shown);
     if amount <= price {
@@ -68,7 +68,7 @@ fn keep(kind: u32, offer: u32, amount: u32, shown: u64) -> Effect
     if Entry::PUT <= shows {
         return Effect::Change(Entry::put(offer, sixteenths(kind, amount, price)));
     }
-    Effect::Fails(Ground::NoPrice)
+    Effect::Fails(Ground::OrderNoPrice)
 }
 
 // The effect of an order where its offer is shown by a word.

@@ -44,7 +44,8 @@ fn unused() -> Counter {
 
 pub(crate) fn load() -> Counter {
     show_bytes(
-        b"\n\nMorning: last night's image is loaded.\n  image",
+        b"\n\nMorning: last night's image is loaded: the number of a state, how many offers it has, and each with its price.\
+        \n  image",
         &IMAGE,
     );
     show_text(b"\n  load");

@@ -30,12 +30,12 @@ fn price(text: &[u8], reads: [u64; 3], orders: &[u64]) -> [u64; 2] {
 // A batch whose second order fails, so that all of it is refused; and one whose third order sees what the first did.
 pub(crate) fn price_both(reads: [u64; 3]) -> [u64; 2] {
     price(
-        b"\n  price raise offer 5 by 100, cut offer 7 by 901",
+        b"\n  price the orders (raise offer 5 by 100, cut offer 7 by 901)",
         reads,
         &[RAISE_5_BY_100, CUT_7_BY_901],
     );
     let changes = price(
-        b"\n  price raise offer 5 by 100, cut offer 7 by 100, keep 12/16 of offer 5",
+        b"\n  price the orders (raise offer 5 by 100, cut offer 7 by 100, keep 12/16 of offer 5)",
         reads,
         &[RAISE_5_BY_100, CUT_7_BY_100, KEEP_12_SIXTEENTHS_OF_5],
     );

@@ -114,7 +114,7 @@ fn rounds() -> String {
          of the rounds: {quarter} of them are below the first number, and {quarter} above the last. No spread shows what the place of code does:\n\
          from one build to the next, with none of the code changed that is measured, the plain pass and the test of a store have\n\
          moved by a third on some processors. Nor does it show the processor's speed, which may change during a run: compare\n\
-         ratios, and times within a row alone.\n"
+         ratios alone. A time is the median of one side's own rounds, so that two of them need not have the ratio beside them.\n"
     )
 }
 
@@ -192,7 +192,7 @@ fn at_most(limit: f64, calls: Vec<(&str, &Spread)>) -> (Option<bool>, String) {
     let named: Vec<String> = worst.iter().map(|(call, ratio)| format!("{call} ({ratio:.2})")).collect();
     let mut remark = format!("{} of {} figures", calls.len() - above.len(), calls.len());
     if !named.is_empty() {
-        let _ = write!(remark, "; above, with the highest of each call: {}", named.join(", "));
+        let _ = write!(remark, "; above the limit, by the highest figure of each call: {}", named.join(", "));
     }
     (Some(above.is_empty()), remark)
 }
@@ -436,12 +436,14 @@ mod tests {
     fn targets_that_are_not_reached() {
         let lines = lines_of(results(1.21, 2.6, None, 140.0));
         assert!(target(&lines, "every call").ends_with(
-            "| no | 0 of 4 figures; above, with the highest of each call: load (1.21), price_batch (1.21) |"
+            "| no | 0 of 4 figures; above the limit, by the highest figure of each call: load (1.21), price_batch (1.21) |"
         ));
-        assert!(target(&lines, "the fixed cost")
-            .ends_with("| no | 0 of 1 figures; above, with the highest of each call: release (1.22) |"));
-        assert!(target(&lines, "the same at most 1.2 times (a)")
-            .ends_with("| no | 0 of 1 figures; above, with the highest of each call: release (1.21) |"));
+        assert!(target(&lines, "the fixed cost").ends_with(
+            "| no | 0 of 1 figures; above the limit, by the highest figure of each call: release (1.22) |"
+        ));
+        assert!(target(&lines, "the same at most 1.2 times (a)").ends_with(
+            "| no | 0 of 1 figures; above the limit, by the highest figure of each call: release (1.21) |"
+        ));
         assert!(target(&lines, "the test").contains("| no |"));
         assert!(target(&lines, "a commit").contains("| not measured | LMDB is not installed |"));
         assert!(target(&lines, "time grows").contains("| no |"));

@@ -4,10 +4,21 @@
 use ffi::differ::Pair;
 use ffi::probe::probe;
 use model::gen::{items, text, Item};
+use model::program::{checked, ended, misused, printed, Failure};
 use model::rng::Rng;
 use model::script::{parse, Command, Line};
+use std::ffi::OsString;
 use std::process::ExitCode;
 use std::time::Instant;
+
+const USAGE: &str = "usage: differential SEED CALLS";
+
+const HELP: &str = "usage: differential SEED CALLS
+Makes random calls on the price unit's library and on the second model, in scripts of a thousand, until there are CALLS or
+more, and compares answers and memory after each. A seed gives the same calls every time.
+Exit status: 0 if there is no difference, 1 at the first one, which is printed as a script, 2 for wrong arguments or if
+output cannot be written.
+";
 
 /// Calls in a script.
 const SCRIPT: usize = 1000;
@@ -22,29 +33,42 @@ struct Counts {
 }
 
 fn main() -> ExitCode {
-    let arguments: Vec<u64> = std::env::args().skip(1).filter_map(|word| word.parse().ok()).collect();
-    let [seed, calls] = arguments[..] else {
-        eprintln!("differential SEED CALLS");
-        return ExitCode::FAILURE;
-    };
+    let arguments: Vec<OsString> = std::env::args_os().skip(1).collect();
+    ended("differential", answer(&arguments))
+}
+
+fn answer(arguments: &[OsString]) -> Result<ExitCode, Failure> {
+    let words: Vec<&str> = arguments.iter().map(|word| word.to_str().unwrap_or_default()).collect();
+    match words[..] {
+        ["--help"] => printed(HELP.as_bytes()),
+        [seed, calls] => match (seed.parse(), calls.parse()) {
+            (Ok(seed), Ok(calls)) => compare(seed, calls),
+            _ => Ok(misused(USAGE)),
+        },
+        _ => Ok(misused(USAGE)),
+    }
+}
+
+/// Runs scripts until so many calls are made, and says what came of it.
+fn compare(seed: u64, calls: u64) -> Result<ExitCode, Failure> {
     let start = Instant::now();
     let mut counts = Counts::default();
     let mut script = 0;
     while counts.calls + counts.probes < calls {
         if let Err(shown) = run(seed.wrapping_mul(1 << 32).wrapping_add(script), &mut counts) {
-            print!("{shown}");
-            return ExitCode::FAILURE;
+            printed(shown.as_bytes())?;
+            return Ok(checked(false));
         }
         script += 1;
     }
     let Counts { calls, damaged, probes } = counts;
-    println!(
-        "seed {seed}: {} calls, {} of them on damaged memory or heads, no difference in {:.0} s",
+    let text = format!(
+        "seed {seed}: {} calls, {} of them on damaged memory or heads, no difference in {:.0} s\n",
         calls + probes,
         damaged + probes,
         start.elapsed().as_secs_f64()
     );
-    ExitCode::SUCCESS
+    printed(text.as_bytes())
 }
 
 /// Runs a script on both, or gives the script up to the first difference, with that as its last comment.

@@ -41,12 +41,17 @@ fn head(head: &[u64]) -> String {
 
 /// How many steps are held, and their marks; and any mark besides that is not 0.
 fn steps(held: u64, ends: &[u64]) -> String {
-    let marks = ends.iter().rposition(|&end| end != 0).map_or(0, |last| last + 1);
-    let shown = marks.max(held.min(STEPS as u64) as usize);
-    if shown == 0 {
-        return "no step held".to_string();
+    let (own, others) = ends.split_at(held.min(STEPS as u64) as usize);
+    let mut text = match own {
+        [] => "no step held".to_string(),
+        own => {
+            format!("{} held, marks {}", count(held, "step"), listed(own.iter().map(u64::to_string), ", "))
+        }
+    };
+    for (index, end) in others.iter().enumerate().filter(|(_, end)| **end != 0) {
+        text.push_str(&format!(", mark {} is {end}", own.len() + index));
     }
-    format!("{} held, marks {}", count(held, "step"), listed(ends[..shown].iter().map(u64::to_string), ", "))
+    text
 }
 
 /// The open slots, and any slot besides that has a number.

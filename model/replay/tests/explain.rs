@@ -91,7 +91,7 @@ poke table 1 0000000000000007 8000000000000000 # -> poke table 1: no entry 00000
 head tip 0 # -> head tip 0
 head ends 2 9 # -> head ends 2 9
 head held 2 0 # -> head held 2 0
-show head # -> head: 1 word of the table used; oldest 1, checkpoint 1, tip 0; 0 steps held, marks 1, 1, 9; slot 2 closed with number 1
+show head # -> head: 1 word of the table used; oldest 1, checkpoint 1, tip 0; no step held, mark 0 is 1, mark 1 is 1, mark 2 is 9; slot 2 closed with number 1
 look_up 5 1 # -> look up offer 5 at state 1: refused 2 UNSOUND: the store is not sound
 ",
     );

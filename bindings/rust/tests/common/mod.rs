@@ -57,12 +57,12 @@ pub fn refused<T>(store: &Store, wanted: Refusal, call: impl FnOnce(&mut Store) 
     assert!(lent == *store, "{wanted:?} leaves the store as it came");
 }
 
-/// The C header: in the repository, or beside the crate in the tarball.
+/// The C header: beside the crate in the tarball, or in the repository.
 pub fn header() -> String {
     let folder = Path::new(env!("CARGO_MANIFEST_DIR"));
-    let files = ["../../include/cechnuol.h", "../include/cechnuol.h"];
+    let files = ["../include/cechnuol.h", "../../include/cechnuol.h"];
     let text = files.iter().find_map(|file| std::fs::read_to_string(folder.join(file)).ok());
-    text.expect("the header is in the repository and in the tarball")
+    text.unwrap_or_else(|| panic!("the header is neither of {files:?} from {}", folder.display()))
 }
 
 /// Random numbers, by splitmix64.
