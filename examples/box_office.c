@@ -40,7 +40,7 @@ static void expect(uint64_t got, uint64_t want, const char *what)
 static uint64_t quote(uint32_t seat, uint32_t state)
 {
     uint64_t price = 0;
-    must(cechnuol_store_look_up(&store, seat, state, &price), "the lookup");
+    must(cechnuol_store_look_up(&store, CECHNUOL_DESK, seat, state, &price), "the lookup");
     printf("  state %" PRIu32 ": seat %" PRIu32 " costs %" PRIu64 ".\n", state, seat, price);
     return price;
 }
@@ -59,8 +59,10 @@ static uint64_t make_room(uint64_t full)
         if (full == CECHNUOL_OK)
             return full;
     }
-    if (cechnuol_store_oldest(&store) < cechnuol_store_checkpoint(&store))
-        return cechnuol_store_release(&store, cechnuol_oldest_slot(store.head));
+    if (cechnuol_store_oldest(&store) < cechnuol_store_checkpoint(&store)) {
+        size_t slot = cechnuol_oldest_slot(store.head);
+        return cechnuol_store_release(&store, cechnuol_caller_of(slot), slot);
+    }
     return full;
 }
 
@@ -97,7 +99,8 @@ static void correct_the_feed(void)
     must(cechnuol_store_roll_back(&store, 1), "the rollback");
     commit(correct, 3);
     expect(quote(STALLS, 2), 1150, "the corrected price");
-    expect(cechnuol_store_look_up(&store, CIRCLE, 2, &price), CECHNUOL_NO_PRICE, "the answer for a seat withdrawn");
+    expect(cechnuol_store_look_up(&store, CECHNUOL_DESK, CIRCLE, 2, &price), CECHNUOL_NO_PRICE,
+           "the answer for a seat withdrawn");
     printf("  state 2: seat %d has no price any more.\n", CIRCLE);
 }
 
@@ -118,13 +121,25 @@ static void read_early(uint64_t reads[2])
     reads[1] = cechnuol_ask(BOX);
     puts("A flush makes state 2 the checkpoint. A read of two seats is issued there, in slot 0.");
     must(cechnuol_store_flush(&store, 2), "the flush");
-    must(cechnuol_store_issue(&store, 0, reads, 2), "the issue");
+    must(cechnuol_store_issue(&store, CECHNUOL_DESK, 0, reads, 2), "the issue");
     show(reads, 1150);
     puts("The feed goes on with state 3, which is flushed too. The read is forwarded to it.");
     commit(&late, 1);
     must(cechnuol_store_flush(&store, 3), "the flush");
-    must(cechnuol_store_forward(&store, 0, 3, reads, 2), "the forward");
+    must(cechnuol_store_forward(&store, CECHNUOL_DESK, 0, 3, reads, 2), "the forward");
     show(reads, 1050);
+}
+
+/* The display in the foyer reads the same store, in slots of its own. */
+static void show_in_the_foyer(void)
+{
+    uint64_t reads[2] = {cechnuol_ask(STALLS), cechnuol_ask(BOX)};
+    puts("The display in the foyer reads the same seats. Slot 0 is the desk's, so it takes slot 6.");
+    expect(cechnuol_store_issue(&store, CECHNUOL_FOYER, 0, reads, 2), CECHNUOL_OTHERS_SLOT,
+           "the answer for the desk's slot");
+    must(cechnuol_store_issue(&store, CECHNUOL_FOYER, CECHNUOL_FOYER_SLOT, reads, 2), "the foyer's issue");
+    show(reads, 1050);
+    must(cechnuol_store_release(&store, CECHNUOL_FOYER, CECHNUOL_FOYER_SLOT), "the foyer's release");
 }
 
 /* A batch of orders on that read; what it makes of the prices is a list, and is committed as state 4. */
@@ -169,6 +184,7 @@ int main(int argument_count, char **arguments)
     take_the_feed();
     correct_the_feed();
     read_early(reads);
+    show_in_the_foyer();
     price_orders(reads);
     keep_overnight();
     puts("All is as it should be.");

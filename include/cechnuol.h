@@ -6,7 +6,8 @@
  * tip, which is the newest; it steps back from the tip when the feed is corrected, and lets the checkpoint follow by a
  * flush. A read may start before the state that it serves exists: it is issued at the checkpoint and forwarded later. A
  * batch of orders is priced on such a read. An image holds the prices at the checkpoint as bytes, to be stored and
- * loaded again.
+ * loaded again. Two callers share a store, the desk at the counter and a display in the foyer, and each has slots of
+ * its own for its reads.
  *
  * The functions of the library are proved: for every length and every content of what they are lent they answer and
  * leave what is defined for them, stay within the memory lent, and end. They allocate nothing, keep nothing between
@@ -28,7 +29,7 @@
  *         if (answer == CECHNUOL_OK)
  *             answer = cechnuol_store_commit(&store, changes, 2);
  *         if (answer == CECHNUOL_OK)
- *             answer = cechnuol_store_look_up(&store, 5, cechnuol_store_tip(&store), &price);
+ *             answer = cechnuol_store_look_up(&store, CECHNUOL_DESK, 5, cechnuol_store_tip(&store), &price);
  *         if (answer != CECHNUOL_OK) {
  *             printf("%s: %s\n", cechnuol_name(answer), cechnuol_text(answer));
  *             return 1;
@@ -75,8 +76,8 @@ extern "C" {
 /* Version. */
 
 /* The version of this header: major * 1000000 + minor * 1000 + patch, and as text. */
-#define CECHNUOL_VERSION 1000000
-#define CECHNUOL_VERSION_TEXT "1.0.0"
+#define CECHNUOL_VERSION 2000000
+#define CECHNUOL_VERSION_TEXT "2.0.0"
 
 /* The version of the library that is linked, as a number. It differs from CECHNUOL_VERSION where header and library are
  * not of one release. */
@@ -88,14 +89,32 @@ enum {
     CECHNUOL_TABLE_WORDS = 8000,   /* a table has 1 to so many words: an offer with a price takes one */
     CECHNUOL_JOURNAL_WORDS = 4096, /* a journal has 1 to so many words: a change of a held step takes one */
     CECHNUOL_LIST_WORDS = 64,      /* a list or read set has 0 to so many words */
+    CECHNUOL_FOYER_WORDS = 16,     /* one that the foyer issues or forwards has 0 to so many */
     CECHNUOL_BATCH_ORDERS = 64,    /* a batch has 0 to so many orders */
     CECHNUOL_SLOTS = 8,            /* slots are numbered from 0 to 7 */
+    CECHNUOL_FOYER_SLOT = 6,       /* the foyer has the slots from this one on, the desk those below it */
     CECHNUOL_STEPS = 64,           /* so many steps are held at most: tip - oldest */
     CECHNUOL_IMAGE_BYTES = 64006   /* the longest image, that of 8,000 offers */
 };
 
 /* The length in bytes of an image of so many offers. */
 #define CECHNUOL_IMAGE_BYTES_OF(offers) (6 + 8 * (offers))
+
+/* Callers. */
+
+/* Every lookup, issue, forward and release says who calls: the desk, which has slots 0 to 5 and lists of up to 64
+ * words, or the foyer, which has slots 6 and 7 and lists of up to 16. Any other number names the foyer, since that has
+ * less. Lookups are open to both, and who calls makes no difference there. */
+enum {
+    CECHNUOL_DESK = 0,
+    CECHNUOL_FOYER = 1
+};
+
+/* Whose a slot is, where the program itself has to close it. */
+static inline uint32_t cechnuol_caller_of(size_t slot)
+{
+    return slot < CECHNUOL_FOYER_SLOT ? CECHNUOL_DESK : CECHNUOL_FOYER;
+}
 
 /* Entry words and lists. */
 
@@ -280,6 +299,8 @@ enum {
     CECHNUOL_BAD_IMAGE = 15,     /* an image's length, order of offers or kind bits are wrong */
     CECHNUOL_TABLE_FULL = 16,    /* the prices to be flushed or loaded are more than the table has words */
     CECHNUOL_OUTPUT_SHORT = 17,  /* the output is shorter than what is to be written */
+    CECHNUOL_LONG_LIST = 18,     /* a list or read set of the foyer has over 16 words */
+    CECHNUOL_OTHERS_SLOT = 19,   /* the slot is not the caller's: the desk has 0 to 5, the foyer 6 and 7 */
     CECHNUOL_NO_PRICE = 100      /* no refusal: a lookup found that the offer has no price at that state */
 };
 
@@ -305,6 +326,8 @@ static inline const char *cechnuol_name(uint64_t answer)
     case CECHNUOL_BAD_IMAGE: return "BAD_IMAGE";
     case CECHNUOL_TABLE_FULL: return "TABLE_FULL";
     case CECHNUOL_OUTPUT_SHORT: return "OUTPUT_SHORT";
+    case CECHNUOL_LONG_LIST: return "LONG_LIST";
+    case CECHNUOL_OTHERS_SLOT: return "OTHERS_SLOT";
     case CECHNUOL_NO_PRICE: return "NO_PRICE";
     default: return "UNKNOWN";
     }
@@ -332,6 +355,8 @@ static inline const char *cechnuol_text(uint64_t answer)
     case CECHNUOL_BAD_IMAGE: return "the length, the order of offers or a kind bit of the image is wrong";
     case CECHNUOL_TABLE_FULL: return "the state has more prices than the table has words";
     case CECHNUOL_OUTPUT_SHORT: return "the output is shorter than what is to be written";
+    case CECHNUOL_LONG_LIST: return "the foyer's list has over 16 words";
+    case CECHNUOL_OTHERS_SLOT: return "the slot is not the caller's";
     case CECHNUOL_NO_PRICE: return "the offer has no price at that state";
     default: return "the number is no answer";
     }
@@ -387,9 +412,9 @@ uint64_t cechnuol_restart(CECHNUOL_STORE, uint8_t *bytes, size_t byte_count);
  * At STEPS_FULL, which is met where tip - oldest is 64, flush to the tip, or to the highest state that no rollback will
  * go below. To flush and try again is not enough: while a slot is open, no flush lets go a step from its number on. If
  * it is still full, or the flush is refused by TABLE_FULL, and oldest is below the checkpoint, forward or release the
- * slot whose number is the oldest, cechnuol_oldest_slot(head), and then the next, until the commit passes. Where oldest
- * is the checkpoint, no slot holds a step back and to close one frees nothing: what helps then is said at TABLE_FULL of
- * cechnuol_flush.
+ * slot whose number is the oldest, cechnuol_oldest_slot(head), as its caller (cechnuol_caller_of), and then the next,
+ * until the commit passes. Where oldest is the checkpoint, no slot holds a step back and to close one frees nothing:
+ * what helps then is said at TABLE_FULL of cechnuol_flush.
  * At JOURNAL_FULL do the same, but first test the list: one of more than journal_words words never fits, whatever is
  * given up. Commit it in parts, each a state of its own, or move to a store with a longer journal (flush to the tip,
  * write the image, load it there; open reads and the tally stay behind).
@@ -417,32 +442,36 @@ uint64_t cechnuol_roll_back(CECHNUOL_STORE, uint32_t state);
  * first above the checkpoint is k = checkpoint - oldest. Open reads and the tally stay behind. */
 uint64_t cechnuol_flush(CECHNUOL_STORE, uint32_t state);
 
-/* A query. Gives the price of an offer at a state, a number below 2^32, to *price, or answers CECHNUOL_NO_PRICE.
+/* A query. Gives the price of an offer at a state, a number below 2^32, to *price, or answers CECHNUOL_NO_PRICE. It is
+ * open to every caller, and answers all alike.
  * Changes: *price.
  * Refusals: LENGTHS, UNSOUND, BAD_LIST, STATE_RANGE.
  * BAD_LIST is here an offer of 2^31 or more. */
-uint64_t cechnuol_look_up(CECHNUOL_STORE_TO_READ, uint32_t offer, uint32_t state, uint64_t *price);
+uint64_t cechnuol_look_up(CECHNUOL_STORE_TO_READ, uint32_t caller, uint32_t offer, uint32_t state, uint64_t *price);
 
-/* Starts a read: the words, a list of words that ask, become the read set with the prices at the checkpoint, and the
- * slot opens with the checkpoint as its number. Keep the read set as it is for the forward.
+/* Starts a read in a slot of the caller's: the words, a list of words that ask, become the read set with the prices at
+ * the checkpoint, and the slot opens with the checkpoint as its number. Keep the read set as it is for the forward.
  * Changes: words, head.
- * Refusals: LENGTHS, UNSOUND, SLOT_RANGE, SLOT_TAKEN, BAD_LIST.
- * At SLOT_TAKEN use another slot, or forward or release this one. An open slot keeps steps held: close it soon. */
-uint64_t cechnuol_issue(CECHNUOL_STORE, size_t slot, uint64_t *words, size_t word_count);
+ * Refusals: LENGTHS, UNSOUND, SLOT_RANGE, OTHERS_SLOT, SLOT_TAKEN, BAD_LIST, LONG_LIST.
+ * At SLOT_TAKEN use another slot of the caller's, or forward or release this one. An open slot keeps steps held: close
+ * it soon. At LONG_LIST, which only the foyer meets, ask for the offers in several reads. A list of over 64 words, or
+ * with another fault, is BAD_LIST for the foyer too. */
+uint64_t cechnuol_issue(CECHNUOL_STORE, uint32_t caller, size_t slot, uint64_t *words, size_t word_count);
 
-/* Ends a read: the read set that the slot's issue filled gets the prices of its offers at a state from the checkpoint
- * to the tip, and the slot closes. Steps below the checkpoint that no other open slot needs are let go. Only the form
- * of the words is tested: another read set, such as that of an earlier issue of the slot, is brought forward from what
- * it says, and its prices are then wrong.
+/* Ends a read of the caller's: the read set that the slot's issue filled gets the prices of its offers at a state from
+ * the checkpoint to the tip, and the slot closes. Steps below the checkpoint that no other open slot needs are let go.
+ * Only the form of the words is tested: another read set, such as that of an earlier issue of the slot, is brought
+ * forward from what it says, and its prices are then wrong.
  * Changes: words, journal, head.
- * Refusals: LENGTHS, UNSOUND, SLOT_RANGE, SLOT_CLOSED, BAD_LIST, STATE_RANGE. */
-uint64_t cechnuol_forward(CECHNUOL_STORE, size_t slot, uint32_t state, uint64_t *words, size_t word_count);
+ * Refusals: LENGTHS, UNSOUND, SLOT_RANGE, OTHERS_SLOT, SLOT_CLOSED, BAD_LIST, LONG_LIST, STATE_RANGE. */
+uint64_t cechnuol_forward(CECHNUOL_STORE, uint32_t caller, size_t slot, uint32_t state, uint64_t *words,
+                          size_t word_count);
 
-/* Gives a read up: the slot closes. Steps below the checkpoint that no other open slot needs are let go. Tell the
- * reader before the slot is issued again: the unit cannot know whose read set a forward is lent.
+/* Gives up a read of the caller's: the slot closes. Steps below the checkpoint that no other open slot needs are let
+ * go. Tell the reader before the slot is issued again: the unit cannot know whose read set a forward is lent.
  * Changes: journal, head.
- * Refusals: LENGTHS, UNSOUND, SLOT_RANGE, SLOT_CLOSED. */
-uint64_t cechnuol_release(CECHNUOL_STORE, size_t slot);
+ * Refusals: LENGTHS, UNSOUND, SLOT_RANGE, OTHERS_SLOT, SLOT_CLOSED. */
+uint64_t cechnuol_release(CECHNUOL_STORE, uint32_t caller, size_t slot);
 
 /* Prices a batch of orders on a read set, without a store: the orders run in turn, each on what the earlier ones made
  * of the prices. The start of out becomes a list that can be committed, of one word for each offer named with its price
@@ -510,27 +539,27 @@ static inline uint64_t cechnuol_store_flush(struct cechnuol_store *store, uint32
     return cechnuol_flush(CECHNUOL_LENT(store), state);
 }
 
-static inline uint64_t cechnuol_store_look_up(const struct cechnuol_store *store, uint32_t offer, uint32_t state,
-                                              uint64_t *price)
+static inline uint64_t cechnuol_store_look_up(const struct cechnuol_store *store, uint32_t caller, uint32_t offer,
+                                              uint32_t state, uint64_t *price)
 {
-    return cechnuol_look_up(CECHNUOL_LENT_TO_READ(store), offer, state, price);
+    return cechnuol_look_up(CECHNUOL_LENT_TO_READ(store), caller, offer, state, price);
 }
 
-static inline uint64_t cechnuol_store_issue(struct cechnuol_store *store, size_t slot, uint64_t *words,
+static inline uint64_t cechnuol_store_issue(struct cechnuol_store *store, uint32_t caller, size_t slot, uint64_t *words,
                                             size_t word_count)
 {
-    return cechnuol_issue(CECHNUOL_LENT(store), slot, words, word_count);
+    return cechnuol_issue(CECHNUOL_LENT(store), caller, slot, words, word_count);
 }
 
-static inline uint64_t cechnuol_store_forward(struct cechnuol_store *store, size_t slot, uint32_t state,
-                                              uint64_t *words, size_t word_count)
+static inline uint64_t cechnuol_store_forward(struct cechnuol_store *store, uint32_t caller, size_t slot,
+                                              uint32_t state, uint64_t *words, size_t word_count)
 {
-    return cechnuol_forward(CECHNUOL_LENT(store), slot, state, words, word_count);
+    return cechnuol_forward(CECHNUOL_LENT(store), caller, slot, state, words, word_count);
 }
 
-static inline uint64_t cechnuol_store_release(struct cechnuol_store *store, size_t slot)
+static inline uint64_t cechnuol_store_release(struct cechnuol_store *store, uint32_t caller, size_t slot)
 {
-    return cechnuol_release(CECHNUOL_LENT(store), slot);
+    return cechnuol_release(CECHNUOL_LENT(store), caller, slot);
 }
 
 /* What the head of a store says: the numbers of its oldest state, its checkpoint and its tip, whether a slot is open (0

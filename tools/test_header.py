@@ -30,6 +30,10 @@ FILES = {
     "layout": "crates/layout/src/head.rt",
     "clauses": "crates/layout/specs/Clauses.antt",
     "slots": "crates/slots/specs/Slots.antt",
+    "callers": "crates/slots/specs/Callers.antt",
+    "callers_code": "crates/slots/src/callers.rt",
+    "caller_numbers": "crates/lent/specs/Callers.antt",
+    "caller_numbers_code": "crates/lent/src/callers.rt",
     "commit": "crates/commits/specs/Commit.antt",
     "rules": "crates/lists/src/rules.rt",
     "lists": "crates/changes/specs/Lists.antt",
@@ -55,8 +59,14 @@ LIMITS = {
     "SLOTS": [
         ("layout", "pub const SLOTS: usize = ", ";"),
         ("clauses", "slotsB checkpoint taken issued = allB ", " (slotB"),
-        ("slots", "slotGrounds reader = met (leb ", " (reader .slot)) SlotRange"),
+        ("slots", "met (leb ", " (reader .slot)) SlotRange"),
     ],
+    "FOYER_SLOT": [
+        ("callers_code", "pub const FOYER_SLOT: usize = ", ";"),
+        ("callers", "hasB Desk slot = ltb slot ", "\n"),
+        ("callers", "hasB Foyer slot = leb ", " slot"),
+    ],
+    "FOYER_WORDS": [("callers_code", "pub const FOYER_WORDS: usize = ", ";"), ("callers", "mostWords Foyer = ", "\n")],
     "STEPS": [
         ("layout", "pub const STEPS: usize = ", ";"),
         ("clauses", "leb (tip - oldest) ", " ∷"),
@@ -167,11 +177,19 @@ def of_answers(numbers, codes):
     return {"OK": int(accepted), **grounds, "NO_PRICE": int(no_price)}
 
 
+def of_callers(of):
+    """The number of each caller. The first has one number, in code and definition, and the second all others: the next is its own."""
+    first, callers = re.search(r"^callerOf number = cond \(eqb number (\d+)\) (\w+ \w+)$", of["caller_numbers"], re.M).groups()
+    names = [constant(name) for name in callers.split()]
+    sure(number_in(of["caller_numbers_code"], f"pub const {names[0]}: u32 = ", ";") == int(first), "code and definition have one desk")
+    return {name: int(first) + place for place, name in enumerate(names)}
+
+
 def differing(of):
     """The constants that header and definitions do not have alike."""
     limits, head, tally = of_limits(of), of_head(of["head"]), of_tally(of["lent"])
     sure(limits["HEAD_WORDS"] == head["HEAD_WORDS"] and limits["TALLY_WORDS"] == tally["TALLY_WORDS"], "the sizes of head and tally")
-    defined = {**limits, **head, **tally, **of_kinds(of), **of_answers(of["numbers"], of["codes"])}
+    defined = {**limits, **head, **tally, **of_callers(of), **of_kinds(of), **of_answers(of["numbers"], of["codes"])}
     header = in_header(of["header"])
     return sorted(name for name in defined.keys() | header.keys() if defined.get(name) != header.get(name))
 
@@ -368,6 +386,8 @@ class Constants(Held):
             ("numbers", r"^numberOf \w+ = (\d+)"),
             ("codes", r"^noPrice = (\d+)"),
             ("codes", r"^codeOf \(accepted n\) = (\d+)"),
+            ("caller_numbers", r"cond \(eqb number (\d+)\)"),
+            ("caller_numbers_code", r"pub const DESK: u32 = (\d+);"),
             ("orders", r"cond \(eqb k (\d+)\)"),
             ("orders", r"leb (\d+) k && leb k \d+"),
             ("orders", r"leb \d+ k && leb k (\d+)"),
@@ -390,6 +410,7 @@ class Constants(Held):
             ("header", "CECHNUOL_COMMITTED = 0,\n    CECHNUOL_ROLLED_BACK = 1,", "CECHNUOL_COMMITTED = 1,\n    CECHNUOL_ROLLED_BACK = 0,"),
             ("head", "head .oldest ∷ head .checkpoint ∷", "head .checkpoint ∷ head .oldest ∷"),
             ("lent", "tally .committed ∷ tally .«rolled_back»", "tally .«rolled_back» ∷ tally .committed"),
+            ("caller_numbers", "(eqb number 0) Desk Foyer", "(eqb number 0) Foyer Desk"),
         ]
         for file, old, new in edits:
             self.is_noticed(self.edited(file, old, new), new)
@@ -406,7 +427,8 @@ class Prototypes(Held):
 
     def test_each_difference_is_noticed(self):
         edits = [
-            ("header", "cechnuol_release(CECHNUOL_STORE, size_t slot);", "cechnuol_release(CECHNUOL_STORE, uint32_t slot);", 1),
+            ("header", "cechnuol_release(CECHNUOL_STORE, uint32_t caller, size_t slot)", "cechnuol_release(CECHNUOL_STORE, size_t slot)", 1),
+            ("header", "uint32_t caller, uint32_t offer, uint32_t state, uint64_t *price)", "uint32_t offer, uint32_t caller, uint32_t state, uint64_t *price)", 1),
             ("header", "size_t slot, uint32_t state, uint64_t *words", "uint32_t state, size_t slot, uint64_t *words", 1),
             ("header", "        uint64_t tally[CECHNUOL_TALLY_WORDS]", "        uint64_t *tally, size_t tally_words", 9),
             ("header", "        const uint64_t head[CECHNUOL_HEAD_WORDS]", "        uint64_t head[CECHNUOL_HEAD_WORDS]", 2),
@@ -456,7 +478,7 @@ class Comments(Held):
             ("header", "Changes: words, head.", "Changes: words, head, tally.", ["issue"]),
             ("header", "Changes: words, journal, head.", "Changes: words, head.", ["forward"]),
             ("changes", "lent.words, 2), WORDS | HEAD);", "lent.words, 2), WORDS);", ["issue"]),
-            ("changes", "    CHANGES(cechnuol_release(STORE, 0), JOURNAL | HEAD);\n", "", ["release"]),
+            ("changes", "    CHANGES(cechnuol_release(STORE, CECHNUOL_DESK, 0), JOURNAL | HEAD);\n", "", ["release"]),
         ]
         for file, old, new, calls in edits:
             self.assertEqual(otherwise_changed(self.edited(file, old, new)), calls, new)
@@ -470,14 +492,14 @@ class Versions(Held):
 
     def test_each_is_compared(self):
         edits = [
-            ("header", "#define CECHNUOL_VERSION 1000000", "#define CECHNUOL_VERSION 1000001"),
-            ("header", '_VERSION_TEXT "1.0.0"', '_VERSION_TEXT "1.0.1"'),
-            ("version", "version = 1000000", "version = 1001000"),
-            ("version_code", "VERSION: u64 = 1000000", "VERSION: u64 = 2000000"),
+            ("header", "#define CECHNUOL_VERSION 2000000", "#define CECHNUOL_VERSION 2000001"),
+            ("header", '_VERSION_TEXT "2.0.0"', '_VERSION_TEXT "2.0.1"'),
+            ("version", "version = 2000000", "version = 2001000"),
+            ("version_code", "VERSION: u64 = 2000000", "VERSION: u64 = 1000000"),
         ]
         for file, old, new in edits:
             self.assertEqual(len(set(versions(self.edited(file, old, new)))), 2, new)
-        self.assertEqual(set(versions({**texts(), "rust": 'version = "1.0.9"\n'})), {"1.0.0", "1.0.9"})
+        self.assertEqual(set(versions({**texts(), "rust": 'version = "2.0.9"\n'})), {"2.0.0", "2.0.9"})
 
 
 class Answers(Held):
@@ -488,7 +510,7 @@ class Answers(Held):
         edits = [
             ('case CECHNUOL_UNSOUND: return "UNSOUND";', 'case CECHNUOL_UNSOUND: return "LENGTHS";', [2]),
             ('    case CECHNUOL_NO_PRICE: return "NO_PRICE";\n', "", [100]),
-            ('default: return "UNKNOWN";', 'default: return "OK";', [*range(18, 100), *range(101, 300)]),
+            ('default: return "UNKNOWN";', 'default: return "OK";', [*range(20, 100), *range(101, 300)]),
         ]
         for old, new, codes in edits:
             self.assertEqual(misnamed(self.edited("header", old, new)), codes, new)

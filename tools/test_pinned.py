@@ -185,7 +185,7 @@ class Functions(Copies):
 
     def test_a_contract_weakened(self):
         text = (self.root / self.STORE).read_text()
-        words = re.search(r"\n        × \(now \(words \.exit\)[^⌝]*\(issue slot\)\)", text)[0]
+        words = re.search(r"\n        × \(now \(words \.exit\)[^⌝]*\(issue caller slot\)\)", text)[0]
         self.says_else("cechnuol/src/store.rt cechnuol_issue", (self.STORE, words, ""))
         self.says_else("unit/src/serve.rt serve", ("crates/unit/src/serve.rt", "Replies (now (tally .entry))", "Weaker (now (tally .entry))"))
 

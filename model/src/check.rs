@@ -1,6 +1,8 @@
 //! The model's check of itself: the store on raw memory against the plain list of whole maps, over the named calls of
-//! document 01's third condition; two stores with different flushes; and batches against orders run on whole maps.
+//! document 01's third condition; two stores with different flushes and callers; and batches against orders run on whole
+//! maps.
 
+use crate::caller::Caller;
 use crate::changes::{apply, changes_of, map_of, words_of, Map};
 use crate::draw::Draw;
 use crate::head::{count_on, Tally};
@@ -18,10 +20,12 @@ pub struct Report {
     /// Calls made on a unit and on a plain list.
     pub calls: u64,
     pub accepted: u64,
-    /// The refusals among them: the call's word and document 01's number.
+    /// The refusals among them: the call's word and the ground's number.
     pub refusals: BTreeSet<(&'static str, u8)>,
     /// Prices and forwarded reads compared in two stores with different flushes.
     pub compared: u64,
+    /// Those of them that the desk asked in one store and the foyer in the other.
+    pub by_both: u64,
     pub batches: u64,
 }
 
@@ -39,10 +43,10 @@ impl Report {
 
 impl fmt::Display for Report {
     fn fmt(&self, f: &mut fmt::Formatter<'_>) -> fmt::Result {
-        let Report { runs, calls, accepted, refusals, compared, batches } = self;
+        let Report { runs, calls, accepted, refusals, compared, by_both, batches } = self;
         let refusals = refusals.len();
         write!(f, "runs {runs} calls {calls} accepted {accepted} refusals met {refusals} ")?;
-        write!(f, "compared in two stores {compared} batches {batches}")
+        write!(f, "compared in two stores {compared} by both callers {by_both} batches {batches}")
     }
 }
 
@@ -139,17 +143,27 @@ const MANY_COMMITS: [usize; 9] = [2, 80, 2, 2, 10, 4, 2, 1, 1];
 fn draw_call(draw: &mut Draw, weights: &[usize; 9], unit: &mut Unit) -> Call {
     let head = &unit.store.head;
     let state = draw.state(head);
+    let caller = draw.caller();
     match draw.rng.weighted(weights) {
         0 if draw.rng.percent(95) => Call::Commit { list: draw.changes() },
         0 => Call::Commit { list: draw.broken_list() },
         1 => Call::Commit { list: draw.short_changes() },
         2 => Call::RollBack { state },
         3 => Call::Flush { state },
-        4 if draw.rng.percent(95) => Call::LookUp { offer: draw.offer(), state },
-        4 => Call::LookUp { offer: draw.offer() + word::OFFERS, state },
-        5 => Call::Issue { slot: draw.slot(&head.held, false), list: draw_question(draw) },
-        6 => Call::Forward { slot: draw.slot(&head.held, true), state, with: None },
-        7 => Call::Release { slot: draw.slot(&head.held, true) },
+        4 if draw.rng.percent(95) => Call::LookUp { caller, offer: draw.offer(), state },
+        4 => Call::LookUp { caller, offer: draw.offer() + word::OFFERS, state },
+        5 => {
+            let (caller, slot) = draw.slot(&head.held, false);
+            Call::Issue { caller, slot, list: draw_question(draw, caller) }
+        }
+        6 => {
+            let (caller, slot) = draw.slot(&head.held, true);
+            Call::Forward { caller, slot, state, with: None }
+        }
+        7 => {
+            let (caller, slot) = draw.slot(&head.held, true);
+            Call::Release { caller, slot }
+        }
         _ => {
             let exact = image::length(head.used as usize);
             unit.bytes = vec![0xEE; draw.rng.pick(&[exact, exact - 1, exact + 9])];
@@ -158,11 +172,14 @@ fn draw_call(draw: &mut Draw, weights: &[usize; 9], unit: &mut Unit) -> Call {
     }
 }
 
-fn draw_question(draw: &mut Draw) -> Vec<u64> {
-    match draw.rng.below(20) {
+/// A list for an issue; the foyer's are often near the most words that it may list.
+fn draw_question(draw: &mut Draw, caller: Caller) -> Vec<u64> {
+    let edges = if caller == Caller::Foyer { 15 } else { 1 };
+    match draw.rng.weighted(&[1, 1, 18, edges]) {
         0 => draw.broken_list(),
         1 => vec![word::entry(draw.offer(), Some(0))],
-        _ => draw.questions(),
+        2 => draw.questions(),
+        _ => draw.edge_questions(),
     }
 }
 
@@ -192,24 +209,24 @@ impl Pair {
             Call::Commit { list } => plain.commit(list).map(|()| Answer::Done),
             Call::RollBack { state } => plain.roll_back(*state).map(|()| Answer::Done),
             Call::Flush { state } => plain.flush(*state).map(|()| Answer::Done),
-            Call::LookUp { offer, state } => {
+            Call::LookUp { caller: _, offer, state } => {
                 plain.look_up(*offer, *state).map(|price| price.map_or(Answer::NoPrice, Answer::Price))
             }
-            Call::Issue { slot, list } => {
+            Call::Issue { caller, slot, list } => {
                 words = list.clone();
-                plain.issue(*slot, list).map(|filled| {
+                plain.issue(*caller, *slot, list).map(|filled| {
                     words = filled;
                     Answer::Done
                 })
             }
-            Call::Forward { slot, state, .. } => {
+            Call::Forward { caller, slot, state, .. } => {
                 words = before.filled.read_set(*slot, None);
-                plain.forward(*slot, *state).map(|shown| {
+                plain.forward(*caller, *slot, *state).map(|shown| {
                     words = shown;
                     Answer::Done
                 })
             }
-            Call::Release { slot } => plain.release(*slot).map(|()| Answer::Done),
+            Call::Release { caller, slot } => plain.release(*caller, *slot).map(|()| Answer::Done),
             Call::WriteImage => plain.write_image(bytes.len()).map(|image| {
                 bytes[..image.len()].copy_from_slice(&image);
                 Answer::Count(image.len())
@@ -283,23 +300,25 @@ fn runs_after(pair: &Pair, calls: &[Call], length: usize) -> Result<u64, String>
     Ok(count)
 }
 
-/// Calls on offers 0 and 1, states 0 to 2 and slots 0 and 1.
+/// Calls on offers 0 and 1, states 0 to 2, and a slot of the desk's and one of the foyer's, by either of them.
 fn few_calls() -> Vec<Call> {
     let puts = [word::entry(0, Some(0)), word::entry(1, Some(1))];
     let removals = [word::entry(0, None), word::entry(1, None)];
     let lists = [vec![], vec![puts[0]], vec![removals[0]], vec![puts[1]], vec![removals[0], puts[1]]];
     let mut calls: Vec<Call> = lists.map(|list| Call::Commit { list }).into();
+    let slots = [(Caller::Desk, 0), (Caller::Foyer, 6), (Caller::Foyer, 0), (Caller::Desk, 6)];
     for state in 0..3 {
         calls.extend([Call::RollBack { state }, Call::Flush { state }]);
-        calls.extend([0, 1].map(|slot| Call::Forward { slot, state, with: None }));
+        calls.extend(slots.map(|(caller, slot)| Call::Forward { caller, slot, state, with: None }));
     }
-    for slot in 0..2 {
-        calls.extend([Call::Issue { slot, list: removals.to_vec() }, Call::Release { slot }]);
+    for (caller, slot) in slots {
+        calls.push(Call::Issue { caller, slot, list: removals.to_vec() });
+        calls.push(Call::Release { caller, slot });
     }
     calls
 }
 
-// Two stores whose accepted calls agree, flushes apart.
+// Two stores whose accepted calls agree, flushes and callers apart.
 
 fn two_stores(seed: u64, report: &mut Report) -> Result<(), String> {
     let mut draw = Draw::new(!seed);
@@ -317,9 +336,29 @@ fn two_stores(seed: u64, report: &mut Report) -> Result<(), String> {
         if matches!(call, Call::Flush { .. }) {
             continue;
         }
-        report.compared += u64::from(step_both(&mut units, &call)?);
+        let other = same_call(&mut draw, &call);
+        if step_both(&mut units, [&call, &other])? {
+            report.compared += 1;
+            report.by_both += u64::from(call != other);
+        }
     }
     Ok(())
+}
+
+/// The call once more, at times from the other caller: two calls are the same whoever makes them. A slot takes calls from one
+/// caller only, so that both stores accept them from different ones where they are lookups.
+fn same_call(draw: &mut Draw, call: &Call) -> Call {
+    let mut same = call.clone();
+    match &mut same {
+        Call::LookUp { caller, .. } => *caller = draw.caller(),
+        Call::Issue { caller, .. } | Call::Forward { caller, .. } | Call::Release { caller, .. }
+            if draw.rng.percent(5) =>
+        {
+            *caller = caller.other();
+        }
+        _ => {}
+    }
+    same
 }
 
 fn loaded(draw: &mut Draw, bytes: &[u8]) -> Unit {
@@ -329,17 +368,17 @@ fn loaded(draw: &mut Draw, bytes: &[u8]) -> Unit {
     unit
 }
 
-/// Makes a call on both stores if both accept it; says whether it showed a price or a forwarded read.
-fn step_both(units: &mut [Unit; 2], call: &Call) -> Result<bool, String> {
+/// Makes a call on each store if both accept theirs; says whether they showed a price or a forwarded read.
+fn step_both(units: &mut [Unit; 2], calls: [&Call; 2]) -> Result<bool, String> {
     let mut after = units.clone();
-    let replies = [after[0].serve(call), after[1].serve(call)];
+    let replies = [after[0].serve(calls[0]), after[1].serve(calls[1])];
     if replies.iter().any(|reply| matches!(reply.answer, Answer::Refused(_))) {
         return Ok(false);
     }
     *units = after;
-    let compared = matches!(call, Call::LookUp { .. } | Call::Forward { .. });
+    let compared = matches!(calls[0], Call::LookUp { .. } | Call::Forward { .. });
     if compared {
-        expect(&format!("two stores: {call:?}"), &replies[0], &replies[1])?;
+        expect(&format!("two stores: {calls:?}"), &replies[0], &replies[1])?;
     }
     Ok(compared)
 }

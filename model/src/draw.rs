@@ -1,9 +1,11 @@
-//! Drawing arguments: offers, prices, lists, states and slots, with their ends drawn often.
+//! Drawing arguments: offers, prices, lists, states, slots and callers, with their ends drawn often.
 
+use crate::caller::{Caller, FOYER_WORDS};
 use crate::changes::Changes;
 use crate::head::{Head, SLOTS};
 use crate::rng::Rng;
 use crate::word;
+use std::collections::BTreeSet;
 
 /// A random source and the offers that are drawn most often.
 #[derive(Clone, Debug)]
@@ -98,6 +100,46 @@ impl Draw {
         self.offers(length).into_iter().map(|offer| word::entry(offer, None)).collect()
     }
 
+    /// So many different offers, rising: of the pool, and others where it has too few.
+    fn exactly(&mut self, count: usize) -> BTreeSet<u32> {
+        let mut offers: BTreeSet<u32> = self.offers(count).into_iter().collect();
+        while offers.len() < count {
+            offers.insert(self.rng.below(4 * count) as u32);
+        }
+        offers
+    }
+
+    /// A length near the most words that a caller may list.
+    fn edge(&mut self) -> usize {
+        let most = self.rng.pick(&[FOYER_WORDS, FOYER_WORDS, word::LIST_WORDS]);
+        self.rng.within(most - 1, most + 1)
+    }
+
+    /// A list of kind 0 words of such a length, at times with one that breaks its rules or is of kind 1.
+    pub fn edge_questions(&mut self) -> Vec<u64> {
+        let length = self.edge();
+        let list = self.exactly(length).into_iter().map(|offer| word::entry(offer, None)).collect();
+        self.perhaps_spoilt(list)
+    }
+
+    /// A list of such a length, at times with a word that breaks its rules.
+    pub fn edge_changes(&mut self) -> Vec<u64> {
+        let length = self.edge();
+        let offers = self.exactly(length);
+        let list = offers.into_iter().map(|offer| word::entry(offer, self.maybe_price())).collect();
+        self.perhaps_spoilt(list)
+    }
+
+    /// Words, one of which, often the last, may get another kind or price.
+    fn perhaps_spoilt(&mut self, mut words: Vec<u64>) -> Vec<u64> {
+        if self.rng.percent(20) {
+            let last = words.len() - 1;
+            let at = self.rng.below(words.len());
+            words[self.rng.pick(&[at, last])] ^= self.rng.pick(&[1, 1 << 63]);
+        }
+        words
+    }
+
     /// The words of a map with at most so many offers.
     pub fn map(&mut self, most: usize) -> Vec<u64> {
         let count = self.rng.within(0, most.min(self.pool.len()));
@@ -140,14 +182,31 @@ impl Draw {
         self.rng.pick(&[below, below, oldest, above, above, checkpoint, tip, 0, u32::MAX, anything])
     }
 
-    /// A slot, mostly one that is open or closed as wanted.
-    pub fn slot(&mut self, held: &[bool; SLOTS], open: bool) -> u64 {
+    /// A slot, mostly one that is open or closed as wanted, and who calls for it.
+    pub fn slot(&mut self, held: &[bool; SLOTS], open: bool) -> (Caller, u64) {
         let fitting: Vec<u64> = (0..SLOTS as u64).filter(|&slot| held[slot as usize] == open).collect();
-        match self.rng.weighted(&[16, 3, 1]) {
+        let slot = match self.rng.weighted(&[16, 3, 1]) {
             0 if !fitting.is_empty() => self.rng.pick(&fitting),
             2 => self.rng.pick(&[8, 9, 255, 1 << 32, u64::MAX]),
             _ => self.rng.below(SLOTS) as u64,
+        };
+        (self.caller_for(slot), slot)
+    }
+
+    /// Who calls for a slot: mostly the one whose it is.
+    fn caller_for(&mut self, slot: u64) -> Caller {
+        let callers = [Caller::Desk, Caller::Foyer];
+        let whose = callers.into_iter().find(|caller| caller.slots().contains(&(slot as usize)));
+        match whose {
+            Some(whose) if self.rng.percent(90) => whose,
+            Some(whose) => whose.other(),
+            None => self.caller(),
         }
+    }
+
+    /// Who calls, either as often.
+    pub fn caller(&mut self) -> Caller {
+        self.rng.pick(&[Caller::Desk, Caller::Foyer])
     }
 
     /// A read set for a batch: offers with their prices or none.

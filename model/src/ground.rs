@@ -1,6 +1,6 @@
-//! The grounds for turning a call away, with document 01's numbers.
+//! The grounds for turning a call away, with the numbers of document 01 and of those that joined them.
 
-/// A ground; its number is document 01's.
+/// A ground and its number.
 #[derive(Clone, Copy, Debug, PartialEq, Eq, PartialOrd, Ord)]
 pub enum Ground {
     /// The table's or the journal's length is outside its range.
@@ -37,10 +37,14 @@ pub enum Ground {
     TableFull = 16,
     /// Output is shorter than what is to be written.
     Output = 17,
+    /// A list that the foyer issues or forwards has over 16 words.
+    LongList = 18,
+    /// The slot is not the caller's.
+    OthersSlot = 19,
 }
 
 impl Ground {
-    /// Document 01's number.
+    /// The number.
     pub fn number(self) -> u8 {
         self as u8
     }

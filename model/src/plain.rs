@@ -2,6 +2,7 @@
 //!
 //! It is fed the load's image, the calls' arguments except a forward's read set, and the lengths lent.
 
+use crate::caller::Caller;
 use crate::changes::{apply, changes_of, map_of, map_words, read, Map};
 use crate::ground::{unless, Ground};
 use crate::head::{SLOTS, STEPS};
@@ -67,14 +68,16 @@ impl Plain {
         &self.lists[(self.oldest() - self.first) as usize..]
     }
 
-    fn test_slot(&self, slot: u64) -> Result<usize, Ground> {
-        unless(slot < SLOTS as u64, Ground::Slot)?;
-        Ok(slot as usize)
+    /// Grounds 3 and 19, and the slot as an index.
+    fn test_slot(&self, caller: Caller, slot: u64) -> Result<usize, Ground> {
+        let index = usize::try_from(slot).ok().filter(|&index| index < SLOTS).ok_or(Ground::Slot)?;
+        unless(caller.slots().contains(&index), Ground::OthersSlot)?;
+        Ok(index)
     }
 
-    /// Grounds 3 and 5, and the open slot's index and reading.
-    fn test_reading(&self, slot: u64) -> Result<(usize, &Reading), Ground> {
-        let slot = self.test_slot(slot)?;
+    /// Grounds 3, 19 and 5, and the open slot's index and reading.
+    fn test_reading(&self, caller: Caller, slot: u64) -> Result<(usize, &Reading), Ground> {
+        let slot = self.test_slot(caller, slot)?;
         let reading = self.slots[slot].as_ref().ok_or(Ground::SlotClosed)?;
         Ok((slot, reading))
     }
@@ -113,7 +116,7 @@ impl Plain {
         Ok(())
     }
 
-    /// A lookup reads the map of the state named.
+    /// A lookup reads the map of the state named, whoever asks.
     pub fn look_up(&self, offer: u32, state: u32) -> Result<Option<u32>, Ground> {
         unless(offer < word::OFFERS, Ground::List)?;
         self.test_state(state)?;
@@ -121,20 +124,23 @@ impl Plain {
     }
 
     /// An issue opens its slot with the checkpoint's number and its list's offers. Gives the list as filled.
-    pub fn issue(&mut self, slot: u64, list: &[u64]) -> Result<Vec<u64>, Ground> {
-        let slot = self.test_slot(slot)?;
+    pub fn issue(&mut self, caller: Caller, slot: u64, list: &[u64]) -> Result<Vec<u64>, Ground> {
+        let slot = self.test_slot(caller, slot)?;
         unless(self.slots[slot].is_none(), Ground::SlotOpen)?;
         unless(word::is_list(list), Ground::List)?;
         unless(list.iter().all(|&word| word::kind(word) == 0), Ground::List)?;
+        unless(list.len() <= caller.list_words(), Ground::LongList)?;
         let offers: Vec<u32> = list.iter().map(|&word| word::offer(word)).collect();
         let filled = read(self.map_at(self.checkpoint), &offers);
         self.slots[slot] = Some(Reading { number: self.checkpoint, offers });
         Ok(filled)
     }
 
-    /// A forward gives, for each of the slot's offers, the word that shows it at the state, and closes the slot.
-    pub fn forward(&mut self, slot: u64, state: u32) -> Result<Vec<u64>, Ground> {
-        let (slot, reading) = self.test_reading(slot)?;
+    /// A forward gives, for each of the slot's offers, the word that shows it at the state, and closes the slot. Ground 18 is
+    /// about those offers: the read set has as many words, and is not seen here.
+    pub fn forward(&mut self, caller: Caller, slot: u64, state: u32) -> Result<Vec<u64>, Ground> {
+        let (slot, reading) = self.test_reading(caller, slot)?;
+        unless(reading.offers.len() <= caller.list_words(), Ground::LongList)?;
         self.test_state(state)?;
         let shown = read(self.map_at(state), &reading.offers);
         self.slots[slot] = None;
@@ -142,8 +148,8 @@ impl Plain {
     }
 
     /// A release closes the slot.
-    pub fn release(&mut self, slot: u64) -> Result<(), Ground> {
-        let (slot, _) = self.test_reading(slot)?;
+    pub fn release(&mut self, caller: Caller, slot: u64) -> Result<(), Ground> {
+        let (slot, _) = self.test_reading(caller, slot)?;
         self.slots[slot] = None;
         Ok(())
     }

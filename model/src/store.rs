@@ -1,5 +1,6 @@
 //! The store on raw memory: table, journal, head and tally, and every call on them, as document 01 says it.
 
+use crate::caller::Caller;
 use crate::changes::{apply, changes_of, compose, map_of, map_words, read, Changes, Map};
 use crate::ground::{unless, Ground};
 use crate::head::{count_on, Head, Tally, SLOTS, STEPS};
@@ -49,10 +50,17 @@ impl Store {
         unless(self.is_sound(), Ground::Unsound)
     }
 
-    /// Ground 3, and the slot as an index.
-    fn test_slot(&self, slot: u64) -> Result<usize, Ground> {
+    /// Grounds 3 and 19, and the slot as an index.
+    fn test_slot(&self, caller: Caller, slot: u64) -> Result<usize, Ground> {
         unless(slot < SLOTS as u64, Ground::Slot)?;
-        Ok(slot as usize)
+        let slot = slot as usize;
+        unless(caller.slots().contains(&slot), Ground::OthersSlot)?;
+        Ok(slot)
+    }
+
+    /// Ground 18. At the desk ground 6 has turned such a list away.
+    fn test_words(&self, caller: Caller, list: &[u64]) -> Result<(), Ground> {
+        unless(list.len() <= caller.list_words(), Ground::LongList)
     }
 
     /// Ground 11.
@@ -209,7 +217,7 @@ impl Store {
 
     // Reads.
 
-    /// An offer's price, or none, at a state.
+    /// An offer's price, or none, at a state, whoever asks.
     pub fn look_up(&self, offer: u32, state: u32) -> Result<Option<u32>, Ground> {
         self.test_store()?;
         unless(offer < word::OFFERS, Ground::List)?;
@@ -218,12 +226,13 @@ impl Store {
     }
 
     /// Fills a list of kind 0 words from the table and opens a slot.
-    pub fn issue(&mut self, slot: u64, list: &mut [u64]) -> Result<(), Ground> {
+    pub fn issue(&mut self, caller: Caller, slot: u64, list: &mut [u64]) -> Result<(), Ground> {
         self.test_store()?;
-        let slot = self.test_slot(slot)?;
+        let slot = self.test_slot(caller, slot)?;
         unless(!self.head.held[slot], Ground::SlotOpen)?;
         let kind_0 = list.iter().all(|&word| word::kind(word) == 0);
         unless(word::is_list(list) && kind_0, Ground::List)?;
+        self.test_words(caller, list)?;
         let offers: Vec<u32> = list.iter().map(|&word| word::offer(word)).collect();
         list.copy_from_slice(&read(&map_of(self.used_words()), &offers));
         self.head.held[slot] = true;
@@ -232,11 +241,18 @@ impl Store {
     }
 
     /// Applies to a read set, for its own offers, the steps from the slot's number to a state; closes the slot.
-    pub fn forward(&mut self, slot: u64, state: u32, reads: &mut [u64]) -> Result<(), Ground> {
+    pub fn forward(
+        &mut self,
+        caller: Caller,
+        slot: u64,
+        state: u32,
+        reads: &mut [u64],
+    ) -> Result<(), Ground> {
         self.test_store()?;
-        let slot = self.test_slot(slot)?;
+        let slot = self.test_slot(caller, slot)?;
         unless(self.head.held[slot], Ground::SlotClosed)?;
         unless(word::is_list(reads), Ground::List)?;
+        self.test_words(caller, reads)?;
         self.test_state(state)?;
         let net = self.net_changes(self.head.issued[slot], state);
         for word in reads {
@@ -250,9 +266,9 @@ impl Store {
     }
 
     /// Closes a slot (document 01: drop).
-    pub fn release(&mut self, slot: u64) -> Result<(), Ground> {
+    pub fn release(&mut self, caller: Caller, slot: u64) -> Result<(), Ground> {
         self.test_store()?;
-        let slot = self.test_slot(slot)?;
+        let slot = self.test_slot(caller, slot)?;
         unless(self.head.held[slot], Ground::SlotClosed)?;
         self.close(slot);
         Ok(())

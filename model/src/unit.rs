@@ -1,6 +1,7 @@
 //! The calls as values, their answers, and a unit that serves them on memory it is lent.
 
 use crate::batch;
+use crate::caller::Caller;
 use crate::ground::Ground;
 use crate::head::SLOTS;
 use crate::store::Store;
@@ -23,20 +24,24 @@ pub enum Call {
         state: u32,
     },
     LookUp {
+        caller: Caller,
         offer: u32,
         state: u32,
     },
     Issue {
+        caller: Caller,
         slot: u64,
         list: Vec<u64>,
     },
     /// Without words of its own a forward takes what the slot's last accepted issue filled.
     Forward {
+        caller: Caller,
         slot: u64,
         state: u32,
         with: Option<Vec<u64>>,
     },
     Release {
+        caller: Caller,
         slot: u64,
     },
     PriceBatch {
@@ -62,6 +67,17 @@ impl Call {
             Call::Forward { .. } => "forward",
             Call::Release { .. } => "release",
             Call::PriceBatch { .. } => "price_batch",
+        }
+    }
+
+    /// Who calls, where a call says it.
+    pub fn caller(&self) -> Option<Caller> {
+        match self {
+            Call::LookUp { caller, .. }
+            | Call::Issue { caller, .. }
+            | Call::Forward { caller, .. }
+            | Call::Release { caller, .. } => Some(*caller),
+            _ => None,
         }
     }
 }
@@ -145,27 +161,29 @@ impl Unit {
             Call::Commit { list } => done(store.commit(list)),
             Call::RollBack { state } => done(store.roll_back(*state)),
             Call::Flush { state } => done(store.flush(*state)),
-            Call::LookUp { offer, state } => quoted(store.look_up(*offer, *state)),
-            Call::Release { slot } => done(store.release(*slot)),
-            Call::Issue { slot, list } => return self.issue(*slot, list),
-            Call::Forward { slot, state, with } => return self.forward(*slot, *state, with.as_deref()),
+            Call::LookUp { caller: _, offer, state } => quoted(store.look_up(*offer, *state)),
+            Call::Release { caller, slot } => done(store.release(*caller, *slot)),
+            Call::Issue { caller, slot, list } => return self.issue(*caller, *slot, list),
+            Call::Forward { caller, slot, state, with } => {
+                return self.forward(*caller, *slot, *state, with.as_deref());
+            }
             Call::PriceBatch { reads, orders, output } => return price_batch(reads, orders, output),
         };
         Reply { answer, words: Vec::new() }
     }
 
-    fn issue(&mut self, slot: u64, list: &[u64]) -> Reply {
+    fn issue(&mut self, caller: Caller, slot: u64, list: &[u64]) -> Reply {
         let mut words = list.to_vec();
-        let outcome = self.store.issue(slot, &mut words);
+        let outcome = self.store.issue(caller, slot, &mut words);
         if outcome.is_ok() {
             self.filled.keep(slot, &words);
         }
         Reply { answer: done(outcome), words }
     }
 
-    fn forward(&mut self, slot: u64, state: u32, with: Option<&[u64]>) -> Reply {
+    fn forward(&mut self, caller: Caller, slot: u64, state: u32, with: Option<&[u64]>) -> Reply {
         let mut words = self.filled.read_set(slot, with);
-        let answer = done(self.store.forward(slot, state, &mut words));
+        let answer = done(self.store.forward(caller, slot, state, &mut words));
         Reply { answer, words }
     }
 }

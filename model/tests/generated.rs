@@ -2,7 +2,8 @@
 
 mod common;
 
-use common::{all_answers, run, ANSWERS};
+use common::{all_answers, refusals, run, ANSWERS};
+use model::caller::Caller;
 use model::check::{all_short_runs, self_check};
 use model::gen::{script, Coverage};
 use model::sound::CLAUSES;
@@ -27,6 +28,7 @@ fn generated_scripts_meet_everything() {
     let mut unbroken = Vec::new();
     for (call, answers) in ANSWERS.iter().filter(|(_, answers)| answers.contains(&"refused 2")) {
         assert!(answers.contains(&"refused 1"));
+        let call = call.trim_end_matches(" foyer");
         unbroken.extend(
             CLAUSES.iter().filter(|&&clause| !met.broken.contains(&(call, clause))).map(|c| (call, c)),
         );
@@ -38,10 +40,17 @@ fn generated_scripts_meet_everything() {
     for length in [0, 1, 4096, 4097, 4608] {
         assert!(met.journals.contains(&length), "journal {length}");
     }
-    for call in ["commit", "issue", "forward", "price_batch"] {
-        let from = usize::from(call == "price_batch");
-        for length in [from, 1, 64, 65] {
-            assert!(met.lists.contains(&(call, length)), "{call} with {length} words");
+    let (desk, foyer) = (Some(Caller::Desk), Some(Caller::Foyer));
+    for (call, caller, lengths) in [
+        ("commit", None, &[0, 1, 64, 65][..]),
+        ("issue", desk, &[0, 1, 15, 16, 17, 63, 64, 65]),
+        ("issue", foyer, &[0, 1, 15, 16, 17, 63, 64, 65]),
+        ("forward", desk, &[0, 1, 15, 16, 17, 63, 64, 65]),
+        ("forward", foyer, &[0, 1, 15, 16, 17, 63, 64, 65]),
+        ("price_batch", None, &[1, 64, 65]),
+    ] {
+        for &length in lengths {
+            assert!(met.lists.contains(&(call, caller, length)), "{call} {caller:?} with {length} words");
         }
     }
     assert!(met.all_steps && met.last_tip);
@@ -63,14 +72,14 @@ fn unit_against_plain_list() {
     let report = self_check(1_000_000, 600).unwrap_or_else(|difference| panic!("{difference}"));
     assert_eq!(report.runs, 600);
     assert!(report.accepted > 20_000 && report.calls - report.accepted > 10_000, "{report}");
-    assert!(report.compared > 5_000, "{report}");
-    for (call, answers) in ANSWERS {
-        for answer in answers.iter().filter(|_| !["clear", "restart", "price_batch"].contains(&call)) {
-            let number = answer.strip_prefix("refused ").and_then(|number| number.parse().ok());
-            // In the named calls 1 and 2 do not arise, nor 6 at a forward.
-            let arises = |number| number > 2 && (call, number) != ("forward", 6);
-            let met = |number| report.refusals.contains(&(call, number));
-            assert!(number.is_none_or(|number| met(number) == arises(number)), "{call} {answer}");
+    assert!(report.compared > 5_000 && report.by_both > 1_000, "{report}");
+    let named = |call: &str| !["clear", "restart", "price_batch"].contains(&call);
+    for (call, answers) in ANSWERS.iter().filter(|(call, _)| named(call)) {
+        let call = call.trim_end_matches(" foyer");
+        for number in refusals(answers) {
+            // In the named calls 1 and 2 do not arise, nor 6 and 18 at a forward, which is lent what the issue filled.
+            let arises = number > 2 && !matches!((call, number), ("forward", 6 | 18));
+            assert_eq!(report.refusals.contains(&(call, number)), arises, "{call} {number}");
         }
     }
 }

@@ -32,7 +32,7 @@ fn stored_scripts_answer_as_worked_out_by_hand() {
             count += 1;
         }
     }
-    assert!(count > 700, "{count} expectations");
+    assert!(count > 900, "{count} expectations");
 }
 
 /// What the scripts of a folder print, which must be the output stored beside each.
@@ -49,7 +49,7 @@ fn printed_as_stored(folder: &str) -> Vec<String> {
 /// The stored output is what the model prints today.
 #[test]
 fn stored_output_is_the_models() {
-    assert!(printed_as_stored("scripts").len() >= 5);
+    assert!(printed_as_stored("scripts").len() >= 6);
 }
 
 /// The output of the lines that are no call comes from the comments of their script and not from the model, whose code replay shares.
@@ -71,24 +71,51 @@ fn batch_examples_answer_as_worked_out() {
     assert_eq!(outputs.iter().map(|output| output.lines().count()).sum::<usize>(), 275);
 }
 
-/// The script of refusals has every answer of every call among what its comments expect.
-#[test]
-fn refusals_are_complete() {
+/// The answers that a stored script's comments expect, each after the call's word and the foyer if it calls.
+fn expected_answers(name: &str) -> BTreeSet<String> {
     let (_, script) = files("scripts", "script")
         .into_iter()
-        .find(|(file, _)| file.ends_with("refusals.script"))
+        .find(|(file, _)| file.ends_with(name))
         .expect("the script is stored");
-    let mut met = BTreeSet::new();
     let text: Vec<&[u8]> = script.split(|&byte| byte == b'\n').collect();
-    for (number, answer) in expected(&script) {
-        let call = String::from_utf8_lossy(text[number - 1]);
-        let call = call.split(' ').next().unwrap_or_default().to_string();
+    let answer_of = |(number, answer): (usize, String)| {
+        let line = String::from_utf8_lossy(text[number - 1]);
+        let mut tokens = line.split(' ');
+        let call = tokens.next().unwrap_or_default();
+        let by = if tokens.next() == Some("foyer") { " foyer" } else { "" };
         let words: Vec<&str> = answer.split(' ').collect();
         let kind = if words[0] == "refused" { words[..2].join(" ") } else { words[0].to_string() };
-        met.insert(format!("{call} {kind}"));
-    }
+        format!("{call}{by} {kind}")
+    };
+    expected(&script).into_iter().map(answer_of).collect()
+}
+
+/// The scripts of refusals and of callers have every answer of every call among what their comments expect, from the desk and
+/// from the foyer.
+#[test]
+fn refusals_are_complete() {
+    let met: BTreeSet<String> =
+        ["refusals.script", "callers.script"].iter().flat_map(|name| expected_answers(name)).collect();
     let missing: Vec<String> = all_answers().into_iter().filter(|answer| !met.contains(answer)).collect();
     assert!(missing.is_empty(), "{missing:?}");
+}
+
+/// A line without a caller is the desk's, and is written so.
+#[test]
+fn the_desk_need_not_be_named() {
+    let lines = ["look_up 5 0", "issue 6 0000000500000000", "forward 6 0", "forward 6 0 with", "release 7"];
+    for line in lines {
+        let (word, rest) = line.split_once(' ').expect("arguments follow the word");
+        let by = |caller: &str| parse(format!("{word} {caller} {rest}").as_bytes());
+        let written = |read: &Line| match read {
+            Line::Command(command) => command.to_string(),
+            other => panic!("{line}: {other:?}"),
+        };
+        assert_eq!(by("desk"), parse(line.as_bytes()));
+        assert_ne!(by("foyer"), by("desk"));
+        assert_eq!(written(&by("desk")), line);
+        assert_eq!(written(&by("foyer")), format!("{word} foyer {rest}"));
+    }
 }
 
 #[test]
@@ -107,7 +134,7 @@ fn commands_are_read_as_they_are_written() {
 
 /// Lines that are no call where table, journal and bytes are 4 long, and why: what docs/REPLAY.md's table of reasons says of
 /// each, in its order.
-const NO_CALLS: [(&[u8], &str); 76] = [
+const NO_CALLS: [(&[u8], &str); 85] = [
     (b"x", "unknown word 'x'"),
     (b"CLEAR", "unknown word 'CLEAR'"),
     (b"clear x", "too many arguments: clear"),
@@ -150,6 +177,15 @@ const NO_CALLS: [(&[u8], &str); 76] = [
     (b"forward 0 1 8000000500000001", "expected with, not '8000000500000001'"),
     (b"forward 0 1 with 5", "expected a word of 16 hexadecimal digits, not '5'"),
     (b"forward x 1 With", "expected with, not 'With'"),
+    (b"foyer issue 6", "unknown word 'foyer'"),
+    (b"look_up foyer 0", "too few arguments: look_up foyer OFFER STATE"),
+    (b"issue foyer", "too few arguments: issue foyer SLOT W.."),
+    (b"issue hall 6", "expected SLOT, a number from 0 to 18446744073709551615, not 'hall'"),
+    (b"issue desk desk", "expected SLOT, a number from 0 to 18446744073709551615, not 'desk'"),
+    (b"forward desk 0", "too few arguments: forward desk SLOT STATE"),
+    (b"forward foyer 6 1 foyer", "expected with, not 'foyer'"),
+    (b"release foyer 6 7", "too many arguments: release foyer SLOT"),
+    (b"commit foyer", "expected a word of 16 hexadecimal digits, not 'foyer'"),
     (b"release", "too few arguments: release SLOT"),
     (b"release 0 0", "too many arguments: release SLOT"),
     (b"price_batch", "too few arguments: price_batch W.. / W.. / W.."),
@@ -327,41 +363,45 @@ fn a_forward_takes_what_the_issue_filled() {
     assert_eq!(run(script), expected);
 }
 
+/// What random scripts are made of.
+const PIECES: [&[u8]; 26] = [
+    b"lend ",
+    b"table ",
+    b"journal ",
+    b"bytes ",
+    b"poke ",
+    b"fill ",
+    b"head ",
+    b"held ",
+    b"ends ",
+    b"tally ",
+    b"show ",
+    b"all ",
+    b"clear ",
+    b"load ",
+    b"commit ",
+    b"forward ",
+    b"issue ",
+    b"with ",
+    b"desk ",
+    b"foyer ",
+    b"price_batch ",
+    b"/ ",
+    b"8000000500000001 ",
+    b"7 ",
+    b"18446744073709551615 ",
+    b"\n",
+];
+
 #[test]
 fn random_bytes_do_no_harm() {
     let mut rng = Rng::new(7);
-    let pieces: [&[u8]; 24] = [
-        b"lend ",
-        b"table ",
-        b"journal ",
-        b"bytes ",
-        b"poke ",
-        b"fill ",
-        b"head ",
-        b"held ",
-        b"ends ",
-        b"tally ",
-        b"show ",
-        b"all ",
-        b"clear ",
-        b"load ",
-        b"commit ",
-        b"forward ",
-        b"issue ",
-        b"with ",
-        b"price_batch ",
-        b"/ ",
-        b"8000000500000001 ",
-        b"7 ",
-        b"18446744073709551615 ",
-        b"\n",
-    ];
     for _ in 0..3000 {
         let mut script = Vec::new();
         for _ in 0..rng.below(60) {
             match rng.below(12) {
                 0 => script.push(rng.bits() as u8),
-                _ => script.extend(pieces[rng.below(pieces.len())]),
+                _ => script.extend(PIECES[rng.below(PIECES.len())]),
             }
         }
         run(&script);

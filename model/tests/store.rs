@@ -1,6 +1,7 @@
 //! The store: soundness clause by clause, refusals that change nothing, and what the calls leave in memory.
 
 use model::batch::{order, price_batch};
+use model::caller::Caller::{Desk, Foyer};
 use model::ground::Ground;
 use model::head::Head;
 use model::sound::{first_broken, Clause};
@@ -76,10 +77,10 @@ fn all_calls_but_clear_and_load_refuse_an_unsound_store() {
         Call::Commit { list: list.clone() },
         Call::RollBack { state: 11 },
         Call::Flush { state: 12 },
-        Call::LookUp { offer: 5, state: 11 },
-        Call::Issue { slot: 1, list: list.clone() },
-        Call::Forward { slot: 0, state: 12, with: Some(list) },
-        Call::Release { slot: 0 },
+        Call::LookUp { caller: Foyer, offer: 5, state: 11 },
+        Call::Issue { caller: Foyer, slot: 7, list: list.clone() },
+        Call::Forward { caller: Desk, slot: 0, state: 12, with: Some(list) },
+        Call::Release { caller: Desk, slot: 0 },
     ];
     for damage in DAMAGES.iter().flat_map(|(_, damages)| *damages) {
         let mut unit = Unit { store: sample(), bytes: vec![0; 30], ..Unit::default() };
@@ -165,7 +166,7 @@ fn a_flush_to_the_checkpoint_changes_nothing() {
 #[test]
 fn released_steps_go_and_the_rest_move() {
     let mut store = sample();
-    assert_eq!(store.release(0), Ok(()));
+    assert_eq!(store.release(Desk, 0), Ok(()));
     assert_eq!((store.head.oldest, store.head.checkpoint, store.head.tip), (11, 11, 12));
     assert_eq!(store.journal[..3], [entry(5, None), entry(8, Some(1)), 0]);
     assert_eq!(store.head.ends[..2], [2, 0]);
@@ -175,7 +176,7 @@ fn released_steps_go_and_the_rest_move() {
 fn a_read_keeps_its_own_offers() {
     let mut store = sample();
     let mut reads = [entry(4, Some(9)), entry(7, None), entry(8, None)];
-    assert_eq!(store.forward(0, 12, &mut reads), Ok(()));
+    assert_eq!(store.forward(Desk, 0, 12, &mut reads), Ok(()));
     assert_eq!(reads, [entry(4, Some(9)), entry(7, Some(1)), entry(8, Some(1))]);
 }
 

@@ -15,7 +15,7 @@ static uint64_t commit_put(uint32_t offer, uint32_t price)
 static void hold_price(const struct cechnuol_store *of, uint32_t offer, uint32_t price)
 {
     uint64_t quoted = 0;
-    ANSWERS(cechnuol_store_look_up(of, offer, cechnuol_store_tip(of), &quoted), OK);
+    ANSWERS(cechnuol_store_look_up(of, CECHNUOL_DESK, offer, cechnuol_store_tip(of), &quoted), OK);
     IS(quoted, price);
 }
 
@@ -42,6 +42,13 @@ static void steps_full_and_no_slot(void)
     ANSWERS(commit_put(2, 2), OK);
 }
 
+/* Gives up the read that keeps the most steps held, as its caller. */
+static uint64_t release_oldest(void)
+{
+    size_t slot = cechnuol_oldest_slot(store.head);
+    return cechnuol_store_release(&store, cechnuol_caller_of(slot), slot);
+}
+
 /* Slots 6 and 2 are open since state 0, slot 4 since state 1: to flush and try again does not end. Closing the oldest
  * one by one does; a forward then serves as well as a release. */
 static void steps_full_and_slots(void)
@@ -49,10 +56,10 @@ static void steps_full_and_slots(void)
     uint64_t asked[3] = {cechnuol_ask(1), cechnuol_ask(1), cechnuol_ask(1)};
     int i;
     begin(4, 128, 1);
-    ANSWERS(cechnuol_store_issue(&store, 6, asked, 1), OK);
-    ANSWERS(cechnuol_store_issue(&store, 2, asked + 1, 1), OK);
+    ANSWERS(cechnuol_store_issue(&store, CECHNUOL_FOYER, 6, asked, 1), OK);
+    ANSWERS(cechnuol_store_issue(&store, CECHNUOL_DESK, 2, asked + 1, 1), OK);
     ANSWERS(cechnuol_store_flush(&store, 1), OK);
-    ANSWERS(cechnuol_store_issue(&store, 4, asked + 2, 1), OK);
+    ANSWERS(cechnuol_store_issue(&store, CECHNUOL_DESK, 4, asked + 2, 1), OK);
     for (i = 1; i < 64; i++)
         ANSWERS(commit_put(1, 5), OK);
     for (i = 0; i < 100; i++) {
@@ -60,12 +67,13 @@ static void steps_full_and_slots(void)
         ANSWERS(cechnuol_store_flush(&store, cechnuol_store_tip(&store)), OK);
     }
     IS(cechnuol_oldest_slot(store.head), 2);
-    ANSWERS(cechnuol_store_release(&store, 4), OK);
+    ANSWERS(cechnuol_store_release(&store, CECHNUOL_DESK, 4), OK);
     ANSWERS(commit_put(1, 6), STEPS_FULL);
-    ANSWERS(cechnuol_store_release(&store, 2), OK);
+    ANSWERS(cechnuol_store_release(&store, CECHNUOL_DESK, 2), OK);
     ANSWERS(commit_put(1, 6), STEPS_FULL);
     IS(cechnuol_oldest_slot(store.head), 6);
-    ANSWERS(cechnuol_store_forward(&store, 6, 64, asked, 1), OK);
+    IS(cechnuol_caller_of(6), CECHNUOL_FOYER);
+    ANSWERS(cechnuol_store_forward(&store, CECHNUOL_FOYER, 6, 64, asked, 1), OK);
     IS(asked[0], cechnuol_put(1, 5));
     ANSWERS(commit_put(1, 6), OK);
     IS(cechnuol_oldest_slot(store.head), CECHNUOL_SLOTS);
@@ -79,14 +87,14 @@ static void journal_full(void)
     begin(4, 8, 8);
     ANSWERS(commit_put(1, 9), JOURNAL_FULL);
     ANSWERS(cechnuol_store_flush(&store, 8), OK);
-    ANSWERS(cechnuol_store_issue(&store, 0, &asked, 1), OK);
+    ANSWERS(cechnuol_store_issue(&store, CECHNUOL_DESK, 0, &asked, 1), OK);
     for (i = 0; i < 8; i++)
         ANSWERS(commit_put(1, 9), OK);
     for (i = 0; i < 100; i++) {
         ANSWERS(commit_put(1, 10), JOURNAL_FULL);
         ANSWERS(cechnuol_store_flush(&store, cechnuol_store_tip(&store)), OK);
     }
-    ANSWERS(cechnuol_store_release(&store, cechnuol_oldest_slot(store.head)), OK);
+    ANSWERS(release_oldest(), OK);
     ANSWERS(commit_put(1, 10), OK);
 }
 
@@ -117,14 +125,14 @@ static void journal_full_and_table_full(void)
 {
     const uint64_t removal = cechnuol_remove(6);
     begin(1, 3, 0);
-    ANSWERS(cechnuol_store_issue(&store, 0, NULL, 0), OK);
+    ANSWERS(cechnuol_store_issue(&store, CECHNUOL_DESK, 0, NULL, 0), OK);
     ANSWERS(commit_put(5, 1), OK);
     ANSWERS(cechnuol_store_flush(&store, 1), OK);
     ANSWERS(commit_put(6, 1), OK);
     ANSWERS(commit_put(7, 1), OK);
     ANSWERS(cechnuol_store_commit(&store, &removal, 1), JOURNAL_FULL);
     ANSWERS(cechnuol_store_flush(&store, 3), TABLE_FULL);
-    ANSWERS(cechnuol_store_release(&store, cechnuol_oldest_slot(store.head)), OK);
+    ANSWERS(release_oldest(), OK);
     ANSWERS(cechnuol_store_commit(&store, &removal, 1), OK);
 }
 
@@ -137,7 +145,7 @@ static void steps_full_and_slots_at_the_checkpoint(void)
     put_offers(words, 2, 1, 100);
     begin(1, 128, 1);
     for (slot = 0; slot < CECHNUOL_SLOTS; slot++)
-        ANSWERS(cechnuol_store_issue(&store, slot, NULL, 0), OK);
+        ANSWERS(cechnuol_store_issue(&store, cechnuol_caller_of(slot), slot, NULL, 0), OK);
     ANSWERS(cechnuol_store_commit(&store, words, 2), OK);
     while (cechnuol_store_tip(&store) < CECHNUOL_STEPS)
         ANSWERS(commit_put(1, 7), OK);
@@ -149,16 +157,16 @@ static void steps_full_and_slots_at_the_checkpoint(void)
     for (slot = 0; slot < CECHNUOL_SLOTS; slot++) {
         ANSWERS(commit_put(1, 8), STEPS_FULL);
         IS(cechnuol_store_oldest(&store) < cechnuol_store_checkpoint(&store), 1);
-        ANSWERS(cechnuol_store_release(&store, cechnuol_oldest_slot(store.head)), OK);
+        ANSWERS(release_oldest(), OK);
     }
     ANSWERS(commit_put(1, 8), OK);
     /* full again, and now the slots lie at the checkpoint: each is closed in vain */
     for (slot = 0; slot < CECHNUOL_SLOTS; slot++)
-        ANSWERS(cechnuol_store_issue(&store, slot, NULL, 0), OK);
+        ANSWERS(cechnuol_store_issue(&store, cechnuol_caller_of(slot), slot, NULL, 0), OK);
     ANSWERS(commit_put(1, 9), STEPS_FULL);
     for (slot = 0; slot < CECHNUOL_SLOTS; slot++) {
         IS(cechnuol_store_oldest(&store), cechnuol_store_checkpoint(&store));
-        ANSWERS(cechnuol_store_release(&store, slot), OK);
+        ANSWERS(cechnuol_store_release(&store, cechnuol_caller_of(slot), slot), OK);
         ANSWERS(commit_put(1, 9), STEPS_FULL);
     }
 }
@@ -169,12 +177,12 @@ static void another_read_set(void)
 {
     uint64_t first[1] = {cechnuol_ask(5)}, second[1] = {cechnuol_ask(5)};
     begin(4, 128, 0);
-    ANSWERS(cechnuol_store_issue(&store, 0, first, 1), OK);
+    ANSWERS(cechnuol_store_issue(&store, CECHNUOL_DESK, 0, first, 1), OK);
     ANSWERS(commit_put(5, 1200), OK);
     ANSWERS(cechnuol_store_flush(&store, 1), OK);
-    ANSWERS(cechnuol_store_release(&store, 0), OK);
-    ANSWERS(cechnuol_store_issue(&store, 0, second, 1), OK);
-    ANSWERS(cechnuol_store_forward(&store, 0, 1, first, 1), OK);
+    ANSWERS(cechnuol_store_release(&store, CECHNUOL_DESK, 0), OK);
+    ANSWERS(cechnuol_store_issue(&store, CECHNUOL_DESK, 0, second, 1), OK);
+    ANSWERS(cechnuol_store_forward(&store, CECHNUOL_DESK, 0, 1, first, 1), OK);
     IS(first[0], cechnuol_remove(5));
     IS(second[0], cechnuol_put(5, 1200));
 }
@@ -183,7 +191,7 @@ static void another_read_set(void)
 static void begin_with_table_full(void)
 {
     begin(1, 8, 0);
-    ANSWERS(cechnuol_store_issue(&store, 0, NULL, 0), OK);
+    ANSWERS(cechnuol_store_issue(&store, CECHNUOL_DESK, 0, NULL, 0), OK);
     ANSWERS(commit_put(1, 10), OK);
     ANSWERS(cechnuol_store_flush(&store, 1), OK);
     ANSWERS(commit_put(1, 11), OK);
@@ -237,7 +245,7 @@ static void longer_table(void)
     ANSWERS(cechnuol_store_write_image(&store, image, sizeof image, &count), OK);
     ANSWERS(cechnuol_store_load(&other, image, count), OK);
     hold_price(&other, 1, 10);
-    ANSWERS(cechnuol_store_look_up(&other, 2, cechnuol_store_tip(&other), &count), NO_PRICE);
+    ANSWERS(cechnuol_store_look_up(&other, CECHNUOL_DESK, 2, cechnuol_store_tip(&other), &count), NO_PRICE);
     commit_again(&other);
     IS(cechnuol_store_tip(&other), cechnuol_store_tip(&store));
     ANSWERS(cechnuol_store_flush(&other, 3), OK);
@@ -258,7 +266,7 @@ static void images_hold_the_checkpoint(void)
     uint64_t asked = cechnuol_ask(1), count = 0;
     begin(4, 8, 0);
     ANSWERS(commit_put(1, 10), OK);
-    ANSWERS(cechnuol_store_issue(&store, 3, &asked, 1), OK);
+    ANSWERS(cechnuol_store_issue(&store, CECHNUOL_DESK, 3, &asked, 1), OK);
     ANSWERS(cechnuol_store_write_image(&store, image, sizeof image, &count), OK);
     IS(count, 6);
     ANSWERS(cechnuol_store_flush(&store, 1), OK);
@@ -271,7 +279,7 @@ static void images_hold_the_checkpoint(void)
     IS(cechnuol_store_tip(&store), 1);
     IS(cechnuol_store_is_open(&store, 3) != 0, 0);
     hold_price(&store, 1, 10);
-    ANSWERS(cechnuol_store_forward(&store, 3, 1, &asked, 1), SLOT_CLOSED);
+    ANSWERS(cechnuol_store_forward(&store, CECHNUOL_DESK, 3, 1, &asked, 1), SLOT_CLOSED);
     ANSWERS(commit_put(1, 11), OK);
     ANSWERS(cechnuol_store_flush(&store, 2), OK);
     ANSWERS(cechnuol_store_restart(&store, image, sizeof image), OK);

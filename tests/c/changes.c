@@ -34,24 +34,24 @@ static void of_steps(void)
     begin();
     CHANGES(cechnuol_roll_back(STORE, 8), JOURNAL | HEAD | TALLY);
     begin();
-    ANSWERS(cechnuol_release(STORE, 0), OK);
+    ANSWERS(cechnuol_release(STORE, CECHNUOL_DESK, 0), OK);
     CHANGES(cechnuol_flush(STORE, 8), TABLE | JOURNAL | HEAD | TALLY);
 }
 
 static void of_reads(void)
 {
     begin();
-    CHANGES(cechnuol_look_up(TO_READ, 5, 7, &lent.value), VALUE);
+    CHANGES(cechnuol_look_up(TO_READ, CECHNUOL_DESK, 5, 7, &lent.value), VALUE);
     begin();
     lent.words[0] = cechnuol_ask(5);
     lent.words[1] = cechnuol_ask(6);
-    CHANGES(cechnuol_issue(STORE, 7, lent.words, 2), WORDS | HEAD);
+    CHANGES(cechnuol_issue(STORE, CECHNUOL_FOYER, 7, lent.words, 2), WORDS | HEAD);
     begin();
     ANSWERS(cechnuol_flush(STORE, 9), OK);
-    CHANGES(cechnuol_forward(STORE, 0, 9, lent.words, 2), WORDS | JOURNAL | HEAD);
+    CHANGES(cechnuol_forward(STORE, CECHNUOL_DESK, 0, 9, lent.words, 2), WORDS | JOURNAL | HEAD);
     begin();
     ANSWERS(cechnuol_flush(STORE, 9), OK);
-    CHANGES(cechnuol_release(STORE, 0), JOURNAL | HEAD);
+    CHANGES(cechnuol_release(STORE, CECHNUOL_DESK, 0), JOURNAL | HEAD);
 }
 
 static void of_batches(void)

@@ -45,7 +45,7 @@ static inline void begin(void)
     ANSWERS(cechnuol_commit(STORE, &cut, 1), OK);
     lent.words[0] = cechnuol_ask(5);
     lent.words[1] = cechnuol_ask(9);
-    ANSWERS(cechnuol_issue(STORE, 0, lent.words, 2), OK);
+    ANSWERS(cechnuol_issue(STORE, CECHNUOL_DESK, 0, lent.words, 2), OK);
 }
 
 #endif

@@ -80,10 +80,10 @@ static void lists(void)
     ANSWERS(cechnuol_store_commit(&store, words, CECHNUOL_LIST_WORDS + 1), BAD_LIST);
     for (i = 0; i <= CECHNUOL_LIST_WORDS; i++)
         out[i] = cechnuol_ask(cechnuol_low_bits(i));
-    ANSWERS(cechnuol_store_issue(&store, 0, out, CECHNUOL_LIST_WORDS + 1), BAD_LIST);
-    ANSWERS(cechnuol_store_issue(&store, 0, out, CECHNUOL_LIST_WORDS), OK);
-    ANSWERS(cechnuol_store_forward(&store, 0, 1, out, CECHNUOL_LIST_WORDS + 1), BAD_LIST);
-    ANSWERS(cechnuol_store_forward(&store, 0, 1, out, CECHNUOL_LIST_WORDS), OK);
+    ANSWERS(cechnuol_store_issue(&store, CECHNUOL_DESK, 0, out, CECHNUOL_LIST_WORDS + 1), BAD_LIST);
+    ANSWERS(cechnuol_store_issue(&store, CECHNUOL_DESK, 0, out, CECHNUOL_LIST_WORDS), OK);
+    ANSWERS(cechnuol_store_forward(&store, CECHNUOL_DESK, 0, 1, out, CECHNUOL_LIST_WORDS + 1), BAD_LIST);
+    ANSWERS(cechnuol_store_forward(&store, CECHNUOL_DESK, 0, 1, out, CECHNUOL_LIST_WORDS), OK);
     IS(memcmp(out, words, sizeof *out * CECHNUOL_LIST_WORDS) == 0, 1);
 }
 
@@ -109,13 +109,38 @@ static void batches(void)
 static void slots(void)
 {
     ANSWERS(cechnuol_store_clear(&store), OK);
-    ANSWERS(cechnuol_store_issue(&store, CECHNUOL_SLOTS, NULL, 0), SLOT_RANGE);
-    ANSWERS(cechnuol_store_issue(&store, SIZE_MAX, NULL, 0), SLOT_RANGE);
-    ANSWERS(cechnuol_store_issue(&store, CECHNUOL_SLOTS - 1, NULL, 0), OK);
+    ANSWERS(cechnuol_store_issue(&store, CECHNUOL_DESK, CECHNUOL_SLOTS, NULL, 0), SLOT_RANGE);
+    ANSWERS(cechnuol_store_issue(&store, CECHNUOL_DESK, SIZE_MAX, NULL, 0), SLOT_RANGE);
+    ANSWERS(cechnuol_store_issue(&store, CECHNUOL_FOYER, CECHNUOL_SLOTS - 1, NULL, 0), OK);
     IS(store.head[CECHNUOL_TAKEN + CECHNUOL_SLOTS - 1], 1);
-    ANSWERS(cechnuol_store_forward(&store, CECHNUOL_SLOTS, 0, NULL, 0), SLOT_RANGE);
-    ANSWERS(cechnuol_store_release(&store, CECHNUOL_SLOTS), SLOT_RANGE);
-    ANSWERS(cechnuol_store_release(&store, CECHNUOL_SLOTS - 1), OK);
+    ANSWERS(cechnuol_store_forward(&store, CECHNUOL_DESK, CECHNUOL_SLOTS, 0, NULL, 0), SLOT_RANGE);
+    ANSWERS(cechnuol_store_release(&store, CECHNUOL_DESK, CECHNUOL_SLOTS), SLOT_RANGE);
+    ANSWERS(cechnuol_store_release(&store, CECHNUOL_FOYER, CECHNUOL_SLOTS - 1), OK);
+}
+
+/* Each slot by its caller and by the other; and the foyer's longest list. A number that is no caller's is the foyer. */
+static void callers(void)
+{
+    const uint32_t foyer = CECHNUOL_FOYER, unknown = UINT32_MAX;
+    const size_t first = CECHNUOL_FOYER_SLOT, most = CECHNUOL_FOYER_WORDS;
+    size_t slot, i;
+    ANSWERS(cechnuol_store_clear(&store), OK);
+    for (slot = 0; slot < CECHNUOL_SLOTS; slot++) {
+        const uint32_t own = slot < 6 ? 0 : 1;
+        IS(cechnuol_caller_of(slot), own);
+        ANSWERS(cechnuol_store_issue(&store, !own, slot, NULL, 0), OTHERS_SLOT);
+        ANSWERS(cechnuol_store_issue(&store, own, slot, NULL, 0), OK);
+        ANSWERS(cechnuol_store_forward(&store, !own, slot, 0, NULL, 0), OTHERS_SLOT);
+        ANSWERS(cechnuol_store_release(&store, !own, slot), OTHERS_SLOT);
+        ANSWERS(cechnuol_store_release(&store, own, slot), OK);
+    }
+    for (i = 0; i <= CECHNUOL_LIST_WORDS; i++)
+        out[i] = cechnuol_ask(cechnuol_low_bits(i));
+    ANSWERS(cechnuol_store_issue(&store, foyer, first, out, CECHNUOL_LIST_WORDS + 1), BAD_LIST);
+    ANSWERS(cechnuol_store_issue(&store, foyer, first, out, most + 1), LONG_LIST);
+    ANSWERS(cechnuol_store_issue(&store, foyer, first, out, most), OK);
+    ANSWERS(cechnuol_store_forward(&store, unknown, first, 0, out, most + 1), LONG_LIST);
+    ANSWERS(cechnuol_store_forward(&store, unknown, first, 0, out, most), OK);
 }
 
 /* Full lists until the steps are full, which fills the longest journal too; one a word shorter is full before. */
@@ -159,6 +184,7 @@ int main(void)
     lists();
     batches();
     slots();
+    callers();
     steps();
     head_and_tally();
     return differences != 0;

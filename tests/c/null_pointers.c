@@ -18,10 +18,10 @@ static void on_nothing(void)
     ANSWERS(cechnuol_commit(NOTHING, NULL, 0), LENGTHS);
     ANSWERS(cechnuol_roll_back(NOTHING, 0), LENGTHS);
     ANSWERS(cechnuol_flush(NOTHING, 0), LENGTHS);
-    ANSWERS(cechnuol_look_up(NOTHING_TO_READ, 0, 0, &value), LENGTHS);
-    ANSWERS(cechnuol_issue(NOTHING, 0, NULL, 0), LENGTHS);
-    ANSWERS(cechnuol_forward(NOTHING, 0, 0, NULL, 0), LENGTHS);
-    ANSWERS(cechnuol_release(NOTHING, 0), LENGTHS);
+    ANSWERS(cechnuol_look_up(NOTHING_TO_READ, CECHNUOL_DESK, 0, 0, &value), LENGTHS);
+    ANSWERS(cechnuol_issue(NOTHING, CECHNUOL_DESK, 0, NULL, 0), LENGTHS);
+    ANSWERS(cechnuol_forward(NOTHING, CECHNUOL_DESK, 0, 0, NULL, 0), LENGTHS);
+    ANSWERS(cechnuol_release(NOTHING, CECHNUOL_DESK, 0), LENGTHS);
     IS(value, 7);
 }
 
@@ -33,8 +33,8 @@ static void of_no_length(void)
     ANSWERS(cechnuol_clear(STORE), OK);
     ANSWERS(cechnuol_load(STORE, NULL, 0), BAD_IMAGE);
     ANSWERS(cechnuol_commit(STORE, NULL, 0), OK);
-    ANSWERS(cechnuol_issue(STORE, 0, NULL, 0), OK);
-    ANSWERS(cechnuol_forward(STORE, 0, 1, NULL, 0), OK);
+    ANSWERS(cechnuol_issue(STORE, CECHNUOL_DESK, 0, NULL, 0), OK);
+    ANSWERS(cechnuol_forward(STORE, CECHNUOL_DESK, 0, 1, NULL, 0), OK);
     ANSWERS(cechnuol_write_image(table, 4, journal, 16, head, NULL, 0, &value), OUTPUT_SHORT);
     ANSWERS(cechnuol_restart(STORE, NULL, 0), OUTPUT_SHORT);
 }
@@ -44,7 +44,7 @@ static void on_any_words(void)
 {
     memset(head, 0xFF, sizeof head);
     memset(tally, 0xFF, sizeof tally);
-    ANSWERS(cechnuol_release(STORE, 0), UNSOUND);
+    ANSWERS(cechnuol_release(STORE, CECHNUOL_DESK, 0), UNSOUND);
     ANSWERS(cechnuol_load(STORE, NULL, 0), BAD_IMAGE);
     IS(head[CECHNUOL_TIP], UINT64_MAX);
     IS(tally[CECHNUOL_FLUSHED], UINT64_MAX);
@@ -64,7 +64,7 @@ static void on_noise(void)
             head[i] = table[i % 4] = journal[i % 16] = x;
         }
         ANSWERS(cechnuol_flush(STORE, cechnuol_low_bits(x)), UNSOUND);
-        ANSWERS(cechnuol_look_up(table, 4, journal, 16, head, 5, cechnuol_low_bits(x), &value), UNSOUND);
+        ANSWERS(cechnuol_look_up(table, 4, journal, 16, head, CECHNUOL_DESK, 5, cechnuol_low_bits(x), &value), UNSOUND);
         IS(head[CECHNUOL_HEAD_WORDS - 1], x);
     }
     ANSWERS(cechnuol_clear(STORE), OK);

@@ -38,14 +38,14 @@ static void of_queries(void)
     begin();
     REFUSED(cechnuol_write_image(NOTHING_TO_READ, lent.bytes, 22, &lent.value), LENGTHS);
     REFUSED(cechnuol_write_image(TO_READ, lent.bytes, 21, &lent.value), OUTPUT_SHORT);
-    REFUSED(cechnuol_look_up(NOTHING_TO_READ, 5, 7, &lent.value), LENGTHS);
-    REFUSED(cechnuol_look_up(TO_READ, UINT32_C(1) << 31, 6, &lent.value), BAD_LIST);
-    REFUSED(cechnuol_look_up(TO_READ, 5, 6, &lent.value), STATE_RANGE);
-    REFUSED(cechnuol_look_up(TO_READ, 5, 10, &lent.value), STATE_RANGE);
-    REFUSED(cechnuol_look_up(TO_READ, 5, 9, &lent.value), NO_PRICE);
+    REFUSED(cechnuol_look_up(NOTHING_TO_READ, CECHNUOL_DESK, 5, 7, &lent.value), LENGTHS);
+    REFUSED(cechnuol_look_up(TO_READ, CECHNUOL_DESK, UINT32_C(1) << 31, 6, &lent.value), BAD_LIST);
+    REFUSED(cechnuol_look_up(TO_READ, CECHNUOL_DESK, 5, 6, &lent.value), STATE_RANGE);
+    REFUSED(cechnuol_look_up(TO_READ, CECHNUOL_DESK, 5, 10, &lent.value), STATE_RANGE);
+    REFUSED(cechnuol_look_up(TO_READ, CECHNUOL_DESK, 5, 9, &lent.value), NO_PRICE);
     damage();
     REFUSED(cechnuol_write_image(TO_READ, lent.bytes, 21, &lent.value), UNSOUND);
-    REFUSED(cechnuol_look_up(TO_READ, UINT32_C(1) << 31, 6, &lent.value), UNSOUND);
+    REFUSED(cechnuol_look_up(TO_READ, CECHNUOL_DESK, UINT32_C(1) << 31, 6, &lent.value), UNSOUND);
 }
 
 /* Makes the store one at the last state number. */
@@ -94,23 +94,33 @@ static void of_other_steps(void)
 
 static void of_reads(void)
 {
+    const uint32_t desk = CECHNUOL_DESK, foyer = CECHNUOL_FOYER;
+    uint32_t i;
     begin();
-    REFUSED(cechnuol_issue(NOTHING, 8, lent.words, 2), LENGTHS);
-    REFUSED(cechnuol_issue(STORE, 8, lent.words, 2), SLOT_RANGE);
-    REFUSED(cechnuol_issue(STORE, 0, lent.words, 2), SLOT_TAKEN);
-    REFUSED(cechnuol_issue(STORE, 1, lent.words, 2), BAD_LIST);
-    REFUSED(cechnuol_forward(NOTHING, 8, 6, lent.words, 2), LENGTHS);
-    REFUSED(cechnuol_forward(STORE, 8, 6, lent.words, 2), SLOT_RANGE);
-    REFUSED(cechnuol_forward(STORE, 1, 6, lent.words, 2), SLOT_CLOSED);
-    REFUSED(cechnuol_forward(STORE, 0, 6, lent.words, 3), BAD_LIST);
-    REFUSED(cechnuol_forward(STORE, 0, 6, lent.words, 2), STATE_RANGE);
-    REFUSED(cechnuol_release(NOTHING, 8), LENGTHS);
-    REFUSED(cechnuol_release(STORE, 8), SLOT_RANGE);
-    REFUSED(cechnuol_release(STORE, 1), SLOT_CLOSED);
+    REFUSED(cechnuol_issue(NOTHING, desk, 8, lent.words, 2), LENGTHS);
+    REFUSED(cechnuol_issue(STORE, desk, 8, lent.words, 2), SLOT_RANGE);
+    REFUSED(cechnuol_issue(STORE, foyer, 0, lent.words, 2), OTHERS_SLOT);
+    REFUSED(cechnuol_issue(STORE, desk, 0, lent.words, 2), SLOT_TAKEN);
+    REFUSED(cechnuol_issue(STORE, foyer, 6, lent.words, 17), BAD_LIST);
+    REFUSED(cechnuol_forward(NOTHING, desk, 8, 6, lent.words, 2), LENGTHS);
+    REFUSED(cechnuol_forward(STORE, desk, 8, 6, lent.words, 2), SLOT_RANGE);
+    REFUSED(cechnuol_forward(STORE, foyer, 1, 6, lent.words, 2), OTHERS_SLOT);
+    REFUSED(cechnuol_forward(STORE, desk, 1, 6, lent.words, 2), SLOT_CLOSED);
+    REFUSED(cechnuol_forward(STORE, desk, 0, 6, lent.words, 3), BAD_LIST);
+    REFUSED(cechnuol_forward(STORE, desk, 0, 6, lent.words, 2), STATE_RANGE);
+    REFUSED(cechnuol_release(NOTHING, desk, 8), LENGTHS);
+    REFUSED(cechnuol_release(STORE, desk, 8), SLOT_RANGE);
+    REFUSED(cechnuol_release(STORE, foyer, 1), OTHERS_SLOT);
+    REFUSED(cechnuol_release(STORE, desk, 1), SLOT_CLOSED);
+    ANSWERS(cechnuol_issue(STORE, foyer, 7, NULL, 0), OK);
+    for (i = 0; i < 17; i++)
+        lent.words[i] = cechnuol_ask(i);
+    REFUSED(cechnuol_issue(STORE, foyer, 6, lent.words, 17), LONG_LIST);
+    REFUSED(cechnuol_forward(STORE, foyer, 7, 6, lent.words, 17), LONG_LIST);
     damage();
-    REFUSED(cechnuol_issue(STORE, 8, lent.words, 2), UNSOUND);
-    REFUSED(cechnuol_forward(STORE, 8, 6, lent.words, 2), UNSOUND);
-    REFUSED(cechnuol_release(STORE, 8), UNSOUND);
+    REFUSED(cechnuol_issue(STORE, desk, 8, lent.words, 2), UNSOUND);
+    REFUSED(cechnuol_forward(STORE, desk, 8, 6, lent.words, 2), UNSOUND);
+    REFUSED(cechnuol_release(STORE, desk, 8), UNSOUND);
 }
 
 /* A batch of two orders on the read set: 5 at 1200, and 9 without a price. */

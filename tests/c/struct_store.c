@@ -53,22 +53,25 @@ static void steps(void)
 
 static void reads(void)
 {
+    const uint32_t desk = CECHNUOL_DESK, foyer = CECHNUOL_FOYER;
     give(cechnuol_ask(1), cechnuol_ask(2), cechnuol_ask(7));
-    hold_alike(cechnuol_issue(STORE, 5, plain.words, 3), cechnuol_store_issue(&store, 5, other.words, 3), "issue");
+    hold_alike(cechnuol_issue(STORE, desk, 5, plain.words, 3), cechnuol_store_issue(&store, desk, 5, other.words, 3),
+               "issue");
     IS(cechnuol_store_is_open(&store, 5) != 0, 1);
     IS(cechnuol_store_is_open(&store, 4) != 0, 0);
     IS(cechnuol_store_is_open(&store, 8) != 0, 0);
     IS(cechnuol_store_is_open(&store, SIZE_MAX) != 0, 0);
     ALIKE(flush, 2);
-    hold_alike(cechnuol_forward(STORE, 5, 2, plain.words, 3), cechnuol_store_forward(&store, 5, 2, other.words, 3),
-               "forward");
-    hold_alike(cechnuol_issue(STORE, 0, NULL, 0), cechnuol_store_issue(&store, 0, NULL, 0), "issue of nothing");
-    ALIKE(release, 0);
-    ALIKE(release, 1);
-    hold_alike(cechnuol_look_up(TO_READ, 2, 2, &plain.value), cechnuol_store_look_up(&store, 2, 2, &other.value),
-               "look_up of a price");
-    hold_alike(cechnuol_look_up(TO_READ, 7, 2, &plain.value), cechnuol_store_look_up(&store, 7, 2, &other.value),
-               "look_up of none");
+    hold_alike(cechnuol_forward(STORE, desk, 5, 2, plain.words, 3),
+               cechnuol_store_forward(&store, desk, 5, 2, other.words, 3), "forward");
+    hold_alike(cechnuol_issue(STORE, foyer, 6, NULL, 0), cechnuol_store_issue(&store, foyer, 6, NULL, 0),
+               "issue of nothing");
+    hold_alike(cechnuol_release(STORE, desk, 6), cechnuol_store_release(&store, desk, 6), "release of another's slot");
+    hold_alike(cechnuol_release(STORE, foyer, 6), cechnuol_store_release(&store, foyer, 6), "release");
+    hold_alike(cechnuol_look_up(TO_READ, desk, 2, 2, &plain.value),
+               cechnuol_store_look_up(&store, desk, 2, 2, &other.value), "look_up of a price");
+    hold_alike(cechnuol_look_up(TO_READ, foyer, 7, 2, &plain.value),
+               cechnuol_store_look_up(&store, foyer, 7, 2, &other.value), "look_up of none");
 }
 
 static void images(void)

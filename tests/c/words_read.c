@@ -15,19 +15,19 @@ static void hold_entry(uint32_t offer, uint32_t price)
     const uint64_t put = cechnuol_put(offer, price), removal = cechnuol_remove(offer);
     uint64_t asked = cechnuol_ask(offer), quoted = 7;
     ANSWERS(cechnuol_store_clear(&store), OK);
-    ANSWERS(cechnuol_store_look_up(&store, offer, 0, &quoted), NO_PRICE);
+    ANSWERS(cechnuol_store_look_up(&store, CECHNUOL_DESK, offer, 0, &quoted), NO_PRICE);
     IS(quoted, 7);
     ANSWERS(cechnuol_store_commit(&store, &put, 1), OK);
-    ANSWERS(cechnuol_store_look_up(&store, offer, 1, &quoted), OK);
+    ANSWERS(cechnuol_store_look_up(&store, CECHNUOL_DESK, offer, 1, &quoted), OK);
     IS(quoted, price);
     ANSWERS(cechnuol_store_flush(&store, 1), OK);
-    ANSWERS(cechnuol_store_issue(&store, 0, &asked, 1), OK);
+    ANSWERS(cechnuol_store_issue(&store, CECHNUOL_DESK, 0, &asked, 1), OK);
     IS(cechnuol_has_price(asked) != 0, 1);
     IS(cechnuol_offer(asked), offer);
     IS(cechnuol_price(asked), price);
     ANSWERS(cechnuol_store_commit(&store, &removal, 1), OK);
-    ANSWERS(cechnuol_store_look_up(&store, offer, 2, &quoted), NO_PRICE);
-    ANSWERS(cechnuol_store_forward(&store, 0, 2, &asked, 1), OK);
+    ANSWERS(cechnuol_store_look_up(&store, CECHNUOL_DESK, offer, 2, &quoted), NO_PRICE);
+    ANSWERS(cechnuol_store_forward(&store, CECHNUOL_DESK, 0, 2, &asked, 1), OK);
     IS(cechnuol_has_price(asked) != 0, 0);
     IS(cechnuol_offer(asked), offer);
     IS(cechnuol_price(asked), 0);
@@ -43,7 +43,7 @@ static void hold_list(void)
     ANSWERS(cechnuol_store_clear(&store), OK);
     ANSWERS(cechnuol_store_commit(&store, words, CORNERS), OK);
     for (i = 0; i < CORNERS; i++) {
-        ANSWERS(cechnuol_store_look_up(&store, corners[i], 1, &quoted), OK);
+        ANSWERS(cechnuol_store_look_up(&store, CECHNUOL_DESK, corners[i], 1, &quoted), OK);
         IS(quoted, prices[i]);
     }
 }
@@ -120,6 +120,6 @@ int main(void)
     hold_list();
     /* an offer that does not fit is no order on the offer that its lowest bits are */
     ANSWERS(cechnuol_price_batch(&read, 1, &order, 1, &out, 1, &count), BAD_ORDER);
-    ANSWERS(cechnuol_store_look_up(&store, 0x80000000, 1, &count), BAD_LIST);
+    ANSWERS(cechnuol_store_look_up(&store, CECHNUOL_DESK, 0x80000000, 1, &count), BAD_LIST);
     return differences != 0;
 }

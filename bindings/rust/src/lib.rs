@@ -6,23 +6,24 @@
 //! they are lent; this crate is that library with Rust's types, and adds no rule of its own.
 //!
 //! ```
-//! use cechnuol::{price_batch, Entry, Order, Refusal, Store};
+//! use cechnuol::{price_batch, Caller, Entry, Order, Refusal, Store};
 //!
 //! # fn main() -> Result<(), Refusal> {
 //! // An empty store, as state 0: room for 1,000 offers in the table, and for 500 entries of steps in the journal.
 //! let mut store = Store::new(1000, 500)?;
 //!
-//! // A list of changes leads to state 1. Each state from the checkpoint to the tip can be quoted.
+//! // A list of changes leads to state 1. Each state from the checkpoint to the tip can be quoted, at the desk and in the
+//! // foyer.
 //! store.commit(&[Entry::put(5, 1200), Entry::put(9, 700)])?;
-//! assert_eq!(store.look_up(5, 1)?, Some(1200));
-//! assert_eq!(store.look_up(5, 0)?, None);
+//! assert_eq!(store.look_up(Caller::Desk, 5, 1)?, Some(1200));
+//! assert_eq!(store.look_up(Caller::Foyer, 5, 0)?, None);
 //!
 //! // A flush makes state 1 the checkpoint: the table holds its map, and the step to it is no longer needed.
 //! store.flush(1)?;
 //!
-//! // A read of offers 5 and 7 starts now, in slot 0, and is to serve a state that does not exist yet.
+//! // The desk's read of offers 5 and 7 starts now, in slot 0, and is to serve a state that does not exist yet.
 //! let mut reads = [Entry::ask(5), Entry::ask(7)];
-//! store.issue(0, &mut reads)?;
+//! store.issue(Caller::Desk, 0, &mut reads)?;
 //! assert_eq!(reads, [Entry::put(5, 1200), Entry::remove(7)]);
 //!
 //! // State 2 comes, is corrected, and comes again.
@@ -32,7 +33,7 @@
 //! store.flush(2)?;
 //!
 //! // The read is brought forward to it, and the slot is free again.
-//! store.forward(0, 2, &mut reads)?;
+//! store.forward(Caller::Desk, 0, 2, &mut reads)?;
 //! assert_eq!(reads, [Entry::put(5, 1100), Entry::put(7, 300)]);
 //!
 //! // Orders are priced on a read set alone; what they change is a list that can be committed.
@@ -40,7 +41,7 @@
 //! let count = price_batch(&reads, &[Order::raise(7, 50), Order::withdraw(5)], &mut changes)?;
 //! assert_eq!(changes[..count], [Entry::remove(5), Entry::put(7, 350)]);
 //! store.commit(&changes[..count])?;
-//! assert_eq!(store.look_up(7, 3)?, Some(350));
+//! assert_eq!(store.look_up(Caller::Desk, 7, 3)?, Some(350));
 //! # Ok(())
 //! # }
 //! ```
@@ -53,6 +54,9 @@
 //! *oldest* state is the least of the checkpoint and the states at which the open slots were issued, and the steps above
 //! it are held in the journal. [`Head`] has all of these.
 //!
+//! Every lookup, issue, forward and release says who calls ([`Caller`]): the desk at the counter, or a display in the foyer
+//! that reads the same store. Each has slots of its own, and the foyer's lists are shorter. Lookups are open to both.
+//!
 //! A [`Store::restart`] or an image that is written and loaded keeps the checkpoint and nothing above it.
 //!
 //! # Limits
@@ -64,8 +68,10 @@
 //! | a table | 1 to 8,000 words, an offer each | [`TABLE_WORDS`] |
 //! | a journal | 1 to 4,096 words, an entry of a held step each | [`JOURNAL_WORDS`] |
 //! | a list or read set | 0 to 64 entries, offers strictly rising | [`LIST_WORDS`] |
+//! | one that the foyer issues or forwards | 0 to 16 | [`FOYER_WORDS`] |
 //! | the orders of a batch | 0 to 64 | [`BATCH_ORDERS`] |
 //! | slots | 8, from 0 to 7 | [`SLOTS`] |
+//! | the desk's slots, and the foyer's | 0 to 5, and 6 and 7 | [`FOYER_SLOT`] |
 //! | held steps | 64 | [`STEPS`] |
 //! | an image | 6 bytes and 8 for each offer, at most 64,006 | [`IMAGE_BYTES`], [`image_bytes_of`] |
 //!
@@ -102,6 +108,7 @@
 #[cfg(not(all(target_os = "linux", target_arch = "x86_64")))]
 compile_error!("libcechnuol.a is for x86-64 Linux");
 
+mod caller;
 mod entry;
 mod head;
 mod order;
@@ -110,6 +117,7 @@ pub mod raw;
 mod refusal;
 mod store;
 
+pub use caller::Caller;
 pub use entry::Entry;
 pub use head::{Head, Tally};
 pub use order::Order;
@@ -122,10 +130,14 @@ pub const TABLE_WORDS: usize = 8000;
 pub const JOURNAL_WORDS: usize = 4096;
 /// The most entries of a list or of a read set.
 pub const LIST_WORDS: usize = 64;
+/// The most entries of a list that the foyer issues and of a read set that it forwards.
+pub const FOYER_WORDS: usize = 16;
 /// The most orders of a batch.
 pub const BATCH_ORDERS: usize = 64;
 /// How many slots there are.
 pub const SLOTS: usize = 8;
+/// The foyer has the slots from this one on, the desk those below it.
+pub const FOYER_SLOT: usize = 6;
 /// The most steps that are held.
 pub const STEPS: usize = 64;
 /// The bytes of the longest image, which has as many offers as the longest table has words.
@@ -136,7 +148,7 @@ pub const HEAD_WORDS: usize = 84;
 pub const TALLY_WORDS: usize = 3;
 
 /// The version of this crate as a number: major * 1,000,000 + minor * 1,000 + patch.
-pub const VERSION: u64 = 1_000_000;
+pub const VERSION: u64 = 2_000_000;
 
 /// The version of the library that is linked, as a number. It differs from [`VERSION`] where crate and library are not of
 /// one release.

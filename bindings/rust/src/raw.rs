@@ -29,6 +29,11 @@ pub const OK: u64 = 0;
 /// The code of a lookup that finds no price.
 pub const NO_PRICE: u64 = 100;
 
+/// The number of the desk as a caller.
+pub const DESK: u32 = 0;
+/// The number of the foyer as a caller. Any other number but [`DESK`] is the foyer too.
+pub const FOYER: u32 = 1;
+
 /// The place in the head of the number of table words in use.
 pub const USED: usize = 0;
 /// The place in the head of the oldest state.
@@ -106,14 +111,14 @@ declare_calls! {
     cechnuol_commit(words: *const u64, word_count: usize);
     cechnuol_roll_back(state: u32);
     cechnuol_flush(state: u32);
-    cechnuol_issue(slot: usize, words: *mut u64, word_count: usize);
-    cechnuol_forward(slot: usize, state: u32, words: *mut u64, word_count: usize);
-    cechnuol_release(slot: usize);
+    cechnuol_issue(caller: u32, slot: usize, words: *mut u64, word_count: usize);
+    cechnuol_forward(caller: u32, slot: usize, state: u32, words: *mut u64, word_count: usize);
+    cechnuol_release(caller: u32, slot: usize);
 }
 
 declare_queries! {
     cechnuol_write_image(bytes: *mut u8, byte_count: usize, count: *mut u64);
-    cechnuol_look_up(offer: u32, state: u32, price: *mut u64);
+    cechnuol_look_up(caller: u32, offer: u32, state: u32, price: *mut u64);
 }
 
 extern "C" {
@@ -155,7 +160,7 @@ macro_rules! query {
     };
 }
 
-/// The calls, each as [`Store`](crate::Store) has it by the same name.
+/// The calls, each as [`Store`](crate::Store) has it by the same name. Who calls is a number, [`DESK`] or [`FOYER`].
 impl StoreMut<'_> {
     /// Makes the store the empty map, as state 0.
     #[inline]
@@ -195,20 +200,20 @@ impl StoreMut<'_> {
 
     /// Fills a list of asking words from the table, and opens a slot.
     #[inline]
-    pub fn issue(self, slot: usize, reads: &mut [u64]) -> u64 {
-        call!(self, cechnuol_issue, slot, reads.as_mut_ptr(), reads.len())
+    pub fn issue(self, caller: u32, slot: usize, reads: &mut [u64]) -> u64 {
+        call!(self, cechnuol_issue, caller, slot, reads.as_mut_ptr(), reads.len())
     }
 
     /// Brings a read set forward to a state, and closes its slot.
     #[inline]
-    pub fn forward(self, slot: usize, state: u32, reads: &mut [u64]) -> u64 {
-        call!(self, cechnuol_forward, slot, state, reads.as_mut_ptr(), reads.len())
+    pub fn forward(self, caller: u32, slot: usize, state: u32, reads: &mut [u64]) -> u64 {
+        call!(self, cechnuol_forward, caller, slot, state, reads.as_mut_ptr(), reads.len())
     }
 
     /// Closes a slot.
     #[inline]
-    pub fn release(self, slot: usize) -> u64 {
-        call!(self, cechnuol_release, slot)
+    pub fn release(self, caller: u32, slot: usize) -> u64 {
+        call!(self, cechnuol_release, caller, slot)
     }
 }
 
@@ -220,10 +225,10 @@ impl StoreRef<'_> {
         query!(self, cechnuol_write_image, bytes.as_mut_ptr(), bytes.len(), count)
     }
 
-    /// Writes an offer's price at a state to the price, where there is one.
+    /// Writes an offer's price at a state to the price, where there is one. Who calls makes no difference.
     #[inline]
-    pub fn look_up(self, offer: u32, state: u32, price: &mut u64) -> u64 {
-        query!(self, cechnuol_look_up, offer, state, price)
+    pub fn look_up(self, caller: u32, offer: u32, state: u32, price: &mut u64) -> u64 {
+        query!(self, cechnuol_look_up, caller, offer, state, price)
     }
 }
 

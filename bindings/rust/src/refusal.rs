@@ -68,7 +68,7 @@ refusals! {
         "Table, journal and head are not what a call left. Clear the store, or load an image into it.";
     SlotRange = 3 "SLOT_RANGE" "the slot is above 7";
     SlotTaken = 4 "SLOT_TAKEN" "the slot named for an issue is open",
-        "Forward or release it, or name another.";
+        "Forward or release it, or name another of the caller's.";
     SlotClosed = 5 "SLOT_CLOSED" "the slot named for a forward or release is closed",
         "It was forwarded or released before, or a restart, a load or a clear closed it.";
     BadList = 6 "BAD_LIST" "a list breaks its rules, or there are over 64 orders, or an offer is 2^31 or more",
@@ -98,6 +98,10 @@ refusals! {
          a longer table.";
     OutputShort = 17 "OUTPUT_SHORT" "the output is shorter than what is to be written",
         "[`IMAGE_BYTES`](crate::IMAGE_BYTES) are enough for any image, and as many entries as there are orders for a batch.";
+    LongList = 18 "LONG_LIST" "the foyer's list has over 16 words",
+        "A list that the foyer issues, or a read set that it forwards. Ask for the offers in several reads, one after another.";
+    OthersSlot = 19 "OTHERS_SLOT" "the slot is not the caller's",
+        "The desk has slots 0 to 5, the foyer 6 and 7 ([`Caller::slots`](crate::Caller::slots)).";
 }
 
 impl Refusal {

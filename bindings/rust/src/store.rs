@@ -1,7 +1,7 @@
 //! A store: its memory, and the calls on it.
 
 use crate::raw::{self, StoreMut, StoreRef};
-use crate::{Entry, Head, Refusal, Tally, JOURNAL_WORDS, TABLE_WORDS};
+use crate::{Caller, Entry, Head, Refusal, Tally, JOURNAL_WORDS, TABLE_WORDS};
 use std::fmt;
 
 /// A store of prices: states numbered one after another, each a map from offers to prices.
@@ -69,18 +69,18 @@ impl<T, J> Store<T, J> {
     /// all zeros are an empty store. Nothing is tested or written here; the calls test its form ([`Refusal::Unsound`]).
     ///
     /// ```
-    /// use cechnuol::{Entry, Refusal, Store};
+    /// use cechnuol::{Caller, Entry, Refusal, Store};
     ///
     /// let mut store = Store::new(4, 16)?;
     /// store.commit(&[Entry::put(5, 1200)])?;
     /// let (table, journal, head, tally) = store.into_parts();
     /// let store = Store::from_parts(table, journal, head, tally);
-    /// assert_eq!(store.look_up(5, 1), Ok(Some(1200)));
+    /// assert_eq!(store.look_up(Caller::Desk, 5, 1), Ok(Some(1200)));
     /// # Ok::<(), Refusal>(())
     /// ```
     ///
     /// ```
-    /// use cechnuol::{Head, Store, Tally, HEAD_WORDS, TALLY_WORDS};
+    /// use cechnuol::{Caller, Head, Store, Tally, HEAD_WORDS, TALLY_WORDS};
     /// use std::sync::RwLock;
     ///
     /// static PRICES: RwLock<Store<[u64; 100], [u64; 50]>> = RwLock::new(Store::from_parts(
@@ -89,7 +89,7 @@ impl<T, J> Store<T, J> {
     ///     Head::from_words([0; HEAD_WORDS]),
     ///     Tally::from_words([0; TALLY_WORDS]),
     /// ));
-    /// assert_eq!(PRICES.read().unwrap().look_up(5, 0), Ok(None));
+    /// assert_eq!(PRICES.read().unwrap().look_up(Caller::Foyer, 5, 0), Ok(None));
     /// ```
     pub const fn from_parts(table: T, journal: J, head: Head, tally: Tally) -> Store<T, J> {
         Store { table, journal, head, tally }
@@ -135,25 +135,27 @@ impl<T: AsRef<[u64]>, J: AsRef<[u64]>> Store<T, J> {
         StoreRef { table: self.table.as_ref(), journal: self.journal.as_ref(), head: self.head.words() }
     }
 
-    /// The price of an offer at a state from the checkpoint to the tip, or none.
+    /// The price of an offer at a state from the checkpoint to the tip, or none. Lookups are open to both callers, and answer
+    /// both alike.
     ///
     /// Refused: [`Refusal::Lengths`], [`Refusal::Unsound`], [`Refusal::BadList`] (an offer of 2^31 or more),
     /// [`Refusal::StateRange`].
     ///
     /// ```
-    /// use cechnuol::{Entry, Refusal, Store};
+    /// use cechnuol::{Caller, Entry, Refusal, Store};
     ///
     /// let mut store = Store::new(4, 16)?;
     /// store.commit(&[Entry::put(5, 0)])?;
-    /// assert_eq!(store.look_up(5, 0), Ok(None));
-    /// assert_eq!(store.look_up(5, 1), Ok(Some(0)));
-    /// assert_eq!(store.look_up(5, 2), Err(Refusal::StateRange));
+    /// assert_eq!(store.look_up(Caller::Desk, 5, 0), Ok(None));
+    /// assert_eq!(store.look_up(Caller::Desk, 5, 1), Ok(Some(0)));
+    /// assert_eq!(store.look_up(Caller::Foyer, 5, 1), Ok(Some(0)));
+    /// assert_eq!(store.look_up(Caller::Desk, 5, 2), Err(Refusal::StateRange));
     /// # Ok::<(), Refusal>(())
     /// ```
     #[inline]
-    pub fn look_up(&self, offer: u32, state: u32) -> Result<Option<u32>, Refusal> {
+    pub fn look_up(&self, caller: Caller, offer: u32, state: u32) -> Result<Option<u32>, Refusal> {
         let mut price = 0;
-        match self.as_raw().look_up(offer, state, &mut price) {
+        match self.as_raw().look_up(caller.number(), offer, state, &mut price) {
             raw::NO_PRICE => Ok(None),
             // A price has 32 bits; it comes in a word.
             code => Refusal::check(code).map(|()| Some(price as u32)),
@@ -220,11 +222,11 @@ impl<T: AsMut<[u64]>, J: AsMut<[u64]>> Store<T, J> {
     /// Refused: [`Refusal::Lengths`], [`Refusal::BadImage`], [`Refusal::TableFull`] (load it into a longer table).
     ///
     /// ```
-    /// use cechnuol::{Refusal, Store};
+    /// use cechnuol::{Caller, Refusal, Store};
     ///
     /// let mut store = Store::new(4, 16)?;
     /// store.load(&[0, 0, 0, 7, 0, 1, 0x80, 0, 0, 5, 0, 0, 0x04, 0xB0])?;
-    /// assert_eq!(store.look_up(5, 7), Ok(Some(1200)));
+    /// assert_eq!(store.look_up(Caller::Desk, 5, 7), Ok(Some(1200)));
     /// # Ok::<(), Refusal>(())
     /// ```
     #[inline]
@@ -239,13 +241,13 @@ impl<T: AsMut<[u64]>, J: AsMut<[u64]>> Store<T, J> {
     /// Refused: [`Refusal::Lengths`], [`Refusal::Unsound`], [`Refusal::OutputShort`].
     ///
     /// ```
-    /// use cechnuol::{Entry, Refusal, Store, IMAGE_BYTES};
+    /// use cechnuol::{Caller, Entry, Refusal, Store, IMAGE_BYTES};
     ///
     /// let mut store = Store::new(4, 16)?;
     /// store.commit(&[Entry::put(5, 1200)])?;
     /// store.restart(&mut [0; IMAGE_BYTES])?;
     /// assert_eq!(store.head().tip(), 0);
-    /// assert_eq!(store.look_up(5, 0), Ok(None));
+    /// assert_eq!(store.look_up(Caller::Desk, 5, 0), Ok(None));
     /// # Ok::<(), Refusal>(())
     /// ```
     #[inline]
@@ -266,7 +268,7 @@ impl<T: AsMut<[u64]>, J: AsMut<[u64]>> Store<T, J> {
     /// no slot holds a step back and to close one frees nothing; then see [`Store::flush`] on [`Refusal::TableFull`].
     ///
     /// ```
-    /// use cechnuol::{Entry, Refusal, Store};
+    /// use cechnuol::{Caller, Entry, Refusal, Store};
     ///
     /// /// Makes room in a store that is full, by a flush or by the release of a slot that keeps it full.
     /// fn make_room(store: &mut Store, full: Refusal) -> Result<(), Refusal> {
@@ -274,7 +276,7 @@ impl<T: AsMut<[u64]>, J: AsMut<[u64]>> Store<T, J> {
     ///     let flushed = if checkpoint < tip { store.flush(tip) } else { Err(full) };
     ///     match store.head().oldest_slot() {
     ///         // whoever reads in this slot has to issue it again
-    ///         Some(slot) if flushed.is_err() && oldest < checkpoint => store.release(slot),
+    ///         Some(slot) if flushed.is_err() && oldest < checkpoint => store.release(Caller::of_slot(slot), slot),
     ///         _ => flushed,
     ///     }
     /// }
@@ -292,16 +294,16 @@ impl<T: AsMut<[u64]>, J: AsMut<[u64]>> Store<T, J> {
     /// }
     ///
     /// let mut store = Store::new(100, 500)?;
-    /// store.issue(3, &mut [Entry::ask(5)])?;
+    /// store.issue(Caller::Desk, 3, &mut [Entry::ask(5)])?;
     /// for price in 0..100 {
     ///     commit(&mut store, &[Entry::put(5, price)])?;
     /// }
-    /// assert_eq!(store.look_up(5, 100), Ok(Some(99)));
+    /// assert_eq!(store.look_up(Caller::Desk, 5, 100), Ok(Some(99)));
     /// assert!(!store.head().is_open(3));
     ///
     /// // No read is given up in vain: here the table is too short for a flush to the tip.
     /// let mut store = Store::new(1, 500)?;
-    /// store.issue(3, &mut [Entry::ask(5)])?;
+    /// store.issue(Caller::Desk, 3, &mut [Entry::ask(5)])?;
     /// store.commit(&[Entry::put(5, 1200), Entry::put(9, 700)])?;
     /// for price in 1..64 {
     ///     store.commit(&[Entry::put(5, price)])?;
@@ -321,13 +323,13 @@ impl<T: AsMut<[u64]>, J: AsMut<[u64]>> Store<T, J> {
     /// Refused: [`Refusal::Lengths`], [`Refusal::Unsound`], [`Refusal::StateRange`].
     ///
     /// ```
-    /// use cechnuol::{Entry, Refusal, Store};
+    /// use cechnuol::{Caller, Entry, Refusal, Store};
     ///
     /// let mut store = Store::new(4, 16)?;
     /// store.commit(&[Entry::put(5, 1100)])?;
     /// store.roll_back(0)?;
     /// store.commit(&[Entry::put(5, 1300)])?;
-    /// assert_eq!(store.look_up(5, 1), Ok(Some(1300)));
+    /// assert_eq!(store.look_up(Caller::Desk, 5, 1), Ok(Some(1300)));
     /// # Ok::<(), Refusal>(())
     /// ```
     #[inline]
@@ -364,61 +366,71 @@ impl<T: AsMut<[u64]>, J: AsMut<[u64]>> Store<T, J> {
         Refusal::check(self.as_raw_mut().flush(state))
     }
 
-    /// Starts a read in a slot from 0 to 7: fills a list of entries that ask, offers strictly rising, from the table, and
-    /// opens the slot. The entries then show what is there at the checkpoint, and the steps since are held until the slot is
-    /// forwarded or released. The caller keeps the entries for the forward.
+    /// Starts a read in a slot of the caller's, 0 to 5 of the desk and 6 or 7 of the foyer: fills a list of entries that ask,
+    /// offers strictly rising, from the table, and opens the slot. The list has up to 64 entries, and up to 16 from the foyer
+    /// ([`Caller::list_words`]). The entries then show what is there at the checkpoint, and the steps since are held until the
+    /// slot is forwarded or released. Whoever calls keeps the entries for the forward.
     ///
-    /// Refused: [`Refusal::Lengths`], [`Refusal::Unsound`], [`Refusal::SlotRange`], [`Refusal::SlotTaken`],
-    /// [`Refusal::BadList`].
+    /// Refused: [`Refusal::Lengths`], [`Refusal::Unsound`], [`Refusal::SlotRange`], [`Refusal::OthersSlot`],
+    /// [`Refusal::SlotTaken`], [`Refusal::BadList`], [`Refusal::LongList`].
     ///
     /// ```
-    /// use cechnuol::{Entry, Refusal, Store};
+    /// use cechnuol::{Caller, Entry, Refusal, Store};
     ///
     /// let mut store = Store::new(4, 16)?;
     /// let mut reads = [Entry::ask(5), Entry::ask(9)];
-    /// store.issue(0, &mut reads)?;
+    /// store.issue(Caller::Foyer, 6, &mut reads)?;
     /// assert_eq!(reads.map(|entry| entry.price()), [None, None]);
-    /// assert_eq!(store.head().issued(0), Some(0));
+    /// assert_eq!(store.head().issued(6), Some(0));
+    /// assert_eq!(store.issue(Caller::Foyer, 0, &mut reads), Err(Refusal::OthersSlot));
     /// # Ok::<(), Refusal>(())
     /// ```
     #[inline]
-    pub fn issue(&mut self, slot: usize, reads: &mut [Entry]) -> Result<(), Refusal> {
-        Refusal::check(self.as_raw_mut().issue(slot, raw::words_mut(reads)))
+    pub fn issue(&mut self, caller: Caller, slot: usize, reads: &mut [Entry]) -> Result<(), Refusal> {
+        Refusal::check(self.as_raw_mut().issue(caller.number(), slot, raw::words_mut(reads)))
     }
 
-    /// Brings a read set that an issue filled forward to a state from the checkpoint to the tip, and closes its slot. Each
-    /// entry then shows its offer's price at that state, or none; steps that no open slot needs any more go.
+    /// Brings a read set that an issue filled forward to a state from the checkpoint to the tip, and closes its slot, which is
+    /// one of the caller's. Each entry then shows its offer's price at that state, or none; steps that no open slot needs any
+    /// more go.
     ///
-    /// The read set is the caller's, and only its form is tested: another one, such as that of an earlier issue of the slot,
-    /// is brought forward from what it says, and its prices are then wrong.
+    /// The read set is the program's, and only its form and length are tested: another one, such as that of an earlier issue
+    /// of the slot, is brought forward from what it says, and its prices are then wrong.
     ///
-    /// Refused: [`Refusal::Lengths`], [`Refusal::Unsound`], [`Refusal::SlotRange`], [`Refusal::SlotClosed`],
-    /// [`Refusal::BadList`], [`Refusal::StateRange`].
+    /// Refused: [`Refusal::Lengths`], [`Refusal::Unsound`], [`Refusal::SlotRange`], [`Refusal::OthersSlot`],
+    /// [`Refusal::SlotClosed`], [`Refusal::BadList`], [`Refusal::LongList`], [`Refusal::StateRange`].
     ///
     /// ```
-    /// use cechnuol::{Entry, Refusal, Store};
+    /// use cechnuol::{Caller, Entry, Refusal, Store};
     ///
     /// let mut store = Store::new(4, 16)?;
     /// let mut reads = [Entry::ask(5), Entry::ask(9)];
-    /// store.issue(0, &mut reads)?;
+    /// store.issue(Caller::Desk, 0, &mut reads)?;
     /// store.commit(&[Entry::put(5, 1100)])?;
     /// store.flush(1)?;
-    /// store.forward(0, 1, &mut reads)?;
+    /// store.forward(Caller::Desk, 0, 1, &mut reads)?;
     /// assert_eq!(reads, [Entry::put(5, 1100), Entry::remove(9)]);
     /// # Ok::<(), Refusal>(())
     /// ```
     #[inline]
-    pub fn forward(&mut self, slot: usize, state: u32, reads: &mut [Entry]) -> Result<(), Refusal> {
-        Refusal::check(self.as_raw_mut().forward(slot, state, raw::words_mut(reads)))
+    pub fn forward(
+        &mut self,
+        caller: Caller,
+        slot: usize,
+        state: u32,
+        reads: &mut [Entry],
+    ) -> Result<(), Refusal> {
+        Refusal::check(self.as_raw_mut().forward(caller.number(), slot, state, raw::words_mut(reads)))
     }
 
-    /// Closes a slot without a forward: the read is given up. Steps that no open slot needs any more go. Tell the reader before
-    /// the slot is issued again: the unit cannot know whose read set a forward is lent.
+    /// Closes a slot of the caller's without a forward: the read is given up. Steps that no open slot needs any more go. Tell
+    /// the reader before the slot is issued again: the unit cannot know whose read set a forward is lent.
     ///
-    /// Refused: [`Refusal::Lengths`], [`Refusal::Unsound`], [`Refusal::SlotRange`], [`Refusal::SlotClosed`].
+    /// Refused: [`Refusal::Lengths`], [`Refusal::Unsound`], [`Refusal::SlotRange`], [`Refusal::OthersSlot`],
+    /// [`Refusal::SlotClosed`].
     #[inline]
-    pub fn release(&mut self, slot: usize) -> Result<(), Refusal> {
-        Refusal::check(self.as_raw_mut().release(slot))
+    pub fn release(&mut self, caller: Caller, slot: usize) -> Result<(), Refusal> {
+        Refusal::check(self.as_raw_mut().release(caller.number(), slot))
     }
 }
 

@@ -3,6 +3,7 @@
 mod common;
 
 use cechnuol::raw::{ENDS, TAKEN, TIP};
+use cechnuol::Caller::{Desk, Foyer};
 use cechnuol::Refusal::{self, *};
 use cechnuol::{price_batch, Entry, Head, Order, Store, Tally};
 use common::{of_lengths, refused, store, with_head, CALLS, IMAGE};
@@ -84,8 +85,8 @@ fn restart() {
 fn commit() {
     let mut store = store();
     assert_eq!(store.commit(&[Entry::put(5, 1000)]), Ok(()));
-    assert_eq!(store.look_up(5, 3), Ok(Some(1000)));
-    assert_eq!(store.look_up(5, 2), Ok(Some(1100)));
+    assert_eq!(store.look_up(Desk, 5, 3), Ok(Some(1000)));
+    assert_eq!(store.look_up(Desk, 5, 2), Ok(Some(1100)));
     assert_eq!((store.head().held_steps(), store.head().ends()), (2, &[3, 4][..]));
     refused(&store, BadList, |store| store.commit(&[Entry::put(5, 1), Entry::put(5, 2)]));
     refused(&store, BadList, |store| store.commit(&[Entry::put(5, 1), Entry::put(4, 2)]));
@@ -103,14 +104,14 @@ fn commit() {
 #[test]
 fn room_for_steps() {
     let mut store = of_lengths(4, 64);
-    assert_eq!(store.issue(6, &mut [Entry::ask(5)]), Ok(()));
+    assert_eq!(store.issue(Foyer, 6, &mut [Entry::ask(5)]), Ok(()));
     (0..64).for_each(|price| assert_eq!(store.commit(&[Entry::put(5, price)]), Ok(())));
     refused(&store, StepsFull, |store| store.commit(&[]));
     assert_eq!(store.flush(64), Ok(()));
-    assert_eq!(store.issue(2, &mut [Entry::ask(5)]), Ok(()));
+    assert_eq!(store.issue(Desk, 2, &mut [Entry::ask(5)]), Ok(()));
     refused(&store, StepsFull, |store| store.commit(&[]));
     assert_eq!((store.head().oldest_slot(), store.head().issued(6)), (Some(6), Some(0)));
-    assert_eq!(store.release(6), Ok(()));
+    assert_eq!(store.release(Foyer, 6), Ok(()));
     assert_eq!((store.head().held_steps(), store.head().oldest_slot()), (0, Some(2)));
     assert_eq!(store.commit(&[]), Ok(()));
 }
@@ -122,7 +123,7 @@ fn roll_back() {
     refused(&store, StateRange, |store| store.roll_back(3));
     assert_eq!(store.roll_back(1), Ok(()));
     assert_eq!((store.head().tip(), store.tally().rolled_back()), (1, 1));
-    assert_eq!(store.look_up(5, 2), Err(StateRange));
+    assert_eq!(store.look_up(Desk, 5, 2), Err(StateRange));
 }
 
 #[test]
@@ -142,27 +143,29 @@ fn flush() {
 fn look_up() {
     let store = store();
     let prices = [(5, 1, Some(1200)), (9, 1, Some(700)), (11, 1, None), (9, 2, None), (11, 2, Some(0))];
-    for (offer, state, price) in prices {
-        assert_eq!(store.look_up(offer, state), Ok(price), "offer {offer} at {state}");
+    for caller in [Desk, Foyer] {
+        for (offer, state, price) in prices {
+            assert_eq!(store.look_up(caller, offer, state), Ok(price), "offer {offer} at {state}");
+        }
+        for state in [0, 3, u32::MAX] {
+            assert_eq!(store.look_up(caller, 5, state), Err(StateRange));
+        }
+        for offer in [1 << 31, u32::MAX] {
+            assert_eq!(store.look_up(caller, offer, 1), Err(BadList));
+        }
+        assert_eq!(store.look_up(caller, (1 << 31) - 1, 1), Ok(None));
     }
-    for state in [0, 3, u32::MAX] {
-        assert_eq!(store.look_up(5, state), Err(StateRange));
-    }
-    for offer in [1 << 31, u32::MAX] {
-        assert_eq!(store.look_up(offer, 1), Err(BadList));
-    }
-    assert_eq!(store.look_up((1 << 31) - 1, 1), Ok(None));
 }
 
 #[test]
 fn issue() {
     let (mut store, mut reads) = (store(), [Entry::ask(5), Entry::ask(6)]);
     for (slot, refusal) in [(3, SlotTaken), (8, SlotRange), (usize::MAX, SlotRange)] {
-        refused(&store, refusal, |store| store.issue(slot, &mut reads));
+        refused(&store, refusal, |store| store.issue(Desk, slot, &mut reads));
     }
-    refused(&store, BadList, |store| store.issue(0, &mut [Entry::put(5, 1)]));
-    refused(&store, BadList, |store| store.issue(0, &mut [Entry::ask(6), Entry::ask(5)]));
-    assert_eq!(store.issue(0, &mut reads), Ok(()));
+    refused(&store, BadList, |store| store.issue(Desk, 0, &mut [Entry::put(5, 1)]));
+    refused(&store, BadList, |store| store.issue(Desk, 0, &mut [Entry::ask(6), Entry::ask(5)]));
+    assert_eq!(store.issue(Desk, 0, &mut reads), Ok(()));
     assert_eq!(reads, [Entry::put(5, 1200), Entry::remove(6)]);
     let open: Vec<bool> = (0..9).map(|slot| store.head().is_open(slot)).collect();
     assert_eq!(open, [true, false, false, true, false, false, false, false, false]);
@@ -175,23 +178,46 @@ fn forward() {
         [(8, 2, SlotRange), (0, 2, SlotClosed), (3, 0, StateRange), (3, 3, StateRange)]
     {
         let mut reads = read;
-        refused(&store, refusal, |store| store.forward(slot, state, &mut reads));
+        refused(&store, refusal, |store| store.forward(Desk, slot, state, &mut reads));
         assert_eq!(reads, read);
     }
-    refused(&store, BadList, |store| store.forward(3, 2, &mut [read[0]; 2]));
+    refused(&store, BadList, |store| store.forward(Desk, 3, 2, &mut [read[0]; 2]));
     let mut reads = read;
-    assert_eq!(store.forward(3, 2, &mut reads), Ok(()));
+    assert_eq!(store.forward(Desk, 3, 2, &mut reads), Ok(()));
     assert_eq!((reads, store.head().is_open(3)), ([Entry::put(5, 1100)], false));
-    refused(&store, SlotClosed, |store| store.forward(3, 2, &mut reads));
+    refused(&store, SlotClosed, |store| store.forward(Desk, 3, 2, &mut reads));
 }
 
 #[test]
 fn release() {
     let mut store = store();
-    refused(&store, SlotRange, |store| store.release(8));
-    refused(&store, SlotClosed, |store| store.release(4));
-    assert_eq!(store.release(3), Ok(()));
+    refused(&store, SlotRange, |store| store.release(Desk, 8));
+    refused(&store, SlotClosed, |store| store.release(Desk, 4));
+    assert_eq!(store.release(Desk, 3), Ok(()));
     assert_eq!(store.head().oldest_slot(), None);
+}
+
+/// Slots 3 and 6 are open; each caller's calls in a slot of the other's are refused, and change nothing.
+#[test]
+fn callers() {
+    let (mut store, mut reads) = (store(), [Entry::ask(5), Entry::ask(9)]);
+    assert_eq!(store.issue(Foyer, 6, &mut reads), Ok(()));
+    assert_eq!(reads, [Entry::put(5, 1200), Entry::put(9, 700)]);
+    for (caller, open, closed) in [(Desk, 6, 7), (Foyer, 3, 5)] {
+        for slot in [open, closed] {
+            refused(&store, OthersSlot, |store| store.issue(caller, slot, &mut []));
+            refused(&store, OthersSlot, |store| store.forward(caller, slot, 2, &mut []));
+            refused(&store, OthersSlot, |store| store.release(caller, slot));
+        }
+        refused(&store, SlotRange, |store| store.release(caller, 8));
+    }
+    let mut long: Vec<Entry> = (0..17).map(Entry::ask).collect();
+    refused(&store, LongList, |store| store.issue(Foyer, 7, &mut long));
+    refused(&store, LongList, |store| store.forward(Foyer, 6, 9, &mut long));
+    refused(&store, SlotTaken, |store| store.issue(Foyer, 6, &mut long));
+    assert_eq!(store.issue(Desk, 5, &mut long), Ok(()));
+    assert_eq!(store.forward(Foyer, 6, 2, &mut reads), Ok(()));
+    assert_eq!(reads, [Entry::put(5, 1100), Entry::remove(9)]);
 }
 
 #[test]
@@ -231,6 +257,6 @@ fn a_store_taken_up_again() {
     let mut again = Store::from_parts(table, journal, head, tally);
     assert_eq!(again, store());
     let mut reads = [Entry::put(5, 1200)];
-    assert_eq!(again.forward(3, 2, &mut reads), Ok(()));
+    assert_eq!(again.forward(Desk, 3, 2, &mut reads), Ok(()));
     assert_eq!(reads, [Entry::put(5, 1100)]);
 }

@@ -88,7 +88,11 @@ fn constants_are_those_of_the_header() {
         ("JOURNAL_WORDS", JOURNAL_WORDS),
         ("LIST_WORDS", LIST_WORDS),
         ("BATCH_ORDERS", BATCH_ORDERS),
+        ("FOYER_WORDS", FOYER_WORDS),
         ("SLOTS", SLOTS),
+        ("FOYER_SLOT", FOYER_SLOT),
+        ("DESK", DESK as usize),
+        ("FOYER", FOYER as usize),
         ("STEPS", STEPS),
         ("IMAGE_BYTES", IMAGE_BYTES),
         ("LIST", Order::LIST.into()),
@@ -117,7 +121,7 @@ fn one_version() {
 
 #[test]
 fn what_is_unknown_is_kept() {
-    for number in [0, 18, 99, 100, 101, 1 << 32, u64::MAX] {
+    for number in [0, 20, 99, 100, 101, 1 << 32, u64::MAX] {
         let refusal = Refusal::of_number(number);
         assert_eq!(
             (refusal, refusal.number(), refusal.name()),

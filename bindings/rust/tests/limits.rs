@@ -3,9 +3,11 @@
 mod common;
 
 use cechnuol::raw::StoreMut;
+use cechnuol::Caller::{Desk, Foyer};
 use cechnuol::{image_bytes_of, price_batch, Entry, Order, Refusal, Store};
 use cechnuol::{
-    BATCH_ORDERS, HEAD_WORDS, IMAGE_BYTES, JOURNAL_WORDS, LIST_WORDS, SLOTS, STEPS, TABLE_WORDS, TALLY_WORDS,
+    BATCH_ORDERS, FOYER_SLOT, FOYER_WORDS, HEAD_WORDS, IMAGE_BYTES, JOURNAL_WORDS, LIST_WORDS, SLOTS, STEPS,
+    TABLE_WORDS, TALLY_WORDS,
 };
 use common::{of_lengths, store, with_head};
 
@@ -31,9 +33,25 @@ fn lists() {
     let mut store = of_lengths(1, 4096);
     assert_eq!(store.commit(&entries[..LIST_WORDS]), Ok(()));
     assert_eq!(store.commit(&entries), Err(Refusal::BadList));
-    assert_eq!(store.issue(0, &mut entries[..LIST_WORDS].to_vec()), Ok(()));
-    assert_eq!(store.issue(1, &mut entries.clone()), Err(Refusal::BadList));
-    assert_eq!(store.forward(0, 1, &mut entries.clone()), Err(Refusal::BadList));
+    assert_eq!(store.issue(Desk, 0, &mut entries[..LIST_WORDS].to_vec()), Ok(()));
+    assert_eq!(store.issue(Desk, 1, &mut entries.clone()), Err(Refusal::BadList));
+    assert_eq!(store.forward(Desk, 0, 1, &mut entries.clone()), Err(Refusal::BadList));
+}
+
+#[test]
+fn lists_of_the_foyer() {
+    let entries: Vec<Entry> = (0..LIST_WORDS as u32 + 1).map(Entry::ask).collect();
+    let long = [FOYER_WORDS + 1, LIST_WORDS].map(|length| (length, Refusal::LongList));
+    let mut store = of_lengths(1, 1);
+    for (length, refusal) in long.into_iter().chain([(LIST_WORDS + 1, Refusal::BadList)]) {
+        assert_eq!(store.issue(Foyer, 7, &mut entries[..length].to_vec()), Err(refusal));
+    }
+    assert_eq!(store.issue(Foyer, 7, &mut entries[..FOYER_WORDS].to_vec()), Ok(()));
+    for (length, refusal) in long.into_iter().chain([(LIST_WORDS + 1, Refusal::BadList)]) {
+        assert_eq!(store.forward(Foyer, 7, 0, &mut entries[..length].to_vec()), Err(refusal));
+    }
+    assert_eq!(store.forward(Foyer, 7, 0, &mut entries[..FOYER_WORDS].to_vec()), Ok(()));
+    assert_eq!((Desk.list_words(), Foyer.list_words()), (64, 16));
 }
 
 #[test]
@@ -47,8 +65,14 @@ fn batches() {
 #[test]
 fn slots() {
     let mut store = of_lengths(1, 1);
-    (0..SLOTS).for_each(|slot| assert_eq!(store.issue(slot, &mut []), Ok(())));
-    assert_eq!(store.issue(SLOTS, &mut []), Err(Refusal::SlotRange));
+    for (caller, other) in [(Desk, Foyer), (Foyer, Desk)] {
+        for slot in caller.slots() {
+            assert_eq!(store.issue(other, slot, &mut []), Err(Refusal::OthersSlot));
+            assert_eq!(store.issue(caller, slot, &mut []), Ok(()));
+        }
+        assert_eq!(store.issue(caller, SLOTS, &mut []), Err(Refusal::SlotRange));
+    }
+    assert_eq!((Desk.slots(), Foyer.slots()), (0..FOYER_SLOT, 6..8));
     assert!((0..SLOTS).all(|slot| store.head().is_open(slot) && store.head().issued(slot) == Some(0)));
     assert!(!store.head().is_open(SLOTS) && store.head().issued(SLOTS).is_none());
 }
@@ -78,7 +102,7 @@ fn images() {
 /// The last word of the head is tested, and the last of the tally counted; the library writes nothing behind them.
 #[test]
 fn heads_and_tallies() {
-    assert_eq!(with_head(&store(), &[(HEAD_WORDS - 1, 1)]).release(3), Err(Refusal::Unsound));
+    assert_eq!(with_head(&store(), &[(HEAD_WORDS - 1, 1)]).release(Desk, 3), Err(Refusal::Unsound));
     let (mut table, mut journal) = ([7; 2], [7; 2]);
     let mut head = [[u64::MAX; HEAD_WORDS]; 2];
     let mut tally = [[u64::MAX; TALLY_WORDS]; 2];

@@ -2,6 +2,7 @@
 
 mod common;
 
+use cechnuol::Caller::Desk;
 use cechnuol::{Entry, Head, Refusal, Store, Tally};
 use common::store;
 use std::thread;
@@ -19,7 +20,7 @@ fn lent_memory() {
     assert_eq!((table[0], &journal), (ENTRY.word(), &[0; 16]));
     // taken up again, over the same memory
     let again = Store::from_parts(&mut table[..], &mut journal[..], head, tally);
-    assert_eq!(again.look_up(5, 1), Ok(Some(1200)));
+    assert_eq!(again.look_up(Desk, 5, 1), Ok(Some(1200)));
 }
 
 #[test]
@@ -35,12 +36,12 @@ fn arrays_and_boxes() {
     let mut arrays = Store::from_parts([7; 4], [7; 16], Head::from_words([7; 84]), Tally::from_words([7; 3]));
     assert_eq!(arrays.commit(&[ENTRY]), Err(Refusal::Unsound));
     assert_eq!(
-        (arrays.clear(), arrays.commit(&[ENTRY]), arrays.look_up(5, 1)),
+        (arrays.clear(), arrays.commit(&[ENTRY]), arrays.look_up(Desk, 5, 1)),
         (Ok(()), Ok(()), Ok(Some(1200)))
     );
     let (table, journal) = (vec![0; 4].into_boxed_slice(), vec![0; 16]);
     let mut boxed = Store::from_parts(table, journal, Head::default(), Tally::default());
-    assert_eq!((boxed.commit(&[ENTRY]), boxed.look_up(5, 1)), (Ok(()), Ok(Some(1200))));
+    assert_eq!((boxed.commit(&[ENTRY]), boxed.look_up(Desk, 5, 1)), (Ok(()), Ok(Some(1200))));
 }
 
 /// A store over slices that cannot be written has the queries, and only those.
@@ -48,7 +49,7 @@ fn arrays_and_boxes() {
 fn memory_to_read() {
     let kept = store();
     let reader = Store::from_parts(kept.table(), kept.journal(), kept.head().clone(), *kept.tally());
-    assert_eq!(reader.look_up(5, 2), Ok(Some(1100)));
+    assert_eq!(reader.look_up(Desk, 5, 2), Ok(Some(1100)));
     assert_eq!(reader.write_image(&mut [0; 22]), Ok(22));
     assert_eq!(reader.entries(), kept.entries());
 }
@@ -58,10 +59,10 @@ fn queries_from_several_threads() {
     let store = store();
     thread::scope(|scope| {
         for _ in 0..4 {
-            scope.spawn(|| (0..1000).for_each(|_| assert_eq!(store.look_up(5, 2), Ok(Some(1100)))));
+            scope.spawn(|| (0..1000).for_each(|_| assert_eq!(store.look_up(Desk, 5, 2), Ok(Some(1100)))));
         }
     });
-    let moved = thread::spawn(move || store.look_up(9, 1));
+    let moved = thread::spawn(move || store.look_up(Desk, 9, 1));
     assert_eq!(moved.join().expect("a lookup"), Ok(Some(700)));
 }
 

@@ -3,6 +3,7 @@
 
 mod common;
 
+use cechnuol::Caller::{Desk, Foyer};
 use cechnuol::{price_batch, Entry, Head, Order, Refusal, Store, Tally, HEAD_WORDS, TALLY_WORDS};
 use common::{of_lengths, store, Rng, CALLS};
 
@@ -53,7 +54,7 @@ fn random_words_as_lists() {
         }
         accepted += 1;
         assert_eq!(store.commit(&list), Ok(()));
-        list.iter().for_each(|entry| assert_eq!(store.look_up(entry.offer(), 1), Ok(entry.price())));
+        list.iter().for_each(|entry| assert_eq!(store.look_up(Desk, entry.offer(), 1), Ok(entry.price())));
     }
     assert!((100..4900).contains(&accepted), "{accepted}");
 }
@@ -64,9 +65,10 @@ fn random_words_as_read_sets() {
     for turn in 0..5000 {
         let (mut store, mut reads) = (store(), entries(&mut rng));
         let before = (store.clone(), reads.clone());
+        let caller = [Desk, Foyer][rng.below(2)];
         let answer = match turn % 2 {
-            0 => store.issue(rng.below(10), &mut reads),
-            _ => store.forward(rng.below(10), rng.below(4) as u32, &mut reads),
+            0 => store.issue(caller, rng.below(10), &mut reads),
+            _ => store.forward(caller, rng.below(10), rng.below(4) as u32, &mut reads),
         };
         assert!(answer.is_ok() || (store, reads) == before, "{answer:?}");
     }

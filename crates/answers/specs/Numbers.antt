@@ -1,12 +1,14 @@
--- The numbers of the grounds (document 01, "Grounds for turning a call away").
+-- The numbers of the grounds (document 01, "Grounds for turning a call away"; document 02: "These and all later numbers join those of
+-- document 01.").
 -- Assumes nothing.
 use Prim.Native.Nat.{ℕ}
 use Rattle.answers.specs.declared.ground.Ground.{Ground}
 use Rattle.answers.specs.declared.ground.Ground.the-variants.{Lengths, Unsound, SlotRange, SlotTaken, SlotClosed, BadList}
 use Rattle.answers.specs.declared.ground.Ground.the-variants.{BadOrder, OfferNotRead, OrderNoPrice, PriceRange, StateRange, LastState}
 use Rattle.answers.specs.declared.ground.Ground.the-variants.{StepsFull, JournalFull, BadImage, TableFull, OutputShort}
+use Rattle.answers.specs.declared.ground.Ground.the-variants.{LongList, OthersSlot}
 
--- the number of each ground, in the order in which they are checked
+-- the number of each ground
 abbrev pub numberOf : Ground → ℕ
 numberOf Lengths = 1
 numberOf Unsound = 2
@@ -25,3 +27,5 @@ numberOf JournalFull = 14
 numberOf BadImage = 15
 numberOf TableFull = 16
 numberOf OutputShort = 17
+numberOf LongList = 18
+numberOf OthersSlot = 19

@@ -39,8 +39,15 @@ pub enum Read {
     Release(Reader),
 }
 
-// Which slot a call opens or closes.
+// Who calls: the counter's desk, or the display in the foyer.
+pub enum Caller {
+    Desk,
+    Foyer,
+}
+
+// Who opens or closes a slot, and which.
 pub struct Reader {
+    pub caller: Caller,
     pub slot: usize,
 }
 
@@ -51,8 +58,9 @@ pub enum Query {
     WriteImage,
 }
 
-// Whose price is asked for, and at which state.
+// Who asks, for the price of which offer, and at which state. Lookups are open to all callers.
 pub struct LookUp {
+    pub caller: Caller,
     pub offer: u32,
     pub state: u32,
 }

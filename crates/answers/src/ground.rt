@@ -1,8 +1,8 @@
-// The grounds for turning a call away (document 01), with their numbers.
+// The grounds for turning a call away (documents 01 and 02), with their numbers.
 ghost use mathlib.Core.Path.{_≡_};
 ghost use Rattle.answers.specs.Numbers.{numberOf};
 
-// A ground for turning a call away. In document 01's words the table is the book, the journal the change
+// A ground for turning a call away. In the papers' words the table is the book, the journal the change
 // memory, a slot a place, the checkpoint the anchor and a release a drop.
 pub enum Ground {
     // 1. The book's or the change memory's length is outside its range.
@@ -40,9 +40,13 @@ pub enum Ground {
     TableFull,
     // 17. Output is shorter than what is to be written.
     OutputShort,
+    // 18. A foyer list over 16 words.
+    LongList,
+    // 19. A place that isn't the caller's.
+    OthersSlot,
 }
 
-// The number of a ground in document 01.
+// The number of a ground in the papers.
 pub fn number(ground: Ground) -> u32
     ensures { λ r. ⌜ r ≡ numberOf ground ⌝ }
 {
@@ -64,5 +68,7 @@ pub fn number(ground: Ground) -> u32
         Ground::BadImage => 15,
         Ground::TableFull => 16,
         Ground::OutputShort => 17,
+        Ground::LongList => 18,
+        Ground::OthersSlot => 19,
     }
 }

@@ -15,8 +15,11 @@ use cechnuol::store::cechnuol_roll_back;
 use cechnuol::store::cechnuol_write_image;
 use head_words::HEAD_WORDS;
 use lent::storing::TALLY_WORDS;
+ghost use mathlib.Core.Bool.{cond};
 ghost use mathlib.Core.List.{[]};
+ghost use lib.Dec.{eqb};
 ghost use Rattle.answers.specs.declared.call.Call.the-variants.{Reset, Step, Read};
+ghost use Rattle.answers.specs.declared.call.Caller.the-variants.{Desk, Foyer};
 ghost use Rattle.answers.specs.declared.call.Query.the-variants.{LookUp, WriteImage};
 ghost use Rattle.answers.specs.declared.call.Read.the-variants.{Issue, Forward, Release};
 ghost use Rattle.answers.specs.declared.call.Reset.the-variants.{Clear, Load, Restart};
@@ -119,14 +122,15 @@ pub fn issue(
     journal: &mut [u64],
     head: &mut [u64; HEAD_WORDS],
     tally: &mut [u64; TALLY_WORDS],
+    caller: u32,
     slot: usize,
     words: &mut [u64],
 ) -> u64
-    ensures { λ r. ⌜ WordsKeep (Read (Issue (record { slot = slot })))
+    ensures { λ r. ⌜ WordsKeep (Read (Issue (record { caller = cond (eqb caller 0) Desk Foyer; slot = slot })))
         (now (table .entry)) (now (journal .entry)) (now (head .entry)) (now (tally .entry))
         (now (words .entry)) r (now (table .exit)) (now (journal .exit)) (now (head .exit)) (now (tally .exit)) (now (words .exit)) ⌝ }
 {
-    cechnuol_issue(table, journal, head, tally, slot, words)
+    cechnuol_issue(table, journal, head, tally, caller, slot, words)
 }
 
 // `cechnuol_forward`.
@@ -135,15 +139,16 @@ pub fn forward(
     journal: &mut [u64],
     head: &mut [u64; HEAD_WORDS],
     tally: &mut [u64; TALLY_WORDS],
+    caller: u32,
     slot: usize,
     state: u32,
     words: &mut [u64],
 ) -> u64
-    ensures { λ r. ⌜ WordsKeep (Read (Forward (record { slot = slot }) state))
+    ensures { λ r. ⌜ WordsKeep (Read (Forward (record { caller = cond (eqb caller 0) Desk Foyer; slot = slot }) state))
         (now (table .entry)) (now (journal .entry)) (now (head .entry)) (now (tally .entry))
         (now (words .entry)) r (now (table .exit)) (now (journal .exit)) (now (head .exit)) (now (tally .exit)) (now (words .exit)) ⌝ }
 {
-    cechnuol_forward(table, journal, head, tally, slot, state, words)
+    cechnuol_forward(table, journal, head, tally, caller, slot, state, words)
 }
 
 // `cechnuol_release`.
@@ -152,13 +157,14 @@ pub fn release(
     journal: &mut [u64],
     head: &mut [u64; HEAD_WORDS],
     tally: &mut [u64; TALLY_WORDS],
+    caller: u32,
     slot: usize,
 ) -> u64
-    ensures { λ r. ⌜ StoreKeeps (Read (Release (record { slot = slot })))
+    ensures { λ r. ⌜ StoreKeeps (Read (Release (record { caller = cond (eqb caller 0) Desk Foyer; slot = slot })))
         (now (table .entry)) (now (journal .entry)) (now (head .entry)) (now (tally .entry))
         r (now (table .exit)) (now (journal .exit)) (now (head .exit)) (now (tally .exit)) ⌝ }
 {
-    cechnuol_release(table, journal, head, tally, slot)
+    cechnuol_release(table, journal, head, tally, caller, slot)
 }
 
 // `cechnuol_look_up`.
@@ -166,17 +172,18 @@ pub fn look_up(
     table: &[u64],
     journal: &[u64],
     head: &[u64; HEAD_WORDS],
+    caller: u32,
     offer: u32,
     state: u32,
     price: &mut u64,
 ) -> u64
-    ensures { λ r. ⌜ QueryKeeps (LookUp (record { offer = offer; state = state }))
+    ensures { λ r. ⌜ QueryKeeps (LookUp (record { caller = cond (eqb caller 0) Desk Foyer; offer = offer; state = state }))
         (now (table .entry)) (now (journal .entry)) (now (head .entry))
         [] r (now (price .entry)) (now (price .exit))
         (bytesWritten (now (table .entry)) (now (journal .entry)) [] [] (now (head .entry))
-        (LookUp (record { offer = offer; state = state }))) ⌝ }
+        (LookUp (record { caller = cond (eqb caller 0) Desk Foyer; offer = offer; state = state }))) ⌝ }
 {
-    cechnuol_look_up(table, journal, head, offer, state, price)
+    cechnuol_look_up(table, journal, head, caller, offer, state, price)
 }
 
 // `cechnuol_write_image`.

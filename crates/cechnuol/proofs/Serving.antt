@@ -1,6 +1,6 @@
 -- What a call on lent memory answers and leaves, where the words of the head do not fit and where they do.
 -- Assumes nothing.
-use mathlib.Core.Path.{_≡_, refl, sym, ap, ap₂, _∙_}
+use mathlib.Core.Path.{_≡_, refl, sym, ap, ap₂, subst, _∙_}
 use mathlib.Core.Bool.{Bool, true, false, cond}
 use mathlib.Core.List.{List}
 use Prim.Native.Nat.{ℕ}
@@ -23,7 +23,7 @@ use Rattle.unit.specs.Serve as Unit
 use Rattle.unit.specs.Serve.{served}
 use Rattle.head_words.specs.HeadWords.{headOf, headB, wordsOf}
 use Rattle.lent.specs.Codes.{codeOf, valueOf}
-use Rattle.lent.specs.Lent.{fitB, unfit, tallyOf, tallyWords, answerTo, Leaves, Serves, Asks, Tells}
+use Rattle.lent.specs.Lent.{fitB, unfit, tallyOf, tallyWords, answerTo, Leaves, Serves, wordsAfter, Asks, Tells}
 use Rattle.lent.proofs.Choices.{chosen, passed}
 
 refused-by : (t : Bool) → acceptedB (cond t (Refused Unsound) (Refused Lengths)) ≡ false
@@ -76,6 +76,17 @@ module _ (table journal words bytes head tally : List ℕ) (call : Call) where
       → Leaves table journal words bytes head tally call r t j w b h a → Serves table journal words bytes head tally call code t j h a
   serves coded left = (coded ∙ ap (λ (a : Answer). codeOf (saidBy a)) (left .0 .0), left .1, left .2, left .5, left .6)
 
+-- what is promised of a call holds of the same call as another way of asking has it
+module _ (table journal words bytes head tally : List ℕ) {c d : Call} (e : c ≡ d) where
+  pub serves-same : {code : ℕ} {t j h a : List ℕ}
+      → Serves table journal words bytes head tally c code t j h a → Serves table journal words bytes head tally d code t j h a
+  serves-same {code} {t} {j} {h} {a} = subst (λ (x : Call). Serves table journal words bytes head tally x code t j h a) e
+
+  pub words-same : {code : ℕ} {t j h a w : List ℕ}
+      → Serves table journal words bytes head tally c code t j h a × (w ≡ wordsAfter table journal words bytes head tally c)
+      → Serves table journal words bytes head tally d code t j h a × (w ≡ wordsAfter table journal words bytes head tally d)
+  words-same kept = (serves-same (kept .0), kept .1 ∙ ap (wordsAfter table journal words bytes head tally) e)
+
 -- a query: where the head is not fit, and where it is
 module _ (table journal words bytes head : List ℕ) (query : Query) where
   pub not-asked : {r : Answer} → headB head ≡ false → Gives r (unfit (length table) (length journal))
@@ -103,3 +114,14 @@ module _ (table journal words bytes head : List ℕ) (query : Query) where
     coded ∙ ap (λ (a : Answer). codeOf (saidBy a)) (asked .0 .0),
     valued ∙ ap (λ (a : Answer). valueOf (saidBy a) old) (asked .0 .0),
   )
+
+-- and the same of a query
+module _ (table journal words bytes head : List ℕ) {c d : Query} (e : c ≡ d) where
+  pub tells-same : {r : Answer} {code value : ℕ} {w b : List ℕ} (old : ℕ)
+      → code ≡ codeOf (saidBy r)
+      → value ≡ valueOf (saidBy r) old
+      → Asks table journal words bytes head c r w b
+      → Tells table journal words bytes head d code value old
+  tells-same {r} {code} {value} old coded valued asked =
+      subst (λ (x : Query). Tells table journal words bytes head x code value old) e
+      (tells table journal words bytes head c old coded valued asked)

@@ -2,6 +2,6 @@
 -- Assumes nothing.
 use Prim.Native.Nat.{ℕ}
 
--- 1.0.0: major × 1,000,000 + minor × 1,000 + patch
+-- 2.0.0: major × 1,000,000 + minor × 1,000 + patch
 abbrev pub version : ℕ
-version = 1000000
+version = 2000000

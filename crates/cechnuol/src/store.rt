@@ -1,4 +1,4 @@
-// The calls on a store, for C.
+// The calls on a store, for C. A caller is 0, the desk, or any other number, the foyer.
 use crate::memory::ask_on;
 use crate::memory::call_on;
 use crate::memory::clear_on;
@@ -14,6 +14,7 @@ use answers::call::Reader;
 use answers::call::Reset;
 use answers::call::Step;
 use head_words::HEAD_WORDS;
+use lent::callers::caller_of;
 use lent::codes::code_of;
 use lent::codes::value_of;
 use lent::storing::TALLY_WORDS;
@@ -159,22 +160,27 @@ pub extern "C" fn cechnuol_flush(
     serve_store(table, journal, head, tally, Call::Step(Step::Flush(state)))
 }
 
-// Writes the price of an offer at a state to `price`, or finds none.
+// Writes the price of an offer at a state to `price`, or finds none, whoever calls.
 #[no_mangle]
 pub extern "C" fn cechnuol_look_up(
     table: &[u64],
     journal: &[u64],
     head: &[u64; HEAD_WORDS],
+    caller: u32,
     offer: u32,
     state: u32,
     price: &mut u64,
 ) -> u64
-    ensures { λ r. ⌜ Tells (now (table .entry)) (now (journal .entry)) [] [] (now (head .entry)) (lookUp offer state) r
+    ensures { λ r. ⌜ Tells (now (table .entry)) (now (journal .entry)) [] [] (now (head .entry)) (lookUp caller offer state) r
         (now (price .exit)) (now (price .entry)) ⌝ }
 {
     let mut words = [0u64; 0];
     let mut bytes = [0u8; 0];
-    let asked = LookUp { offer, state };
+    let asked = LookUp {
+        caller: caller_of(caller),
+        offer,
+        state,
+    };
     let answer = ask_on(
         table,
         journal,
@@ -187,76 +193,91 @@ pub extern "C" fn cechnuol_look_up(
     code_of(answer)
 }
 
-// Issues a read of the list that the words are, and fills it.
+// Issues a read of the list that the words are, in a slot of the caller's, and fills it.
 #[no_mangle]
 pub extern "C" fn cechnuol_issue(
     table: &mut [u64],
     journal: &mut [u64],
     head: &mut [u64; HEAD_WORDS],
     tally: &mut [u64; TALLY_WORDS],
+    caller: u32,
     slot: usize,
     words: &mut [u64],
 ) -> u64
     ensures { λ r. ⌜ Serves (now (table .entry)) (now (journal .entry)) (now (words .entry)) [] (now (head .entry))
-        (now (tally .entry)) (issue slot) r (now (table .exit)) (now (journal .exit)) (now (head .exit)) (now (tally .exit))
+        (now (tally .entry)) (issue caller slot) r (now (table .exit)) (now (journal .exit)) (now (head .exit)) (now (tally .exit))
         × (now (words .exit)
         ≡ wordsAfter (now (table .entry)) (now (journal .entry)) (now (words .entry)) [] (now (head .entry))
-        (now (tally .entry)) (issue slot)) ⌝ }
+        (now (tally .entry)) (issue caller slot)) ⌝ }
 {
+    let reader = Reader {
+        caller: caller_of(caller),
+        slot,
+    };
     serve_words(
         table,
         journal,
         head,
         tally,
         words,
-        Call::Read(Read::Issue(Reader { slot })),
+        Call::Read(Read::Issue(reader)),
     )
 }
 
-// Forwards a read to a state; the words are the read set.
+// Forwards a read of the caller's to a state; the words are the read set.
 #[no_mangle]
 pub extern "C" fn cechnuol_forward(
     table: &mut [u64],
     journal: &mut [u64],
     head: &mut [u64; HEAD_WORDS],
     tally: &mut [u64; TALLY_WORDS],
+    caller: u32,
     slot: usize,
     state: u32,
     words: &mut [u64],
 ) -> u64
     ensures { λ r. ⌜ Serves (now (table .entry)) (now (journal .entry)) (now (words .entry)) [] (now (head .entry))
-        (now (tally .entry)) (forward slot state) r (now (table .exit)) (now (journal .exit)) (now (head .exit)) (now (tally .exit))
+        (now (tally .entry)) (forward caller slot state) r (now (table .exit)) (now (journal .exit)) (now (head .exit)) (now (tally .exit))
         × (now (words .exit)
         ≡ wordsAfter (now (table .entry)) (now (journal .entry)) (now (words .entry)) [] (now (head .entry))
-        (now (tally .entry)) (forward slot state)) ⌝ }
+        (now (tally .entry)) (forward caller slot state)) ⌝ }
 {
+    let reader = Reader {
+        caller: caller_of(caller),
+        slot,
+    };
     serve_words(
         table,
         journal,
         head,
         tally,
         words,
-        Call::Read(Read::Forward(Reader { slot }, state)),
+        Call::Read(Read::Forward(reader, state)),
     )
 }
 
-// Closes a slot (document 01: drop).
+// Closes a slot of the caller's (document 01: drop).
 #[no_mangle]
 pub extern "C" fn cechnuol_release(
     table: &mut [u64],
     journal: &mut [u64],
     head: &mut [u64; HEAD_WORDS],
     tally: &mut [u64; TALLY_WORDS],
+    caller: u32,
     slot: usize,
 ) -> u64
     ensures { λ r. ⌜ Serves (now (table .entry)) (now (journal .entry)) [] [] (now (head .entry)) (now (tally .entry))
-        (release slot) r (now (table .exit)) (now (journal .exit)) (now (head .exit)) (now (tally .exit)) ⌝ }
+        (release caller slot) r (now (table .exit)) (now (journal .exit)) (now (head .exit)) (now (tally .exit)) ⌝ }
 {
+    let reader = Reader {
+        caller: caller_of(caller),
+        slot,
+    };
     serve_store(
         table,
         journal,
         head,
         tally,
-        Call::Read(Read::Release(Reader { slot })),
+        Call::Read(Read::Release(reader)),
     )
 }

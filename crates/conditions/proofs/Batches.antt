@@ -1,7 +1,7 @@
 -- Priced batches, proved.
 -- Assumes nothing.
 use mathlib.Core.Path.{_≡_, refl, sym, ap, _∙_}
-use mathlib.Core.Bool.{Bool, true, false, cond, _||_}
+use mathlib.Core.Bool.{Bool, true, false, cond, not, _||_}
 use mathlib.Core.List.{List, [], _∷_}
 use Prim.Native.Nat.{ℕ, _+_, _-_, _^_, _≤_, _<_}
 use native.Mathlib.Omega.{arith}
@@ -18,7 +18,9 @@ use Rattle.changes.proofs.ListTest.{and-both}
 use Rattle.answers.specs.declared.answer.Check.{Check}
 use Rattle.answers.specs.declared.answer.Check.the-variants.{Passed, Refused}
 use Rattle.answers.specs.declared.ground.Ground.{Ground}
-use Rattle.answers.specs.declared.ground.Ground.the-variants.{BadList, OrderNoPrice, PriceRange}
+use Rattle.answers.specs.declared.ground.Ground.the-variants.{BadList, BadOrder, OfferNotRead, OrderNoPrice, PriceRange}
+use Rattle.answers.specs.Answers.{groundIn, saidByCheck}
+use Rattle.answers.specs.First.{met, first}
 use Rattle.answers.specs.Numbers.{numberOf}
 use Rattle.answers.proofs.Firsts.{passed-not}
 use Rattle.orders.specs.declared.effects.Effect.{Effect}
@@ -27,7 +29,7 @@ use Rattle.orders.specs.Orders.{Kind, lists, withdraws, raises, cuts, keeps, un
 use Rattle.orders.specs.Orders.{orderOffer, allowedWith, allowedB}
 use Rattle.orders.specs.Effects.{putAt, withPrice, sixteenths, effectBy, effect, lowered}
 use Rattle.execution.specs.Executing.{Executed, done, fails, next, execute, priced}
-use Rattle.execution.specs.Tests.{allB}
+use Rattle.execution.specs.Tests.{readB, allB}
 use Rattle.batch.specs.Batches.{checked, fitting, batch}
 use Rattle.batch.proofs.BatchChecks.{batch-stopped, batch-executes, fits, too-short, stop-list, stop-many}
 use Rattle.batch.proofs.Theorems as theorems
@@ -132,6 +134,20 @@ unfolding withPrice
 cut-deep offer amount w p h = rw (eq-eqb (kindOf w) 1 p) (rw (lt-leb amount (priceOf w) h) refl)
 
 -- the number by which a batch is refused
+tested-number : (a b c d : Bool) (ground : Ground)
+    → first (met a BadList ∷ met b BadList ∷ met c BadOrder ∷ met d OfferNotRead ∷ []) ≡ Refused ground → numberOf ground ≤ 8
+unfolding first
+tested-number true b c d ground e = omega (arith, ap (λ (k : Check). groundIn (saidByCheck k)) e)
+tested-number false true c d ground e = omega (arith, ap (λ (k : Check). groundIn (saidByCheck k)) e)
+tested-number false false true d ground e = omega (arith, ap (λ (k : Check). groundIn (saidByCheck k)) e)
+tested-number false false false true ground e = omega (arith, ap (λ (k : Check). groundIn (saidByCheck k)) e)
+tested-number false false false false ground e = omega (arith, ap (λ (k : Check). groundIn (saidByCheck k)) e)
+
+stopped-number : (reads orders : List ℕ) (ground : Ground) → checked reads orders ≡ Refused ground → numberOf ground ≤ 8
+unfolding checked
+stopped-number reads orders =
+    tested-number (not (listB reads)) (ltb 64 (length orders)) (not (allB allowedB orders)) (not (allB (readB reads) orders))
+
 low-number : (n : ℕ) → nineOrTen n ≡ true → (1 ≤ n) × (n ≤ 17)
 low-number n e = go (eqb n 9) refl (eqb n 10) refl e
   where
@@ -163,8 +179,7 @@ module _ (reads orders : List ℕ) (room n : ℕ) (e : batch reads orders room �
   by-check Passed c = by-executed (priced reads orders) refl c
   by-check (Refused ground) c =
       let same = number-is (numberOf ground) n (sym (batch-stopped reads orders room c) ∙ e) in
-      let range = number-range ground in
-      (omega (arith, same, range .0), omega (arith, same, range .1))
+      (omega (arith, same, number-range ground .0), omega (arith, same, stopped-number reads orders ground c))
 
   pub batch-number : (1 ≤ n) × (n ≤ 17)
   batch-number = by-check (checked reads orders) refl

@@ -1,8 +1,16 @@
--- What a C program reads by position, proved.
+-- What a C program reads by position and by number, proved.
 -- Assumes nothing.
-use mathlib.Core.Path.{refl}
+use mathlib.Core.Path.{_≡_, refl}
+use Prim.Native.Nat.{ℕ, _≤_}
+use native.Mathlib.Omega.{arith}
+use borrow.Author.Tests.{ne-eqb}
+use Rattle.answers.specs.declared.call.Caller.the-variants.{Foyer}
+use Rattle.lent.specs.Callers.{callerOf}
 use Rattle.head_words.proofs.Theorems.{word-used, word-oldest, word-checkpoint, word-tip, words-taken, words-issued, words-ends, words-long}
 use Rattle.conditions.specs.CLayout.{CLayout}
+
+foyer : (n : ℕ) → 1 ≤ n → callerOf n ≡ Foyer
+foyer n h = rw (ne-eqb n 0 (λ e. omega (arith, h, e))) refl
 
 pub c-layout : CLayout
 c-layout = record {
@@ -15,6 +23,8 @@ c-layout = record {
   ends = words-ends;
   size = words-long;
   tally = λ t. refl;
+  caller-desk = refl;
+  caller-foyer = foyer;
   code-accepted = λ n. refl;
   code-refused = λ n. refl;
   code-no-price = refl;

@@ -34,7 +34,7 @@ use Rattle.lent.proofs.TallyWords.{tally-back}
 use Rattle.conditions.specs.CCalls.{Memory, carriedIn, Result, ChangesStore, AnswersQuery, Promise, CallOfC}
 use Rattle.conditions.specs.CCalls.{UntouchedC, acceptedCode, groundCode, PricesC}
 use Rattle.conditions.specs.Condition1.{testsOf}
-use Rattle.conditions.specs.Grounds.{noneMet, firstNumber}
+use Rattle.conditions.specs.Grounds.{highest, noneMet, firstNumber}
 use Rattle.conditions.specs.Runs.{lending}
 use Rattle.conditions.proofs.CCalls.{lentBy, left, answer-on, table-on, journal-on, words-on, bytes-on, tally-on, code-is, reads}
 use Rattle.conditions.proofs.CCalls.{code-asked, words-asked, bytes-asked}
@@ -45,7 +45,7 @@ use Rattle.conditions.proofs.Refusals.{number-range, granted, left-as-c
 pub record Turned (answer : Answer) : Type 0 where
   pub not-accepted : acceptedB answer ≡ false
   pub least : 1 ≤ codeOf (saidBy answer)
-  pub most : codeOf (saidBy answer) ≤ 17
+  pub most : codeOf (saidBy answer) ≤ highest
   pub value : (old : ℕ) → valueOf (saidBy answer) old ≡ old
 
 turned : (answer : Answer) → (codeOf (saidBy answer) ≡ 0 → ⊥) → (codeOf (saidBy answer) ≡ noPrice → ⊥) → Turned answer
@@ -63,7 +63,7 @@ turned (Away ground) z h = record {
 -- "gives one number of document 01 and leaves memory, tally and head as they came"
 pub record AsItCame (m : Memory) (words bytes : List ℕ) (r : Result) : Type 0 where
   pub least : 1 ≤ r .code
-  pub most : r .code ≤ 17
+  pub most : r .code ≤ highest
   pub memory : r .memory ≡ m
   pub words-same : r .words ≡ words
   pub bytes-same : r .bytes ≡ bytes
@@ -156,13 +156,13 @@ module _ (m : Memory) (words bytes : List ℕ) (r : Result) (z : r .code ≡ 0 �
   as-it-came (Ask query) p three = asked-as query p
 
 pub c-refused : (m : Memory) (a : Asked) (r : Result) → CallOfC m a r → (r .code ≡ 0 → ⊥) → (r .code ≡ noPrice → ⊥)
-    → (1 ≤ r .code) × (r .code ≤ 17) × UntouchedC m a r
+    → (1 ≤ r .code) × (r .code ≤ highest) × UntouchedC m a r
 c-refused m a r c z h =
     let came = as-it-came m (a .words) (a .bytes) r z h (a .call) (c .promise) (c .tally-words) in
     (came .least, came .most, (came .memory, came .words-same, came .bytes-same, came .value-same))
 
 -- what a code says of the grounds
-number-low : (ground : Ground) → (eqb (numberOf ground) 0 ≡ false) × (eqb (numberOf ground) noPrice ≡ false)
+pub number-low : (ground : Ground) → (eqb (numberOf ground) 0 ≡ false) × (eqb (numberOf ground) noPrice ≡ false)
 number-low ground =
     let range = number-range ground in
     (ne-eqb (numberOf ground) 0 (λ e. omega (arith, range .0, e)), ne-eqb (numberOf ground) noPrice (λ e. omega (arith, range .1, e)))

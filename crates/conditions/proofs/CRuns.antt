@@ -14,9 +14,6 @@ use Rattle.answers.specs.declared.call.Read.{Read as ReadCall}
 use Rattle.answers.specs.declared.call.Read.the-variants.{Issue, Forward, Release}
 use Rattle.answers.specs.declared.call.Reset.the-variants.{Load}
 use Rattle.answers.specs.declared.ground.Ground.{Ground}
-use Rattle.answers.specs.declared.ground.Ground.the-variants.{Lengths, Unsound, SlotRange, SlotTaken, SlotClosed, BadList}
-use Rattle.answers.specs.declared.ground.Ground.the-variants.{BadOrder, OfferNotRead, OrderNoPrice, PriceRange, StateRange}
-use Rattle.answers.specs.declared.ground.Ground.the-variants.{LastState, StepsFull, JournalFull, BadImage, TableFull, OutputShort}
 use Rattle.answers.specs.Answers.{Said, accepted, saidBy}
 use Rattle.answers.specs.Numbers.{numberOf}
 use Rattle.unit.specs.Carried.{Carried, next}
@@ -35,6 +32,7 @@ use Rattle.conditions.specs.Serving.{Seen, withTally, Of64Bits, tells, l
 use Rattle.conditions.proofs.CCalls.{StandsFor, code-is, words-are, bytes-are, code-asked, value-asked}
 use Rattle.conditions.proofs.CCalls.{words-asked, bytes-asked, carried-is}
 use Rattle.conditions.proofs.CCalls.{head-fits, call-fits, stands-after, accepted-anew, stands-anew}
+use Rattle.conditions.proofs.CRefusals.{number-low}
 use Rattle.conditions.proofs.Serves.{seenOf, serves-seen, next-is}
 use Rattle.conditions.proofs.Followed.{answered, after, Started}
 use Rattle.conditions.proofs.ServeRuns.{storeCarried, Follows, steps, loads-as-plain, starts}
@@ -46,23 +44,9 @@ byCode named code value words bytes =
 
 refused-code : (named : Named) (ground : Ground) (value : ℕ) (words bytes : List ℕ)
     → byCode named (numberOf ground) value words bytes ≡ refused (numberOf ground)
-refused-code named Lengths value words bytes = refl
-refused-code named Unsound value words bytes = refl
-refused-code named SlotRange value words bytes = refl
-refused-code named SlotTaken value words bytes = refl
-refused-code named SlotClosed value words bytes = refl
-refused-code named BadList value words bytes = refl
-refused-code named BadOrder value words bytes = refl
-refused-code named OfferNotRead value words bytes = refl
-refused-code named OrderNoPrice value words bytes = refl
-refused-code named PriceRange value words bytes = refl
-refused-code named StateRange value words bytes = refl
-refused-code named LastState value words bytes = refl
-refused-code named StepsFull value words bytes = refl
-refused-code named JournalFull value words bytes = refl
-refused-code named BadImage value words bytes = refl
-refused-code named TableFull value words bytes = refl
-refused-code named OutputShort value words bytes = refl
+refused-code named ground value words bytes =
+    let low = number-low ground in
+    rw (low .0) (rw (low .1) refl)
 
 module _ (named : Named) (value : ℕ) (words bytes words′ bytes′ : List ℕ) where
   told-by-code : (answer : Answer)

@@ -1,6 +1,6 @@
 -- Condition 2, proved.
 -- Assumes nothing.
-use Rattle.moments.proofs.Theorem.{moments-follow}
+use Rattle.moments.proofs.Theorem.{moments-follow, callers-follow}
 use Rattle.conditions.specs.Condition2.{Condition2}
 use Rattle.conditions.proofs.Batches.{batches}
 use Rattle.conditions.proofs.AsServed.{as-served}
@@ -20,4 +20,5 @@ condition-2 = record {
   c-as-served = as-served;
   c-layout = c-layout;
   moments = moments-follow;
+  desk-and-foyer = callers-follow;
 }

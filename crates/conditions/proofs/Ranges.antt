@@ -11,6 +11,7 @@ use lib.ListN.{length}
 use Rattle.changes.specs.Lists.{risingB, listB}
 use Rattle.changes.proofs.Laws.{changes-test}
 use Rattle.changes.proofs.ListTest.{and-both}
+use Rattle.answers.specs.declared.call.Caller.the-variants.{Desk, Foyer}
 use Rattle.answers.specs.declared.call.Reader.{Reader}
 use Rattle.layout.specs.declared.head.Head.{Head}
 use Rattle.layout.specs.Clauses.{lengthsB, numbersB}
@@ -19,6 +20,7 @@ use Rattle.layout.proofs.Holds.{first-holds, all-none}
 use Rattle.layout.specs.States.{heldOf}
 use Rattle.commits.specs.Commit.{stepGrounds}
 use Rattle.lookups.specs.LookUp.{offerGrounds}
+use Rattle.slots.specs.Callers.{readerOf, longGrounds}
 use Rattle.slots.specs.Slots.{slotGrounds}
 use Rattle.soundness.specs.Checks.{stateGrounds}
 use Rattle.conditions.specs.Grounds.{firstNumber}
@@ -36,17 +38,45 @@ in-lengths table journal a b c d =
     ∙ first-holds _ _ (le-leb journal 4096 d)
     ∙ all-none
 
+list-short : (l : List ℕ) → listB l ≡ true → length l ≤ 64
+list-short l e = leb-true (length l) 64 (and-both (leb (length l) 64) (risingB 0 l) e .0)
+
 long-list : (l : List ℕ) → 65 ≤ length l → listB l ≡ false
-long-list l h = is-false (listB l) (λ e. omega (arith, leb-true (length l) 64 (and-both (leb (length l) 64) (risingB 0 l) e .0)))
+long-list l h = is-false (listB l) (λ e. omega (arith, list-short l e))
 
-module _ (reader : Reader) where
-  slot-low : reader .slot ≤ 7 → firstNumber (slotGrounds reader) ≡ 0
-  unfolding firstNumber
-  slot-low h = rw (lt-leb 8 (reader .slot) (omega arith)) refl
+slot-high : (reader : Reader) → 8 ≤ reader .slot → firstNumber (slotGrounds reader) ≡ 3
+unfolding firstNumber
+slot-high reader h = rw (le-leb 8 (reader .slot) h) refl
 
-  slot-high : 8 ≤ reader .slot → firstNumber (slotGrounds reader) ≡ 3
+module _ (slot : ℕ) where
+  desk-has : slot ≤ 5 → firstNumber (slotGrounds (readerOf Desk slot)) ≡ 0
   unfolding firstNumber
-  slot-high h = rw (le-leb 8 (reader .slot) h) refl
+  desk-has h = rw (lt-leb 8 slot (omega arith)) (rw (lt-ltb slot 6 (omega arith)) refl)
+
+  desk-lacks : 6 ≤ slot → slot ≤ 7 → firstNumber (slotGrounds (readerOf Desk slot)) ≡ 19
+  unfolding firstNumber
+  desk-lacks h i = rw (lt-leb 8 slot (omega arith)) (rw (le-ltb slot 6 h) refl)
+
+  foyer-has : 6 ≤ slot → slot ≤ 7 → firstNumber (slotGrounds (readerOf Foyer slot)) ≡ 0
+  unfolding firstNumber
+  foyer-has h i = rw (lt-leb 8 slot (omega arith)) (rw (le-leb 6 slot h) refl)
+
+  foyer-lacks : slot ≤ 5 → firstNumber (slotGrounds (readerOf Foyer slot)) ≡ 19
+  unfolding firstNumber
+  foyer-lacks h = rw (lt-leb 8 slot (omega arith)) (rw (lt-leb 6 slot (omega arith)) refl)
+
+module _ (list : List ℕ) where
+  desk-list : listB list ≡ true → firstNumber (longGrounds Desk (length list)) ≡ 0
+  unfolding firstNumber
+  desk-list e = rw (le-ltb 64 (length list) (list-short list e)) refl
+
+  foyer-list : length list ≤ 16 → firstNumber (longGrounds Foyer (length list)) ≡ 0
+  unfolding firstNumber
+  foyer-list h = rw (le-ltb 16 (length list) h) refl
+
+  foyer-long : 17 ≤ length list → firstNumber (longGrounds Foyer (length list)) ≡ 18
+  unfolding firstNumber
+  foyer-long h = rw (lt-ltb 16 (length list) h) refl
 
 module _ (head : Head) (state : ℕ) where
   state-in : head .checkpoint ≤ state → state ≤ head .tip → firstNumber (stateGrounds head state) ≡ 0
@@ -105,8 +135,14 @@ ranges = record {
   step-left = steps-few;
   no-step-left = steps-full;
   last-state = tip-last;
-  slot-in-range = slot-low;
   slot-too-high = slot-high;
+  slot-of-the-desk = desk-has;
+  desk-at-the-foyers = desk-lacks;
+  slot-of-the-foyer = foyer-has;
+  foyer-at-the-desks = foyer-lacks;
+  list-of-the-desk = desk-list;
+  list-of-the-foyer = foyer-list;
+  too-long-for-the-foyer = foyer-long;
   state-in-range = state-in;
   state-too-low = state-low;
   state-too-high = state-high;

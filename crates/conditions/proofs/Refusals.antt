@@ -19,6 +19,7 @@ use Rattle.answers.specs.declared.ground.Ground.{Ground}
 use Rattle.answers.specs.declared.ground.Ground.the-variants.{Lengths, Unsound, SlotRange, SlotTaken, SlotClosed, BadList}
 use Rattle.answers.specs.declared.ground.Ground.the-variants.{BadOrder, OfferNotRead, OrderNoPrice, PriceRange, StateRange}
 use Rattle.answers.specs.declared.ground.Ground.the-variants.{LastState, StepsFull, JournalFull, BadImage, TableFull, OutputShort}
+use Rattle.answers.specs.declared.ground.Ground.the-variants.{LongList, OthersSlot}
 use Rattle.answers.specs.Answers.{saidBy, groundIn, acceptedB, answered}
 use Rattle.answers.specs.First.{Test, met, first}
 use Rattle.answers.specs.Numbers.{numberOf}
@@ -31,12 +32,12 @@ use Rattle.layout.specs.States.{mapHere}
 use Rattle.lookups.specs.LookUp.{quoteOf}
 use Rattle.unit.specs.Carried.{Carried, Asked, lentTo}
 use Rattle.unit.proofs.Theorems.{refused-keeps}
-use Rattle.conditions.specs.Grounds.{groundsOf, numbers, once, firstNumber, noneMet}
+use Rattle.conditions.specs.Grounds.{highest, groundsOf, numbers, once, firstNumber, noneMet}
 use Rattle.conditions.specs.Serving.{Seen, CallOfServe, Untouched}
 use Rattle.conditions.specs.Condition1.{OneNumber}
 
--- the numbers of the grounds are 1 to 17
-pub number-range : (ground : Ground) → (1 ≤ numberOf ground) × (numberOf ground ≤ 17)
+-- the numbers of the grounds begin with 1 and end with the highest
+pub number-range : (ground : Ground) → (1 ≤ numberOf ground) × (numberOf ground ≤ highest)
 number-range Lengths = (omega arith, omega arith)
 number-range Unsound = (omega arith, omega arith)
 number-range SlotRange = (omega arith, omega arith)
@@ -54,6 +55,8 @@ number-range JournalFull = (omega arith, omega arith)
 number-range BadImage = (omega arith, omega arith)
 number-range TableFull = (omega arith, omega arith)
 number-range OutputShort = (omega arith, omega arith)
+number-range LongList = (omega arith, omega arith)
+number-range OthersSlot = (omega arith, omega arith)
 
 one-number : (answer : Answer) → acceptedB answer ≡ false → OneNumber (saidBy answer)
 one-number Done e = absurd (let z : _≡_ {A = ℕ} 0 1 = cc in omega arith)

@@ -1,13 +1,16 @@
--- What a C program reads by position: the words of a head and of a tally, and the codes (include/cechnuol.h).
+-- What a C program reads by position and by number: the words of a head and of a tally, the callers and the codes
+-- (include/cechnuol.h).
 -- Assumes nothing.
 use mathlib.Core.Path.{_≡_}
 use mathlib.Core.List.{[], _∷_, map}
-use Prim.Native.Nat.{ℕ}
+use Prim.Native.Nat.{ℕ, _≤_}
 use lib.ListN.{length, getD}
+use Rattle.answers.specs.declared.call.Caller.the-variants.{Desk, Foyer}
 use Rattle.answers.specs.declared.tally.Tally.{Tally}
 use Rattle.answers.specs.Answers.{accepted, refused, without}
 use Rattle.layout.specs.declared.head.Head.{Head}
 use Rattle.head_words.specs.HeadWords.{wordsOf, wordOf, from, Fits}
+use Rattle.lent.specs.Callers.{callerOf}
 use Rattle.lent.specs.Codes.{codeOf}
 use Rattle.lent.specs.Lent.{tallyWords}
 
@@ -23,6 +26,9 @@ pub record CLayout : Type 0 where
   pub size : (head : Head) → Fits head → length (wordsOf head) ≡ 84
   -- the tally
   pub tally : (t : Tally) → tallyWords t ≡ t .committed ∷ t .«rolled_back» ∷ t .flushed ∷ []
+  -- the callers: 0 is the desk, any other number the foyer
+  pub caller-desk : callerOf 0 ≡ Desk
+  pub caller-foyer : (n : ℕ) → 1 ≤ n → callerOf n ≡ Foyer
   -- the codes
   pub code-accepted : (n : ℕ) → codeOf (accepted n) ≡ 0
   pub code-refused : (n : ℕ) → codeOf (refused n) ≡ n

@@ -1,5 +1,6 @@
--- The grounds that concern each call, by number and in order (document 01, "Grounds for turning a call away"). A call that has two tests
--- for one ground, one after the other, has its number here once.
+-- The grounds that concern each call, by number and in order (document 01, "Grounds for turning a call away"; document 02: "These and
+-- all later numbers join those of document 01."). A call that has two tests for one ground, one after the other, has its number here
+-- once.
 -- Assumes nothing.
 use mathlib.Core.Bool.{Bool, true, false, cond}
 use mathlib.Core.List.{List, [], _∷_}
@@ -18,6 +19,10 @@ use Rattle.answers.specs.declared.call.Step.the-variants.{Commit, RollBack, Flu
 use Rattle.answers.specs.First.{Test, met}
 use Rattle.answers.specs.Numbers.{numberOf}
 
+-- the highest number of a ground
+abbrev pub highest : ℕ
+highest = 19
+
 abbrev pub ofReset : ResetCall → List ℕ
 ofReset Clear = 1 ∷ []
 ofReset Load = 1 ∷ 15 ∷ 16 ∷ []
@@ -30,9 +35,9 @@ ofStep (RollBack state) = 1 ∷ 2 ∷ 11 ∷ []
 ofStep (Flush state) = 1 ∷ 2 ∷ 11 ∷ 16 ∷ []
 
 abbrev pub ofRead : ReadCall → List ℕ
-ofRead (Issue reader) = 1 ∷ 2 ∷ 3 ∷ 4 ∷ 6 ∷ []
-ofRead (Forward reader state) = 1 ∷ 2 ∷ 3 ∷ 5 ∷ 6 ∷ 11 ∷ []
-ofRead (Release reader) = 1 ∷ 2 ∷ 3 ∷ 5 ∷ []
+ofRead (Issue reader) = 1 ∷ 2 ∷ 3 ∷ 19 ∷ 4 ∷ 6 ∷ 18 ∷ []
+ofRead (Forward reader state) = 1 ∷ 2 ∷ 3 ∷ 19 ∷ 5 ∷ 6 ∷ 18 ∷ 11 ∷ []
+ofRead (Release reader) = 1 ∷ 2 ∷ 3 ∷ 19 ∷ 5 ∷ []
 
 abbrev pub ofQuery : Query → List ℕ
 ofQuery (LookUp asked) = 1 ∷ 2 ∷ 6 ∷ 11 ∷ []

@@ -1,5 +1,5 @@
--- The ends of the ranges at both sides: of lengths, lists, held steps, state numbers, places, states and looked-up offers; and the
--- largest count.
+-- The ends of the ranges at both sides: of lengths, lists, held steps, state numbers, places, what a caller has, states and looked-up
+-- offers; and the largest count.
 -- Assumes nothing.
 use mathlib.Core.Path.{_≡_}
 use mathlib.Core.Bool.{true, false}
@@ -7,6 +7,7 @@ use mathlib.Core.List.{List}
 use Prim.Native.Nat.{ℕ, _+_, _-_, _^_, _≤_, _<_}
 use lib.ListN.{length}
 use Rattle.changes.specs.Lists.{Changes, listB}
+use Rattle.answers.specs.declared.call.Caller.the-variants.{Desk, Foyer}
 use Rattle.answers.specs.declared.call.Reader.{Reader}
 use Rattle.answers.specs.Counts.{largest}
 use Rattle.layout.specs.declared.head.Head.{Head}
@@ -14,6 +15,7 @@ use Rattle.layout.specs.Clauses.{lengthsB, numbersB}
 use Rattle.layout.specs.States.{heldOf}
 use Rattle.commits.specs.Commit.{stepGrounds}
 use Rattle.lookups.specs.LookUp.{offerGrounds}
+use Rattle.slots.specs.Callers.{readerOf, longGrounds}
 use Rattle.slots.specs.Slots.{slotGrounds}
 use Rattle.soundness.specs.Checks.{stateGrounds}
 use Rattle.conditions.specs.Grounds.{firstNumber}
@@ -38,8 +40,17 @@ pub record Ranges : Type 0 where
   pub no-step-left : (head : Head) → heldOf head ≡ 64 → head .tip < 2 ^ 32 - 1 → firstNumber (stepGrounds head) ≡ 13
   pub last-state : (head : Head) → head .tip ≡ 2 ^ 32 - 1 → firstNumber (stepGrounds head) ≡ 12
   -- "The place is above 7."
-  pub slot-in-range : (reader : Reader) → reader .slot ≤ 7 → firstNumber (slotGrounds reader) ≡ 0
   pub slot-too-high : (reader : Reader) → 8 ≤ reader .slot → firstNumber (slotGrounds reader) ≡ 3
+  -- "The foyer has places 6 and 7, the desk 0 to 5", and 19 is "a place that isn't the caller's"
+  pub slot-of-the-desk : (slot : ℕ) → slot ≤ 5 → firstNumber (slotGrounds (readerOf Desk slot)) ≡ 0
+  pub desk-at-the-foyers : (slot : ℕ) → 6 ≤ slot → slot ≤ 7 → firstNumber (slotGrounds (readerOf Desk slot)) ≡ 19
+  pub slot-of-the-foyer : (slot : ℕ) → 6 ≤ slot → slot ≤ 7 → firstNumber (slotGrounds (readerOf Foyer slot)) ≡ 0
+  pub foyer-at-the-desks : (slot : ℕ) → slot ≤ 5 → firstNumber (slotGrounds (readerOf Foyer slot)) ≡ 19
+  -- "The desk stays at 64 words a list": what is a list is never too long for the desk
+  pub list-of-the-desk : (list : List ℕ) → listB list ≡ true → firstNumber (longGrounds Desk (length list)) ≡ 0
+  -- "the foyer may issue and forward at most 16", and 18 is "a foyer list over 16 words"
+  pub list-of-the-foyer : (list : List ℕ) → length list ≤ 16 → firstNumber (longGrounds Foyer (length list)) ≡ 0
+  pub too-long-for-the-foyer : (list : List ℕ) → 17 ≤ length list → firstNumber (longGrounds Foyer (length list)) ≡ 18
   -- "The state named is below the anchor or above the tip."
   pub state-in-range : (head : Head) (state : ℕ) → head .checkpoint ≤ state → state ≤ head .tip → firstNumber (stateGrounds head state) ≡ 0
   pub state-too-low : (head : Head) (state : ℕ) → state < head .checkpoint → firstNumber (stateGrounds head state) ≡ 11

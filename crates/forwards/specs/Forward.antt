@@ -2,9 +2,9 @@
 -- number to the named state, then closes the place."
 -- Assumes nothing.
 use mathlib.Core.Bool.{false, not}
-use mathlib.Core.List.{List, _∷_, _++_}
+use mathlib.Core.List.{List, [], _∷_, _++_}
 use Prim.Native.Nat.{ℕ}
-use lib.ListN.{getD}
+use lib.ListN.{length, getD}
 use Rattle.changes.specs.Calculus.{composeAll}
 use Rattle.changes.specs.Lists.{listB}
 use Rattle.changes.specs.ReadSets.{over}
@@ -16,14 +16,17 @@ use Rattle.layout.specs.declared.head.Head.{Head}
 use Rattle.soundness.specs.Checks.{storeGrounds, stateGrounds}
 use Rattle.layout.specs.States.{stepsBetween}
 use Rattle.views.specs.Trim.{trimmedHead, trimmedJournal}
+use Rattle.slots.specs.Callers.{longGrounds}
 use Rattle.slots.specs.Slots.{slotGrounds, closedAt}
 
--- grounds 1, 2, 3, 5, 6 ("A list breaks its rules"), 11 ("below the anchor or above the tip")
+-- grounds 1, 2, 3, 19, 5, 6 ("A list breaks its rules"), 18 (of the read set that is lent), 11 ("below the anchor or above the tip")
 abbrev pub forwardGrounds : List ℕ → List ℕ → Head → Reader → ℕ → List ℕ → List Test
 forwardGrounds table journal head reader state words =
     storeGrounds table journal head
     ++ slotGrounds reader
-    ++ (met (not (getD (head .taken) (reader .slot) false)) SlotClosed ∷ met (not (listB words)) BadList ∷ stateGrounds head state)
+    ++ (met (not (getD (head .taken) (reader .slot) false)) SlotClosed ∷ met (not (listB words)) BadList ∷ [])
+    ++ longGrounds (reader .caller) (length words)
+    ++ stateGrounds head state
 
 abbrev pub forwardCheck : List ℕ → List ℕ → Head → Reader → ℕ → List ℕ → Check
 forwardCheck table journal head reader state words = first (forwardGrounds table journal head reader state words)

@@ -8,6 +8,7 @@ use layout::head::Head;
 use layout::head::Reply;
 use layout::states::step_index;
 use lists::rules::is_list;
+use slots::callers::long_check;
 use slots::close_slot;
 use slots::slot_check;
 use soundness::state_check;
@@ -31,6 +32,7 @@ fn forward_check(
 {
     let taken = head.taken;
     let slot = reader.slot;
+    let caller = reader.caller;
     let whole = head;
     let store = store_check(table, journal, whole, &head.ends);
     let Check::Passed = store else {
@@ -46,6 +48,10 @@ fn forward_check(
     if !is_list(words) {
         return Check::Refused(Ground::BadList);
     }
+    let long = long_check(caller, words.len());
+    let Check::Passed = long else {
+        return long;
+    };
     state_check(head, state)
 }
 

@@ -16,6 +16,7 @@ use Rattle.changes.specs.Calculus.{find, composeAll}
 use Rattle.changes.specs.Lists.{listB, noPutB, Map}
 use Rattle.changes.specs.ReadSets.{foundOr, readOf, over}
 use Rattle.changes.proofs.Applying.{compose-all-nil}
+use Rattle.changes.proofs.Reading.{read-length, over-length}
 use Rattle.changes.proofs.Laws.{read-changed, over-twice, over-zero, read-changes, run-split, changes-test}
 use Rattle.changes.proofs.ListTest.{list-facts}
 use Rattle.answers.specs.declared.call.LookUp.{LookUp as Asked}
@@ -39,12 +40,13 @@ use Rattle.issues.proofs.IssueAccepted.{issue-ok}
 use Rattle.forwards.proofs.ForwardAccepted.{ForwardOk, forward-ok}
 use Rattle.read_views.proofs.ClosingViews.{release-leaves, forward-leaves, forward-shows}
 use Rattle.read_views.proofs.OnViews.{look-up-shows, issue-leaves, issue-shows}
+use Rattle.slots.specs.Callers.{mostWords}
 use Rattle.snapshot.specs.Snapshots.{writeCheck, imageHere}
 use Rattle.history.specs.Named.{read, ask, calling, Response, responseTo, Transition, done, filled, forwarded, written}
 use Rattle.history.specs.Traces.{storeTransition}
 use Rattle.history.specs.Plain.{Test, met, accept, firstOf, Line, Place, closed, reading, Plain, tipOf}
 use Rattle.history.specs.Plain.{mapAt, floorOf, listsBetween, shown, quoted, openB, openAt, offersIn}
-use Rattle.history.specs.Plain.{offersAt, imageAt, slotTests, stateTests, readTests, queryTests, checked, withPlace}
+use Rattle.history.specs.Plain.{offersAt, imageAt, slotTests, longTests, stateTests, readTests, queryTests, checked, withPlace}
 use Rattle.history.proofs.Lines.{Whole, map-at, carried, between-changes, between-same, between-join}
 use Rattle.history.proofs.Views.{viewOf, Fit, slotOf, place-range, view-map, view-between, issue-view, close-view}
 use Rattle.history.proofs.Views.{floor-same, floor-up}
@@ -72,6 +74,14 @@ ShowsAt p slot words =
     (n : ℕ) (offers : List ℕ) → getD (p .places) slot closed ≡ reading n offers → Shows (p .line) (p .checkpoint) n offers words
 
 module _ {l : Line} {c n : ℕ} {offers words : List ℕ} (t : Shows l c n offers words) where
+  -- as many words as the slot has offers
+  pub shows-length : length words ≡ length offers
+  shows-length =
+      sym (over-length words (composeAll (listsBetween l n c)))
+      ∙ ap length (t .shown-at)
+      ∙ read-length (mapAt l c) (t .list)
+      ∙ sym (ap length (t .offers-are) ∙ length-map (t .list) offerOf)
+
   -- in a line that has the same lists up to the checkpoint, and the same map there
   pub shows-line : (m : Line) → listsBetween m n c ≡ listsBetween l n c → mapAt m c ≡ mapAt l c → Shows m c n offers words
   shows-line m lists there =
@@ -113,19 +123,18 @@ module _ {l : Line} {c n : ℕ} {offers words : List ℕ} (t : Shows l c n offer
 read-list : (m list : List ℕ) → Map m → listB list ≡ true → listB (readOf m list) ≡ true
 read-list m list h e =
     let fact = list-facts list e in
-    let long : length (readOf m list) ≡ length list = ap length (read-shown m list) ∙ length-map (map offerOf list) _
-    ∙ length-map list offerOf in
-    ap₂ _&&_ (le-leb (length (readOf m list)) 64 (omega (arith, long, fact .0)))
+    ap₂ _&&_ (le-leb (length (readOf m list)) 64 (omega (arith, read-length m list, fact .0)))
     (changes-test (readOf m list) (read-changes m list h (fact .1)))
 
--- "nor 6 at a forward": a test that is not met where the one before it is not, among others
-no-six : (before : List Test) (b c : Bool) (gs : List Test) → (b ≡ true → c ≡ true)
-    → firstOf (before ++ (met (not b) 5 ∷ met (not c) 6 ∷ gs)) ≡ firstOf (before ++ (met (not b) 5 ∷ gs))
+-- "nor 6 at a forward": a test that is not met where the one before it is not, among others; and the one after it is then another's
+no-six : (before : List Test) (b c long long′ : Bool) (gs : List Test) → (b ≡ true → (c ≡ true) × (long ≡ long′))
+    → firstOf (before ++ (met (not b) 5 ∷ met (not c) 6 ∷ met long 18 ∷ gs))
+    ≡ firstOf (before ++ (met (not b) 5 ∷ met long′ 18 ∷ gs))
 unfolding firstOf
-no-six [] false c gs h = refl
-no-six [] true c gs h = rw (h refl)
-no-six (met true n ∷ before) b c gs h = refl
-no-six (met false n ∷ before) b c gs h = no-six before b c gs h
+no-six [] false c long long′ gs h = refl
+no-six [] true c long long′ gs h = rw (h refl .0, h refl .1)
+no-six (met true n ∷ before) b c long long′ gs h = refl
+no-six (met false n ∷ before) b c long long′ gs h = no-six before b c long long′ gs h
 
 quote-same : (asked : Asked) (found : Found) (words bytes : List ℕ)
     → responseTo (ask (LookUp asked)) (saidBy (quoteOf found)) words bytes ≡ quoted found
@@ -176,7 +185,9 @@ module _ (p : Plain) (f : Fit p) where
     issue-checks =
         ap verdictOf (past-two p f _)
         ∙ verdict-of _
-        ∙ ap (λ (b : Bool). firstOf (slotTests reader ++ (met b 4 ∷ met (not (listB list)) 6 ∷ met (not (noPutB list)) 6 ∷ [])))
+        ∙ ap
+        (λ (b : Bool). firstOf
+        (slotTests reader ++ (met b 4 ∷ met (not (listB list)) 6 ∷ met (not (noPutB list)) 6 ∷ longTests reader list)))
         (open-same p f slot)
 
     module _ (e : issueCheck T J (s .head) reader list ≡ Passed) where
@@ -303,18 +314,25 @@ module _ (p : Plain) (f : Fit p) where
 
   -- forward, of what the slot's issue filled
   module _ (reader : Reader) (state : ℕ) (words : List ℕ) (shows : ShowsAt p (reader .slot) words) where
-    ready : (x : Place) → getD (p .places) (reader .slot) closed ≡ x → openB x ≡ true → listB words ≡ true
+    -- whether so many words are too many for the caller
+    abbrev over-most : ℕ → Bool
+    over-most = ltb (mostWords (reader .caller))
+
+    ready : (x : Place) → getD (p .places) (reader .slot) closed ≡ x → openB x ≡ true
+        → (listB words ≡ true) × (over-most (length words) ≡ over-most (length (offersIn x)))
     ready closed e o = absurd (let z : _≡_ {A = ℕ} 0 1 = cc in omega arith)
-    ready (reading n offers) e o = shows n offers e .words-list
+    ready (reading n offers) e o = (shows n offers e .words-list, ap over-most (shows-length (shows n offers e)))
 
     forward-checks : verdictOf (forwardCheck T J (s .head) reader state words) ≡ firstOf (readTests p (Forward reader state) [])
     forward-checks =
         ap verdictOf (past-two p f _)
         ∙ verdict-of _
-        ∙ ap₂ (λ (b : Bool) (gs : List Test). firstOf (slotTests reader ++ (met (not b) 5 ∷ met (not (listB words)) 6 ∷ gs)))
+        ∙ ap₂
+        (λ (b : Bool) (gs : List Test). firstOf
+        (slotTests reader ++ (met (not b) 5 ∷ met (not (listB words)) 6 ∷ longTests reader words ++ gs)))
         (open-same p f (reader .slot)) (state-same p f state)
-        ∙ no-six (slotTests reader) (openAt p (reader .slot)) (listB words) (stateTests p state)
-        (ready (getD (p .places) (reader .slot) closed) refl)
+        ∙ no-six (slotTests reader) (openAt p (reader .slot)) (listB words) (over-most (length words))
+        (over-most (length (offersAt p (reader .slot)))) (stateTests p state) (ready (getD (p .places) (reader .slot) closed) refl)
 
     module _ (e : forwardCheck T J (s .head) reader state words ≡ Passed) where
       forward-met : ForwardOk T J (s .head) reader state words

@@ -5,6 +5,8 @@ use mathlib.Core.Bool.{Bool, true, false, cond}
 use mathlib.Core.List.{List, [], _∷_, _++_}
 use Prim.Native.Nat.{ℕ}
 use Rattle.answers.specs.declared.call.Call.{Call as UnitCall}
+use Rattle.answers.specs.declared.call.Caller.{Caller}
+use Rattle.answers.specs.declared.call.Caller.the-variants.{Desk}
 use Rattle.answers.specs.declared.call.Call.the-variants.{Step, Read, Ask}
 use Rattle.answers.specs.declared.call.Query.{Query}
 use Rattle.answers.specs.declared.call.Query.the-variants.{LookUp, WriteImage}
@@ -13,6 +15,7 @@ use Rattle.answers.specs.declared.call.Read.the-variants.{Issue, Forward, Relea
 use Rattle.answers.specs.declared.call.Step.{Step as StepCall}
 use Rattle.answers.specs.declared.call.Step.the-variants.{Commit, RollBack, Flush}
 use Rattle.answers.specs.Answers.{Said, accepted, refused as refusedBy, without}
+use Rattle.slots.specs.Callers.{readerOf}
 
 -- the calls of condition 3 with their numbers: all but clear, load and restart
 pub data Named : Type 0 where
@@ -34,9 +37,9 @@ pub record Call : Type 0 where
 abbrev pub calling : Named → List ℕ → List ℕ → Call
 calling named list bytes = record { named = named; list = list; bytes = bytes }
 
--- an offer and a state
-abbrev pub lookUp : ℕ → ℕ → Call
-lookUp offer state = calling (ask (LookUp (record { offer = offer; state = state }))) [] []
+-- who calls, an offer and a state
+abbrev pub lookUp : Caller → ℕ → ℕ → Call
+lookUp caller offer state = calling (ask (LookUp (record { caller = caller; offer = offer; state = state }))) [] []
 
 -- a list
 abbrev pub commit : List ℕ → Call
@@ -49,17 +52,17 @@ rollBack state = calling (step (RollBack state)) [] []
 abbrev pub flush : ℕ → Call
 flush state = calling (step (Flush state)) [] []
 
--- a slot and a list
-abbrev pub issue : ℕ → List ℕ → Call
-issue slot list = calling (read (Issue (record { slot = slot }))) list []
+-- who calls, a slot and a list
+abbrev pub issue : Caller → ℕ → List ℕ → Call
+issue caller slot list = calling (read (Issue (readerOf caller slot))) list []
 
--- a slot and a state
-abbrev pub forward : ℕ → ℕ → Call
-forward slot state = calling (read (Forward (record { slot = slot }) state)) [] []
+-- who calls, a slot and a state
+abbrev pub forward : Caller → ℕ → ℕ → Call
+forward caller slot state = calling (read (Forward (readerOf caller slot) state)) [] []
 
--- a slot: document 01's drop
-abbrev pub release : ℕ → Call
-release slot = calling (read (Release (record { slot = slot }))) [] []
+-- who calls, and a slot: document 01's drop
+abbrev pub release : Caller → ℕ → Call
+release caller slot = calling (read (Release (readerOf caller slot))) [] []
 
 -- the bytes lent
 abbrev pub writeImage : List ℕ → Call
@@ -139,10 +142,25 @@ listIn (read (Forward reader state)) list = []
 listIn (read (Release reader)) list = []
 listIn (ask query) list = []
 
--- "Two calls are the same when kind, offer, state, place and list agree; a forward's read set and an image's bytes aren't compared",
--- and flushes are left apart: what of a call is compared.
+-- a call to be compared with others, whoever made it: all are written as the desk's
+abbrev pub readByAny : ReadCall → ReadCall
+readByAny (Issue reader) = Issue (readerOf Desk (reader .slot))
+readByAny (Forward reader state) = Forward (readerOf Desk (reader .slot)) state
+readByAny (Release reader) = Release (readerOf Desk (reader .slot))
+
+abbrev pub askedByAny : Query → Query
+askedByAny (LookUp asked) = LookUp (record { caller = Desk; offer = asked .offer; state = asked .state })
+askedByAny WriteImage = WriteImage
+
+abbrev pub byAny : Named → Named
+byAny (step call) = step call
+byAny (read call) = read (readByAny call)
+byAny (ask query) = ask (askedByAny query)
+
+-- "Two calls are the same when kind, offer, state, place and list agree; a forward's read set and an image's bytes aren't compared".
+-- The caller is not among what must agree, so it is not compared either; and flushes are left apart. What of a call is compared:
 abbrev pub nameOf : Call → Call
-nameOf call = calling (call .named) (listIn (call .named) (call .list)) []
+nameOf call = calling (byAny (call .named)) (listIn (call .named) (call .list)) []
 
 abbrev pub unlessFlush : Named → Call → List Call
 unlessFlush (step Commit) name = name ∷ []

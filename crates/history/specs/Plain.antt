@@ -1,6 +1,7 @@
 -- The plain list of whole maps (document 01, "The plain list"): what the calls mean, with no memory and no head.
 -- It shares with the unit the entry word, the rules of a list, search and application, and the form of an image; what holds of
--- these is in changes/proofs/Laws.antt and image/proofs/Theorems.antt. The numbers of the grounds are its own.
+-- these is in changes/proofs/Laws.antt and image/proofs/Theorems.antt. It shares what a caller has, which stands in one place
+-- (slots/specs/Callers.antt). The numbers of the grounds are its own.
 -- Assumes nothing.
 use mathlib.Core.Bool.{Bool, true, false, not}
 use mathlib.Core.List.{List, [], _∷_, _++_, map}
@@ -15,6 +16,7 @@ use Rattle.changes.specs.Lists.{listB, noPutB}
 use Rattle.changes.specs.ReadSets.{foundOr}
 use Rattle.image.specs.Image.{imageB, numberIn, wordsIn, imageOf}
 use Rattle.views.specs.View.{Limits, flat}
+use Rattle.slots.specs.Callers.{hasB, mostWords}
 use Rattle.answers.specs.declared.call.Query.{Query}
 use Rattle.answers.specs.declared.call.Query.the-variants.{LookUp, WriteImage}
 use Rattle.answers.specs.declared.call.Read.{Read as ReadCall}
@@ -126,15 +128,20 @@ offersAt p slot = offersIn (getD (p .places) slot closed)
 abbrev pub imageAt : Plain → List ℕ
 imageAt p = imageOf (p .checkpoint) (mapAt (p .line) (p .checkpoint))
 
--- ground 3: "The place is above 7."
+-- ground 3: "The place is above 7."; and 19: "a place that isn't the caller's, tested after 3"
 abbrev pub slotTests : Reader → List Test
-slotTests reader = met (leb 8 (reader .slot)) 3 ∷ []
+slotTests reader = met (leb 8 (reader .slot)) 3 ∷ met (not (hasB (reader .caller) (reader .slot))) 19 ∷ []
+
+-- ground 18: "a foyer list over 16 words, tested after 6"
+abbrev pub longTests : Reader → List ℕ → List Test
+longTests reader list = met (ltb (mostWords (reader .caller)) (length list)) 18 ∷ []
 
 -- ground 11: "The state named is below the anchor or above the tip."
 abbrev pub stateTests : Plain → ℕ → List Test
 stateTests p state = met (ltb state (p .checkpoint)) 11 ∷ met (ltb (tipOf (p .line)) state) 11 ∷ []
 
--- "It tests grounds 3 to 17 .. in their order with these values." "In the named calls 1 and 2 don't arise, nor 6 at a forward."
+-- "It tests grounds 3 to 17, and those that later lots bring, in their order with these values." "In the named calls 1 and 2 don't
+-- arise, nor 6 at a forward."
 module _ (p : Plain) where
   abbrev pub stepTests : StepCall → List ℕ → List Test
   stepTests Commit list =
@@ -153,8 +160,13 @@ module _ (p : Plain) where
       ++ (met (openAt p (reader .slot)) 4
       ∷ met (not (listB list)) 6
       ∷ met (not (noPutB list)) 6
-      ∷ [])
-  readTests (Forward reader state) list = slotTests reader ++ (met (not (openAt p (reader .slot))) 5 ∷ stateTests p state)
+      ∷ longTests reader list)
+  -- it is not fed the read set: 18 goes by the place's own offers
+  readTests (Forward reader state) list =
+      slotTests reader
+      ++ (met (not (openAt p (reader .slot))) 5 ∷ [])
+      ++ longTests reader (offersAt p (reader .slot))
+      ++ stateTests p state
   readTests (Release reader) list = slotTests reader ++ (met (not (openAt p (reader .slot))) 5 ∷ [])
 
   -- a query changes nothing: its grounds, and what it gives where it is accepted

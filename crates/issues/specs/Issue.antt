@@ -2,9 +2,9 @@
 -- from the book, and opens the place."
 -- Assumes nothing.
 use mathlib.Core.Bool.{false, not}
-use mathlib.Core.List.{List, [], _∷_, _++_}
+use mathlib.Core.List.{List, _∷_, _++_}
 use Prim.Native.Nat.{ℕ}
-use lib.ListN.{take, getD}
+use lib.ListN.{length, take, getD}
 use Rattle.changes.specs.Lists.{listB, noPutB}
 use Rattle.changes.specs.ReadSets.{readOf}
 use Rattle.answers.specs.declared.answer.Check.{Check}
@@ -13,9 +13,10 @@ use Rattle.answers.specs.declared.ground.Ground.the-variants.{SlotTaken, BadLis
 use Rattle.answers.specs.First.{Test, met, first, ifPassed}
 use Rattle.layout.specs.declared.head.Head.{Head}
 use Rattle.soundness.specs.Checks.{storeGrounds}
+use Rattle.slots.specs.Callers.{longGrounds}
 use Rattle.slots.specs.Slots.{slotGrounds, opened}
 
--- grounds 1, 2, 3, 4, 6 ("A list breaks its rules, an issue's list has a kind 1 word")
+-- grounds 1, 2, 3, 19, 4, 6 ("A list breaks its rules, an issue's list has a kind 1 word"), 18
 abbrev pub issueGrounds : List ℕ → List ℕ → Head → Reader → List ℕ → List Test
 issueGrounds table journal head reader list =
     storeGrounds table journal head
@@ -23,7 +24,7 @@ issueGrounds table journal head reader list =
     ++ (met (getD (head .taken) (reader .slot) false) SlotTaken
     ∷ met (not (listB list)) BadList
     ∷ met (not (noPutB list)) BadList
-    ∷ [])
+    ∷ longGrounds (reader .caller) (length list))
 
 abbrev pub issueCheck : List ℕ → List ℕ → Head → Reader → List ℕ → Check
 issueCheck table journal head reader list = first (issueGrounds table journal head reader list)

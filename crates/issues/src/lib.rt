@@ -8,6 +8,7 @@ use layout::head::Head;
 use layout::head::Reply;
 use lists::read_sets::apply_to_reads;
 use lists::rules::is_list;
+use slots::callers::long_check;
 use slots::open_slot;
 use slots::slot_check;
 use soundness::store_check;
@@ -37,6 +38,7 @@ fn issue_check(table: &[u64], journal: &[u64], head: Head, reader: Reader, list:
 {
     let taken = head.taken;
     let slot = reader.slot;
+    let caller = reader.caller;
     let whole = head;
     let store = store_check(table, journal, whole, &head.ends);
     let Check::Passed = store else {
@@ -55,7 +57,7 @@ fn issue_check(table: &[u64], journal: &[u64], head: Head, reader: Reader, list:
     if !has_no_put(list) {
         return Check::Refused(Ground::BadList);
     }
-    Check::Passed
+    long_check(caller, list.len())
 }
 
 pub fn issue(table: &[u64], journal: &[u64], head: Head, reader: Reader, list: &mut [u64]) -> Reply

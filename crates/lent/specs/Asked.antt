@@ -8,6 +8,7 @@ use Rattle.answers.specs.declared.call.Query.the-variants.{LookUp, WriteImage}
 use Rattle.answers.specs.declared.call.Read.the-variants.{Issue, Forward, Release}
 use Rattle.answers.specs.declared.call.Reset.the-variants.{Clear, Load, Restart}
 use Rattle.answers.specs.declared.call.Step.the-variants.{Commit, RollBack, Flush}
+use Rattle.lent.specs.Callers.{callerOf}
 
 abbrev pub clear : Call
 clear = Reset Clear
@@ -27,17 +28,17 @@ rollBack state = Step (RollBack state)
 abbrev pub flush : ℕ → Call
 flush state = Step (Flush state)
 
-abbrev pub issue : ℕ → Call
-issue slot = Read (Issue (record { slot = slot }))
+abbrev pub issue : ℕ → ℕ → Call
+issue caller slot = Read (Issue (record { caller = callerOf caller; slot = slot }))
 
-abbrev pub forward : ℕ → ℕ → Call
-forward slot state = Read (Forward (record { slot = slot }) state)
+abbrev pub forward : ℕ → ℕ → ℕ → Call
+forward caller slot state = Read (Forward (record { caller = callerOf caller; slot = slot }) state)
 
-abbrev pub release : ℕ → Call
-release slot = Read (Release (record { slot = slot }))
+abbrev pub release : ℕ → ℕ → Call
+release caller slot = Read (Release (record { caller = callerOf caller; slot = slot }))
 
-abbrev pub lookUp : ℕ → ℕ → Query
-lookUp offer state = LookUp (record { offer = offer; state = state })
+abbrev pub lookUp : ℕ → ℕ → ℕ → Query
+lookUp caller offer state = LookUp (record { caller = callerOf caller; offer = offer; state = state })
 
 abbrev pub writeImage : Query
 writeImage = WriteImage

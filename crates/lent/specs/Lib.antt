@@ -1,3 +1,4 @@
 pub mod Asked
+pub mod Callers
 pub mod Codes
 pub mod Lent

@@ -24,6 +24,7 @@ use Rattle.flushes.specs.Flush.{flushedHead}
 use Rattle.rollbacks.specs.RollBack.{cutTo}
 use Rattle.slots.specs.Slots.{opened, closedAt}
 use Rattle.history.specs.Traces.{storeResponses}
+use Rattle.moments.specs.Callers.{asking, putting, deskAndFoyer}
 use Rattle.moments.specs.Moments.{computed, expected}
 use Rattle.moments.specs.Table.{twelve}
 
@@ -33,3 +34,10 @@ unfolding find compose puts apply composeAll risingB mapB readOf over runOf firs
     countIn wordsIn imageB soundB allB allOf zerosB least trimmedHead trimmedJournal freshHead withStep flushedHead cutTo
     noPutB opened closedAt storeResponses twelve
 moments-follow = refl
+
+-- and what document 02 says of desk and foyer
+pub callers-follow : map computed deskAndFoyer ≡ map expected deskAndFoyer
+unfolding find compose puts apply composeAll risingB mapB readOf over runOf first bytesOf valueOf wordBytes imageOf wordsOf
+    numberIn countIn wordsIn imageB soundB allB allOf zerosB least trimmedHead trimmedJournal freshHead noPutB opened closedAt
+    storeResponses asking putting deskAndFoyer
+callers-follow = refl

@@ -1,2 +1,3 @@
+pub mod Callers
 pub mod Moments
 pub mod Table

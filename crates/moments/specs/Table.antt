@@ -1,11 +1,12 @@
 -- Document 01's "Twelve moments at the counter", one after another, with the answers that it states. Where the paper names no length,
--- table and journal have 8 words; where it names no book, it is that of moment 4; the place is slot 0. Lent bytes and output words hold
--- 1 before the call.
+-- table and journal have 8 words; where it names no book, it is that of moment 4; the place is slot 0, and the desk calls. Lent bytes
+-- and output words hold 1 before the call.
 -- Assumes nothing.
 use mathlib.Core.List.{List, [], _∷_, _++_}
 use Prim.Native.Nat.{ℕ}
 use lib.ListN.{replicate}
 use Rattle.entry.specs.Word.{putOf, noneOf}
+use Rattle.answers.specs.declared.call.Caller.the-variants.{Desk}
 use Rattle.answers.specs.Answers.{accepted, refused as refusedBy}
 use Rattle.history.specs.Named.{lookUp, commit, rollBack, flush, issue, forward, release, writeImage, refused, done, price}
 use Rattle.history.specs.Named.{noPrice, filled, forwarded, written}
@@ -28,27 +29,27 @@ twelve =
     ∷ word 5 1200 0x80000005000004B0
     -- 3. The listing's image loads as state 7, and is written the same.
     ∷ calls (loaded 8 8 listing)
-    (lookUp 5 6 ⇒ refused 11
-    ∷ lookUp 5 7 ⇒ price 1200
-    ∷ lookUp 5 8 ⇒ refused 11
+    (lookUp Desk 5 6 ⇒ refused 11
+    ∷ lookUp Desk 5 7 ⇒ price 1200
+    ∷ lookUp Desk 5 8 ⇒ refused 11
     ∷ writeImage (replicate 14 1) ⇒ written 14 listing
     ∷ [])
     -- 4. Book 5 at 1200, commit removes 5: lookup at 0 gives 1200, at 1 none.
     ∷ calls (loaded 8 8 book)
     (commit (noneOf 5 ∷ []) ⇒ done
-    ∷ lookUp 5 0 ⇒ price 1200
-    ∷ lookUp 5 1 ⇒ noPrice
+    ∷ lookUp Desk 5 0 ⇒ price 1200
+    ∷ lookUp Desk 5 1 ⇒ noPrice
     ∷ [])
     -- 5. Same book, issue 5 and 9 at state 0, commit 5 at 1100 and 9 at 700, flush to 1, forward to 1: 1100 and 700.
     ∷ calls (loaded 8 8 book)
-    (issue 0 (noneOf 5 ∷ noneOf 9 ∷ []) ⇒ filled (putOf 5 1200 ∷ noneOf 9 ∷ [])
+    (issue Desk 0 (noneOf 5 ∷ noneOf 9 ∷ []) ⇒ filled (putOf 5 1200 ∷ noneOf 9 ∷ [])
     ∷ commit (putOf 5 1100 ∷ putOf 9 700 ∷ []) ⇒ done
     ∷ flush 1 ⇒ done
-    ∷ forward 0 1 ⇒ forwarded (putOf 5 1100 ∷ putOf 9 700 ∷ [])
+    ∷ forward Desk 0 1 ⇒ forwarded (putOf 5 1100 ∷ putOf 9 700 ∷ [])
     ∷ [])
     -- 6. After that flush, rollback to 0: number 11.
     ∷ calls (loaded 8 8 book)
-    (issue 0 (noneOf 5 ∷ noneOf 9 ∷ []) ⇒ filled (putOf 5 1200 ∷ noneOf 9 ∷ [])
+    (issue Desk 0 (noneOf 5 ∷ noneOf 9 ∷ []) ⇒ filled (putOf 5 1200 ∷ noneOf 9 ∷ [])
     ∷ commit (putOf 5 1100 ∷ putOf 9 700 ∷ []) ⇒ done
     ∷ flush 1 ⇒ done
     ∷ rollBack 0 ⇒ refused 11
@@ -58,7 +59,7 @@ twelve =
     (commit (putOf 5 1100 ∷ []) ⇒ done
     ∷ rollBack 0 ⇒ done
     ∷ commit (putOf 5 1300 ∷ []) ⇒ done
-    ∷ lookUp 5 1 ⇒ price 1300
+    ∷ lookUp Desk 5 1 ⇒ price 1300
     ∷ [])
     -- 8. 64 empty commits pass, the 65th is 13; after a flush to 1 with all places closed it passes.
     ∷ calls (loaded 8 8 book)
@@ -69,12 +70,12 @@ twelve =
     ∷ []))
     -- 9. With a place open since state 0 it is still 13; after a drop it passes.
     ∷ calls (loaded 8 8 book)
-    (issue 0 (noneOf 5 ∷ []) ⇒ filled (putOf 5 1200 ∷ [])
+    (issue Desk 0 (noneOf 5 ∷ []) ⇒ filled (putOf 5 1200 ∷ [])
     ∷ replicate 64 (commit [] ⇒ done)
     ++ (commit [] ⇒ refused 13
     ∷ flush 1 ⇒ done
     ∷ commit [] ⇒ refused 13
-    ∷ release 0 ⇒ done
+    ∷ release Desk 0 ⇒ done
     ∷ commit [] ⇒ done
     ∷ []))
     -- 10. Price 1001, kind 27, amount 0: 750; amount 800: 800.

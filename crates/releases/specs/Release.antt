@@ -13,7 +13,7 @@ use Rattle.soundness.specs.Checks.{storeGrounds}
 use Rattle.views.specs.Trim.{trimmedHead, trimmedJournal}
 use Rattle.slots.specs.Slots.{slotGrounds, closedAt}
 
--- grounds 1, 2, 3, 5
+-- grounds 1, 2, 3, 19, 5
 abbrev pub releaseGrounds : List ℕ → List ℕ → Head → Reader → List Test
 releaseGrounds table journal head reader =
     storeGrounds table journal head ++ slotGrounds reader ++ (met (not (getD (head .taken) (reader .slot) false)) SlotClosed ∷ [])

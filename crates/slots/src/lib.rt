@@ -1,4 +1,7 @@
-// Slots (document 01: reading places) that open and close.
+// Slots (document 01: reading places) that open and close, and whose they are.
+pub mod callers;
+
+use crate::callers::has_slot;
 use answers::answer::Check;
 use answers::call::Reader;
 use answers::ground::Ground;
@@ -10,12 +13,16 @@ ghost use Rattle.answers.specs.Answers.{Checks};
 ghost use Rattle.answers.specs.First.{first};
 ghost use Rattle.slots.specs.Slots.{slotGrounds, opened, closedAt};
 
-// Whether the slot named is one of a store's.
+// Whether the slot named is one of a store's, and the caller's.
 pub fn slot_check(reader: Reader) -> Check
     ensures { λ r. ⌜ Checks r (first (slotGrounds reader)) ⌝ }
 {
+    let caller = reader.caller;
     if SLOTS <= reader.slot {
         return Check::Refused(Ground::SlotRange);
+    }
+    if !has_slot(caller, reader.slot) {
+        return Check::Refused(Ground::OthersSlot);
     }
     Check::Passed
 }

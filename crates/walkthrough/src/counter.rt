@@ -5,6 +5,7 @@ use crate::print::show_number;
 use crate::serving::make_call;
 use answers::answer::Answer;
 use answers::call::Call;
+use answers::call::Caller;
 use answers::call::LookUp;
 use answers::call::Query;
 use answers::call::Step;
@@ -99,7 +100,12 @@ pub(crate) fn read(counter: Counter, call: Call) -> Counter {
 // The word that shows an offer's price, or that it has none, at a state.
 fn look_up(counter: Counter, offer: u32, state: u32) -> u64 {
     let mut none = [0u64; 0];
-    let call = Call::Ask(Query::LookUp(LookUp { offer, state }));
+    let asked = LookUp {
+        caller: Caller::Desk,
+        offer,
+        state,
+    };
+    let call = Call::Ask(Query::LookUp(asked));
     let after = make(counter, call, &mut none);
     let answer = after.answer;
     if let Answer::Price(price) = answer {

@@ -11,6 +11,7 @@ use crate::print::show_number;
 use crate::print::show_text;
 use answers::answer::Answer;
 use answers::call::Call;
+use answers::call::Caller;
 use answers::call::Query;
 use answers::call::Read;
 use answers::call::Reader;
@@ -54,13 +55,21 @@ pub(crate) fn load() -> Counter {
     counter
 }
 
+// The desk, with its first slot.
+fn desk_slot() -> Reader {
+    Reader {
+        caller: Caller::Desk,
+        slot: 0,
+    }
+}
+
 // A read at state 7 that is to serve a state which does not exist yet.
 pub(crate) fn issue(counter: Counter) -> Counter {
     show_text(
         b"\n\nAn early read: orders will come for a state that is not there yet, and reading starts now.\
         \n  issue in slot 0",
     );
-    read(counter, Call::Read(Read::Issue(Reader { slot: 0 })))
+    read(counter, Call::Read(Read::Issue(desk_slot())))
 }
 
 // States 8 and 9; each is quoted as it is.
@@ -79,7 +88,7 @@ pub(crate) fn price(counter: Counter) -> Counter {
         b"\n\nOrders: the early read is brought to state 9 and priced on. One bad order refuses its batch.\
         \n  forward slot 0 to state 9",
     );
-    let after = read(counter, Call::Read(Read::Forward(Reader { slot: 0 }, 9)));
+    let after = read(counter, Call::Read(Read::Forward(desk_slot(), 9)));
     let reads = after.reads;
     let changes = price_both(reads);
     commit(after, changes)

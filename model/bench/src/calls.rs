@@ -4,7 +4,7 @@ use crate::baseline::{word, Memory};
 use crate::scene::Scene;
 use crate::subject::Subject;
 use crate::timing::{repeated, restored, Side};
-use cechnuol::raw::NO_PRICE;
+use cechnuol::raw::{DESK, NO_PRICE};
 use model::rng::Rng;
 use std::hint::black_box;
 
@@ -140,13 +140,15 @@ pub fn flush<S: Subject>(scene: &Scene) -> Side<'_> {
 /// An offer that has a price at the tip.
 pub fn look_up_present<S: Subject>(scene: &Scene) -> Side<'_> {
     let (offers, state) = (scene.sought(true), scene.variant(0).head.tip);
-    steady(scene, 0, move |store: &mut S, turn| store.look_up(offers[turn % offers.len()], state))
+    steady(scene, 0, move |store: &mut S, turn| store.look_up(DESK, offers[turn % offers.len()], state))
 }
 
 /// An offer that has none.
 pub fn look_up_absent<S: Subject>(scene: &Scene) -> Side<'_> {
     let (offers, state) = (scene.sought(false), scene.variant(0).head.tip);
-    steady(scene, NO_PRICE, move |store: &mut S, turn| store.look_up(offers[turn % offers.len()], state))
+    steady(scene, NO_PRICE, move |store: &mut S, turn| {
+        store.look_up(DESK, offers[turn % offers.len()], state)
+    })
 }
 
 /// A read of the offers of a list.
@@ -157,7 +159,7 @@ pub fn issue<S: Subject>(scene: &Scene) -> Side<'_> {
         store.set_head(first);
         words.clone_from(&lists[turn % lists.len()]);
     };
-    moving(scene, restore, |store, words, _| store.issue(0, words))
+    moving(scene, restore, |store, words, _| store.issue(DESK, 0, words))
 }
 
 /// The read set of slot 0 brought to the tip.
@@ -168,17 +170,17 @@ pub fn forward<S: Subject>(scene: &Scene) -> Side<'_> {
         steps(store, words, turn);
         words.clone_from(&scene.reads);
     };
-    moving(scene, restore, move |store, words, _| store.forward(0, state, words))
+    moving(scene, restore, move |store, words, _| store.forward(DESK, 0, state, words))
 }
 
 /// Slot 0 closed.
 pub fn release<S: Subject>(scene: &Scene) -> Side<'_> {
-    moving(scene, steps_of(scene), |store: &mut S, _, _| store.release(0))
+    moving(scene, steps_of(scene), |store: &mut S, _, _| store.release(DESK, 0))
 }
 
 /// A release of a slot that there is not: the store is tested, and then nothing else is done.
 pub fn soundness<S: Subject>(scene: &Scene) -> Side<'_> {
-    steady(scene, 3, |store: &mut S, _| store.release(8))
+    steady(scene, 3, |store: &mut S, _| store.release(DESK, 8))
 }
 
 /// The baseline's test of the store in the form that can be vectorised.

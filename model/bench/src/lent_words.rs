@@ -1,6 +1,6 @@
 //! The baseline on lent words as something that is measured.
 
-use crate::baseline::{self, LentWords};
+use crate::baseline::{self, Caller, LentWords};
 use crate::scene::{Scene, Variant};
 use crate::subject::{code, price_code, Subject};
 
@@ -50,20 +50,20 @@ impl Subject for LentWords {
         code(self.call(|store| store.flush(state)))
     }
 
-    fn look_up(&mut self, offer: u32, state: u32) -> u64 {
+    fn look_up(&mut self, _caller: u32, offer: u32, state: u32) -> u64 {
         price_code(self.query(|store| store.look_up(offer, state)))
     }
 
-    fn issue(&mut self, slot: usize, list: &mut [u64]) -> u64 {
-        code(self.call(|store| store.issue(slot, list)))
+    fn issue(&mut self, caller: u32, slot: usize, list: &mut [u64]) -> u64 {
+        code(self.call(|store| store.issue(Caller::of_number(caller), slot, list)))
     }
 
-    fn forward(&mut self, slot: usize, state: u32, reads: &mut [u64]) -> u64 {
-        code(self.call(|store| store.forward(slot, state, reads)))
+    fn forward(&mut self, caller: u32, slot: usize, state: u32, reads: &mut [u64]) -> u64 {
+        code(self.call(|store| store.forward(Caller::of_number(caller), slot, state, reads)))
     }
 
-    fn release(&mut self, slot: usize) -> u64 {
-        code(self.call(|store| store.release(slot)))
+    fn release(&mut self, caller: u32, slot: usize) -> u64 {
+        code(self.call(|store| store.release(Caller::of_number(caller), slot)))
     }
 
     fn price_batch(reads: &[u64], orders: &[u64], out: &mut [u64]) -> u64 {

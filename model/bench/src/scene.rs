@@ -1,6 +1,7 @@
 //! Stores prepared to be measured: a map in the table and steps over it, made by calls of the unit.
 
 use crate::baseline::{word, Head};
+use cechnuol::raw::DESK;
 use cechnuol::HEAD_WORDS;
 use ffi::Lent;
 use model::rng::Rng;
@@ -65,7 +66,7 @@ impl Scene {
         let mut reads = present.asked(shape.read, &mut rng);
         let mut flushed = 0;
         if early {
-            assert_eq!(lent.lend().issue(0, &mut reads), 0);
+            assert_eq!(lent.lend().issue(DESK, 0, &mut reads), 0);
             flushed = shape.held / 2;
             commit_steps(&mut lent, &mut present, shape.step, flushed, &mut rng);
             assert_eq!(lent.lend().flush(flushed as u32), 0);

@@ -1,12 +1,12 @@
 //! What is measured: a store of the unit, or of the baseline, with the calls by the same names and codes.
 
-use crate::baseline::{self, Memory, Refusal};
+use crate::baseline::{self, Caller, Memory, Refusal};
 use crate::scene::{Scene, Variant};
 use cechnuol::raw::{self, NO_PRICE};
 use cechnuol::TALLY_WORDS;
 use ffi::Lent;
 
-/// A store whose calls answer the codes of the C interface.
+/// A store whose calls answer the codes of the C interface, and have its numbers for who calls.
 pub trait Subject: 'static {
     /// The first store of a scene.
     fn of(scene: &Scene) -> Self;
@@ -21,10 +21,10 @@ pub trait Subject: 'static {
     fn commit(&mut self, list: &[u64]) -> u64;
     fn roll_back(&mut self, state: u32) -> u64;
     fn flush(&mut self, state: u32) -> u64;
-    fn look_up(&mut self, offer: u32, state: u32) -> u64;
-    fn issue(&mut self, slot: usize, list: &mut [u64]) -> u64;
-    fn forward(&mut self, slot: usize, state: u32, reads: &mut [u64]) -> u64;
-    fn release(&mut self, slot: usize) -> u64;
+    fn look_up(&mut self, caller: u32, offer: u32, state: u32) -> u64;
+    fn issue(&mut self, caller: u32, slot: usize, list: &mut [u64]) -> u64;
+    fn forward(&mut self, caller: u32, slot: usize, state: u32, reads: &mut [u64]) -> u64;
+    fn release(&mut self, caller: u32, slot: usize) -> u64;
     fn price_batch(reads: &[u64], orders: &[u64], out: &mut [u64]) -> u64;
 }
 
@@ -74,20 +74,20 @@ impl Subject for Lent {
         self.lend().flush(state)
     }
 
-    fn look_up(&mut self, offer: u32, state: u32) -> u64 {
-        self.to_read().look_up(offer, state, &mut 0)
+    fn look_up(&mut self, caller: u32, offer: u32, state: u32) -> u64 {
+        self.to_read().look_up(caller, offer, state, &mut 0)
     }
 
-    fn issue(&mut self, slot: usize, list: &mut [u64]) -> u64 {
-        self.lend().issue(slot, list)
+    fn issue(&mut self, caller: u32, slot: usize, list: &mut [u64]) -> u64 {
+        self.lend().issue(caller, slot, list)
     }
 
-    fn forward(&mut self, slot: usize, state: u32, reads: &mut [u64]) -> u64 {
-        self.lend().forward(slot, state, reads)
+    fn forward(&mut self, caller: u32, slot: usize, state: u32, reads: &mut [u64]) -> u64 {
+        self.lend().forward(caller, slot, state, reads)
     }
 
-    fn release(&mut self, slot: usize) -> u64 {
-        self.lend().release(slot)
+    fn release(&mut self, caller: u32, slot: usize) -> u64 {
+        self.lend().release(caller, slot)
     }
 
     fn price_batch(reads: &[u64], orders: &[u64], out: &mut [u64]) -> u64 {
@@ -155,20 +155,20 @@ impl Subject for Memory {
         code(self.lend().flush(state))
     }
 
-    fn look_up(&mut self, offer: u32, state: u32) -> u64 {
+    fn look_up(&mut self, _caller: u32, offer: u32, state: u32) -> u64 {
         price_code(self.lend().look_up(offer, state))
     }
 
-    fn issue(&mut self, slot: usize, list: &mut [u64]) -> u64 {
-        code(self.lend().issue(slot, list))
+    fn issue(&mut self, caller: u32, slot: usize, list: &mut [u64]) -> u64 {
+        code(self.lend().issue(Caller::of_number(caller), slot, list))
     }
 
-    fn forward(&mut self, slot: usize, state: u32, reads: &mut [u64]) -> u64 {
-        code(self.lend().forward(slot, state, reads))
+    fn forward(&mut self, caller: u32, slot: usize, state: u32, reads: &mut [u64]) -> u64 {
+        code(self.lend().forward(Caller::of_number(caller), slot, state, reads))
     }
 
-    fn release(&mut self, slot: usize) -> u64 {
-        code(self.lend().release(slot))
+    fn release(&mut self, caller: u32, slot: usize) -> u64 {
+        code(self.lend().release(Caller::of_number(caller), slot))
     }
 
     fn price_batch(reads: &[u64], orders: &[u64], out: &mut [u64]) -> u64 {

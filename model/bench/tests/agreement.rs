@@ -1,12 +1,12 @@
 //! The baseline against the static library: random calls on the same memory, damaged memory and heads among them, with answers
 //! and all memory compared after each.
 
-use bench::baseline::{price_batch, Head, LentWords, Memory, Refusal, Tally};
+use bench::baseline::{price_batch, Caller, Head, LentWords, Memory, Refusal, Tally};
 use bench::subject::Subject;
 use cechnuol::raw::NO_PRICE;
 use ffi::differ::Pair;
 use ffi::said::{Said, UNTOUCHED};
-use ffi::Lent;
+use ffi::{Lent, FOYERS};
 use model::gen::{items, Item};
 use model::rng::Rng;
 use model::script::Command;
@@ -29,8 +29,9 @@ fn coded<T>(answer: Result<T, Refusal>, value: impl FnOnce(T) -> (u64, u64)) -> 
     answer.map_or_else(|ground| (ground.number(), UNTOUCHED), value)
 }
 
-fn say(memory: &mut Memory, bytes: &mut [u8], call: &Call, filled: &Filled) -> Said {
+fn say(memory: &mut Memory, bytes: &mut [u8], caller: u32, call: &Call, filled: &Filled) -> Said {
     let mut store = memory.lend();
+    let caller = Caller::of_number(caller);
     let mut words = Vec::new();
     let done = |answer| coded(answer, |()| (0, UNTOUCHED));
     let counted = |answer| coded(answer, |count: usize| (0, count as u64));
@@ -42,18 +43,18 @@ fn say(memory: &mut Memory, bytes: &mut [u8], call: &Call, filled: &Filled) -> S
         Call::Commit { list } => done(store.commit(list)),
         Call::RollBack { state } => done(store.roll_back(*state)),
         Call::Flush { state } => done(store.flush(*state)),
-        Call::LookUp { offer, state } => coded(store.look_up(*offer, *state), |price| {
+        Call::LookUp { offer, state, .. } => coded(store.look_up(*offer, *state), |price| {
             price.map_or((NO_PRICE, UNTOUCHED), |price| (0, price.into()))
         }),
-        Call::Issue { slot, list } => {
+        Call::Issue { slot, list, .. } => {
             words = list.clone();
-            done(store.issue(*slot as usize, &mut words))
+            done(store.issue(caller, *slot as usize, &mut words))
         }
-        Call::Forward { slot, state, with } => {
+        Call::Forward { slot, state, with, .. } => {
             words = filled.read_set(*slot, with.as_deref());
-            done(store.forward(*slot as usize, *state, &mut words))
+            done(store.forward(caller, *slot as usize, *state, &mut words))
         }
-        Call::Release { slot } => done(store.release(*slot as usize)),
+        Call::Release { slot, .. } => done(store.release(caller, *slot as usize)),
         Call::PriceBatch { reads, orders, output } => {
             words = output.clone();
             counted(price_batch(reads, orders, &mut words))
@@ -74,13 +75,15 @@ fn random_calls() {
                 continue;
             };
             calls += 1;
-            damaged += u32::from(!pair.model.store.is_sound());
+            damaged += usize::from(!pair.model.store.is_sound());
             let mut library = pair.library.clone();
             let mut memory = memory_of(&library.lent);
             assert_eq!(memory.is_sound(), pair.model.store.is_sound(), "seed {seed}: {call:?}");
             assert_eq!(memory.is_sound(), memory.is_sound_without_exits(), "seed {seed}: {call:?}");
             let mut bytes = library.bytes.clone();
-            let said = say(&mut memory, &mut bytes, call, &library.filled);
+            library.foyer = FOYERS[calls % FOYERS.len()];
+            let number = library.number_of(call);
+            let said = say(&mut memory, &mut bytes, number, call, &library.filled);
             let wanted = library.serve(call);
             assert_eq!(said, wanted, "seed {seed}: {call:?}");
             assert!(memory == memory_of(&library.lent), "seed {seed}: {call:?}");
@@ -101,6 +104,7 @@ fn words_of(lent: &Lent) -> LentWords {
 fn code_of<S: Subject>(
     store: &mut S,
     bytes: &mut [u8],
+    caller: u32,
     call: &Call,
     filled: &Filled,
 ) -> Option<(u64, Vec<u64>)> {
@@ -117,10 +121,10 @@ fn code_of<S: Subject>(
         Call::Commit { .. } => store.commit(&words),
         Call::RollBack { state } => store.roll_back(*state),
         Call::Flush { state } => store.flush(*state),
-        Call::LookUp { offer, state } => store.look_up(*offer, *state),
-        Call::Issue { slot, .. } => store.issue(*slot as usize, &mut words),
-        Call::Forward { slot, state, .. } => store.forward(*slot as usize, *state, &mut words),
-        Call::Release { slot } => store.release(*slot as usize),
+        Call::LookUp { offer, state, .. } => store.look_up(caller, *offer, *state),
+        Call::Issue { slot, .. } => store.issue(caller, *slot as usize, &mut words),
+        Call::Forward { slot, state, .. } => store.forward(caller, *slot as usize, *state, &mut words),
+        Call::Release { slot, .. } => store.release(caller, *slot as usize),
         Call::PriceBatch { .. } => return None,
     };
     Some((code, words))
@@ -141,15 +145,17 @@ fn random_calls_on_lent_words() {
         for item in items(seed, CALLS).0 {
             let Item::Command(command) = item else { continue };
             if let Command::Call(call) = &command {
-                let library = pair.library.clone();
+                let mut library = pair.library.clone();
+                library.foyer = rng.pick(&FOYERS);
+                let number = library.number_of(call);
                 let (mut lent, mut bytes) = (library.lent, library.bytes);
                 if rng.percent(20) {
                     spoil(&mut lent, &mut rng);
                     spoilt += 1;
                 }
                 let (mut words, mut others) = (words_of(&lent), bytes.clone());
-                let said = code_of(&mut words, &mut others, call, &library.filled);
-                let wanted = code_of(&mut lent, &mut bytes, call, &library.filled);
+                let said = code_of(&mut words, &mut others, number, call, &library.filled);
+                let wanted = code_of(&mut lent, &mut bytes, number, call, &library.filled);
                 assert_eq!(said, wanted, "seed {seed}: {call:?}");
                 assert!(words == words_of(&lent) && others == bytes, "seed {seed}: {call:?}");
             }

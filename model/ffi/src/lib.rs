@@ -3,7 +3,7 @@
 //!
 //! Nothing checks that crate's declarations against crates/cechnuol; the tests and [`differ`] do.
 
-use cechnuol::raw::{StoreMut, StoreRef};
+use cechnuol::raw::{StoreMut, StoreRef, FOYER};
 use cechnuol::{HEAD_WORDS, TALLY_WORDS};
 
 pub mod differ;
@@ -12,6 +12,9 @@ pub mod probe;
 pub mod said;
 
 pub use cechnuol::raw::NO_PRICE;
+
+/// Numbers that are the foyer's as a caller: its own, and others, among them such as end in zeros.
+pub const FOYERS: [u32; 6] = [FOYER, 2, 1 << 8, 1 << 16, 1 << 31, u32::MAX];
 
 /// A store's memory, to be lent as words: any words, also such as no store has.
 #[derive(Clone, Debug, PartialEq, Eq)]

@@ -3,31 +3,44 @@
 use crate::said::{say, Said};
 use crate::Lent;
 use cechnuol::raw::{CHECKPOINT, COMMITTED, ENDS, FLUSHED, ISSUED, OLDEST, ROLLED_BACK, TAKEN, TIP, USED};
+use cechnuol::raw::{DESK, FOYER};
+use model::caller::Caller;
 use model::script::{HeadField, Holding, Memories, TallyField};
 use model::unit::{Call, Filled};
 
-/// What the library is lent, and the words that it filled for each slot at the slot's last accepted issue.
+/// What the library is lent, the words that it filled for each slot at the slot's last accepted issue, and the number by which
+/// the foyer calls.
 #[derive(Clone, Debug, PartialEq, Eq)]
 pub struct Library {
     pub lent: Lent,
     pub bytes: Vec<u8>,
     pub filled: Filled,
+    pub foyer: u32,
 }
 
 impl Default for Library {
     fn default() -> Library {
-        Library { lent: Lent::of_lengths(0, 0), bytes: Vec::new(), filled: Filled::default() }
+        Library { lent: Lent::of_lengths(0, 0), bytes: Vec::new(), filled: Filled::default(), foyer: FOYER }
     }
 }
 
 impl Library {
     /// Makes a call, and keeps what an accepted issue filled.
     pub fn serve(&mut self, call: &Call) -> Said {
-        let said = say(&mut self.lent, &mut self.bytes, call, &self.filled);
+        let number = self.number_of(call);
+        let said = say(&mut self.lent, &mut self.bytes, number, call, &self.filled);
         if let (Call::Issue { slot, .. }, 0) = (call, said.code) {
             self.filled.keep(*slot, &said.words);
         }
         said
+    }
+
+    /// The number by which a call is made; the desk's where it does not say who calls.
+    pub fn number_of(&self, call: &Call) -> u32 {
+        match call.caller() {
+            Some(Caller::Foyer) => self.foyer,
+            Some(Caller::Desk) | None => DESK,
+        }
     }
 }
 

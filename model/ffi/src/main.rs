@@ -3,6 +3,7 @@
 
 use ffi::differ::Pair;
 use ffi::probe::probe;
+use ffi::FOYERS;
 use model::gen::{items, text, Item};
 use model::program::{checked, ended, misused, printed, Failure};
 use model::rng::Rng;
@@ -24,6 +25,8 @@ output cannot be written.
 const SCRIPT: usize = 1000;
 /// How many calls in a hundred are first made with a head that no script can have.
 const PROBES: usize = 6;
+/// How many in a hundred have another number for the foyer than its own.
+const OTHER_NUMBERS: usize = 30;
 
 #[derive(Default)]
 struct Counts {
@@ -77,10 +80,13 @@ fn run(seed: u64, counts: &mut Counts) -> Result<(), String> {
     let mut rng = Rng::new(!seed);
     let mut pair = Pair::default();
     for (index, item) in items.iter().enumerate() {
+        let foyer = if rng.percent(OTHER_NUMBERS) { rng.pick(&FOYERS) } else { FOYERS[0] };
         let shown = |difference: String| {
             let script = String::from_utf8_lossy(&text(&items[..=index])).into_owned();
-            format!("# script {seed}, to be replayed up to the first difference\n{script}show all\n# {difference}\n")
+            let title = format!("# script {seed}, to be replayed up to the first difference");
+            format!("{title}\n{script}show all\n# {difference}; the foyer's number is {foyer}\n")
         };
+        pair.library.foyer = foyer;
         let command = match item {
             Item::Command(command) => command.clone(),
             Item::Noise(line) => match parse(line) {

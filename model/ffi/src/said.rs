@@ -39,8 +39,9 @@ pub fn is_query(call: &Call) -> bool {
     matches!(call, Call::WriteImage | Call::LookUp { .. })
 }
 
-/// Makes a call on the library. A forward without words of its own is given those filled for its slot.
-pub fn say(lent: &mut Lent, bytes: &mut [u8], call: &Call, filled: &Filled) -> Said {
+/// Makes a call on the library, with the number of whoever calls. A forward without words of its own is given those filled for
+/// its slot.
+pub fn say(lent: &mut Lent, bytes: &mut [u8], caller: u32, call: &Call, filled: &Filled) -> Said {
     let mut value = UNTOUCHED;
     let mut words = Vec::new();
     let code = match call {
@@ -51,16 +52,16 @@ pub fn say(lent: &mut Lent, bytes: &mut [u8], call: &Call, filled: &Filled) -> S
         Call::Commit { list } => lent.lend().commit(list),
         Call::RollBack { state } => lent.lend().roll_back(*state),
         Call::Flush { state } => lent.lend().flush(*state),
-        Call::LookUp { offer, state } => lent.to_read().look_up(*offer, *state, &mut value),
-        Call::Issue { slot, list } => {
+        Call::LookUp { offer, state, .. } => lent.to_read().look_up(caller, *offer, *state, &mut value),
+        Call::Issue { slot, list, .. } => {
             words = list.clone();
-            lent.lend().issue(*slot as usize, &mut words)
+            lent.lend().issue(caller, *slot as usize, &mut words)
         }
-        Call::Forward { slot, state, with } => {
+        Call::Forward { slot, state, with, .. } => {
             words = filled.read_set(*slot, with.as_deref());
-            lent.lend().forward(*slot as usize, *state, &mut words)
+            lent.lend().forward(caller, *slot as usize, *state, &mut words)
         }
-        Call::Release { slot } => lent.lend().release(*slot as usize),
+        Call::Release { slot, .. } => lent.lend().release(caller, *slot as usize),
         Call::PriceBatch { reads, orders, output } => {
             words = output.clone();
             price_batch(reads, orders, &mut words, &mut value)

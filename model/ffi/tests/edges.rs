@@ -3,8 +3,10 @@
 use cechnuol::raw::price_batch;
 use cechnuol::{HEAD_WORDS, TALLY_WORDS};
 use ffi::differ::{expected, Pair};
+use ffi::library::Library;
 use ffi::said::{say, UNTOUCHED};
 use ffi::Lent;
+use model::caller::Caller::{Desk, Foyer};
 use model::script::{Command, Memory, Poke};
 use model::unit::{Call, Filled, Unit};
 use model::word::entry;
@@ -13,7 +15,7 @@ const TABLES: [usize; 8] = [0, 1, 2, 3, 7999, 8000, 8001, 8192];
 const JOURNALS: [usize; 8] = [0, 1, 2, 3, 4095, 4096, 4097, 4608];
 const WORDS: [u64; 6] = [0, 1, 2, 7, 1 << 32, u64::MAX];
 
-/// A call of each kind, with lists, read sets and outputs of a length.
+/// A call of each kind, with lists, read sets and outputs of a length; from both callers where they are named.
 fn calls(words: usize) -> Vec<Call> {
     let puts: Vec<u64> = (0..words as u32).map(|offer| entry(offer, Some(offer))).collect();
     let asks: Vec<u64> = (0..words as u32).map(|offer| entry(offer, None)).collect();
@@ -25,10 +27,14 @@ fn calls(words: usize) -> Vec<Call> {
         Call::Commit { list: puts.clone() },
         Call::RollBack { state: 0 },
         Call::Flush { state: 1 },
-        Call::LookUp { offer: 5, state: 0 },
-        Call::Issue { slot: 3, list: asks },
-        Call::Forward { slot: 3, state: 1, with: Some(puts.clone()) },
-        Call::Release { slot: 3 },
+        Call::LookUp { caller: Desk, offer: 5, state: 0 },
+        Call::LookUp { caller: Foyer, offer: 5, state: 0 },
+        Call::Issue { caller: Desk, slot: 3, list: asks.clone() },
+        Call::Issue { caller: Foyer, slot: 7, list: asks },
+        Call::Forward { caller: Desk, slot: 3, state: 1, with: Some(puts.clone()) },
+        Call::Forward { caller: Foyer, slot: 7, state: 1, with: Some(puts.clone()) },
+        Call::Release { caller: Desk, slot: 3 },
+        Call::Release { caller: Foyer, slot: 7 },
         Call::PriceBatch { reads: puts.clone(), orders: puts.clone(), output: puts },
     ]
 }
@@ -47,7 +53,8 @@ fn every_length_of_a_store() {
         };
         let mut lent = before.clone();
         for call in calls(1).iter().filter(|call| tests_store(call)) {
-            let said = say(&mut lent, &mut [], call, &Filled::default());
+            let number = Library::default().number_of(call);
+            let said = say(&mut lent, &mut [], number, call, &Filled::default());
             assert_eq!(said.code, if fits { 2 } else { 1 }, "{table} {journal} {call:?}");
             assert!(lent == before, "{table} {journal} {call:?}");
         }
@@ -118,7 +125,8 @@ fn words_that_no_head_has() {
         before.head[at] = word;
         for call in calls(1).iter().filter(|call| tests_store(call)) {
             let mut lent = before.clone();
-            let said = say(&mut lent, &mut [0; 6], call, &Filled::default());
+            let number = Library::default().number_of(call);
+            let said = say(&mut lent, &mut [0; 6], number, call, &Filled::default());
             assert_eq!((said.code, lent), (2, before.clone()), "{at} {word} {call:?}");
         }
     }
@@ -134,7 +142,7 @@ fn every_length_of_what_a_call_is_lent() {
         step(Command::Lend { memory: Memory::Table, length: table as u64 });
         step(Command::Lend { memory: Memory::Journal, length: journal as u64 });
         step(Command::Call(Call::Clear));
-        for words in [0, 1, 2, 3, 63, 64, 65] {
+        for words in [0, 1, 2, 3, 16, 17, 63, 64, 65] {
             for bytes in [0, 1, 2, 3, 5, 6, 7, 13, 14, 15] {
                 step(Command::Lend { memory: Memory::Bytes, length: bytes });
                 for call in calls(words) {
@@ -160,7 +168,7 @@ fn every_beginning_of_an_image() {
             step(Command::Poke { at: 0, poke: Poke::Bytes(image[..length].to_vec()) });
         }
         step(Command::Call(Call::Load));
-        step(Command::Call(Call::LookUp { offer: 5, state: 7 }));
+        step(Command::Call(Call::LookUp { caller: Foyer, offer: 5, state: 7 }));
     }
 }
 

@@ -1,10 +1,10 @@
 //! The queries: they read a store, which may lie in read-only memory and may be queried from several threads at once,
 //! and store nothing but their output. And what other calls only read may lie in read-only memory too.
 
-use cechnuol::raw::{price_batch, StoreRef, NO_PRICE};
+use cechnuol::raw::{price_batch, StoreRef, DESK, FOYER, NO_PRICE};
 use cechnuol::{HEAD_WORDS, TALLY_WORDS};
 use ffi::said::UNTOUCHED;
-use ffi::Lent;
+use ffi::{Lent, FOYERS};
 use model::word::entry;
 use std::ffi::{c_int, c_void};
 use std::ptr::null_mut;
@@ -16,7 +16,7 @@ fn store() -> Lent {
     assert_eq!(lent.lend().clear(), 0);
     assert_eq!(lent.lend().commit(&[entry(5, Some(1200)), entry(9, Some(700))]), 0);
     assert_eq!(lent.lend().flush(1), 0);
-    assert_eq!(lent.lend().issue(3, &mut [entry(5, None)]), 0);
+    assert_eq!(lent.lend().issue(DESK, 3, &mut [entry(5, None)]), 0);
     assert_eq!(lent.lend().commit(&[entry(5, Some(1100)), entry(9, None), entry(11, Some(0))]), 0);
     assert_eq!(lent.tally, [2, 0, 1]);
     lent
@@ -26,9 +26,9 @@ fn store() -> Lent {
 const IMAGE: [u8; 22] = [0, 0, 0, 1, 0, 2, 0x80, 0, 0, 5, 0, 0, 0x04, 0xB0, 0x80, 0, 0, 9, 0, 0, 0x02, 0xBC];
 
 /// What a lookup answers, and what it leaves in a price word that held [`UNTOUCHED`].
-fn look_up(store: StoreRef, offer: u32, state: u32) -> (u64, u64) {
+fn look_up(store: StoreRef, caller: u32, offer: u32, state: u32) -> (u64, u64) {
     let mut price = UNTOUCHED;
-    let code = store.look_up(offer, state, &mut price);
+    let code = store.look_up(caller, offer, state, &mut price);
     (code, price)
 }
 
@@ -39,7 +39,7 @@ fn write_image(store: StoreRef, length: usize) -> (u64, u64, Vec<u8>) {
     (code, count, bytes)
 }
 
-/// Queries of that store, accepted and turned away, with their answers and output.
+/// Queries of that store, accepted and turned away, with their answers and output. Whoever calls, a lookup is the same.
 fn ask(store: StoreRef) {
     let prices = [
         (5, 1, (0, 1200)),
@@ -52,8 +52,14 @@ fn ask(store: StoreRef) {
         (5, 3, (11, UNTOUCHED)),
         (1 << 31, 1, (6, UNTOUCHED)),
     ];
-    for (offer, state, wanted) in prices {
-        assert_eq!(look_up(store, offer, state), wanted, "offer {offer} at state {state}");
+    for caller in [DESK].into_iter().chain(FOYERS) {
+        for (offer, state, wanted) in prices {
+            assert_eq!(
+                look_up(store, caller, offer, state),
+                wanted,
+                "{caller}: offer {offer} at state {state}"
+            );
+        }
     }
     assert_eq!(write_image(store, 22), (0, 22, IMAGE.to_vec()));
     assert_eq!(write_image(store, 25), (0, 22, [&IMAGE[..], &[0xAA; 3]].concat()));
@@ -63,7 +69,9 @@ fn ask(store: StoreRef) {
 
 /// Both queries turned away on a ground, their output as it came.
 fn ask_in_vain(store: StoreRef, ground: u64) {
-    assert_eq!(look_up(store, 5, 1), (ground, UNTOUCHED));
+    for caller in [DESK].into_iter().chain(FOYERS) {
+        assert_eq!(look_up(store, caller, 5, 1), (ground, UNTOUCHED));
+    }
     assert_eq!(write_image(store, 22), (ground, UNTOUCHED, vec![0xAA; 22]));
 }
 
@@ -198,10 +206,10 @@ fn a_full_store_in_read_only_memory() {
     }
     let [table, journal] = [&lent.table, &lent.journal].map(|words| read_only(words));
     let full = StoreRef { table, journal, head: read_only_head(&lent.head) };
-    assert_eq!(look_up(full, 15_998, 64), (0, 7999));
-    assert_eq!(look_up(full, 127, 1), (0, 63));
-    assert_eq!(look_up(full, 127, 64), (0, 6363));
-    assert_eq!(look_up(full, 127, 0), (NO_PRICE, UNTOUCHED));
+    assert_eq!(look_up(full, DESK, 15_998, 64), (0, 7999));
+    assert_eq!(look_up(full, FOYER, 127, 1), (0, 63));
+    assert_eq!(look_up(full, DESK, 127, 64), (0, 6363));
+    assert_eq!(look_up(full, FOYER, 127, 0), (NO_PRICE, UNTOUCHED));
     assert_eq!(write_image(full, 64_006), (0, 64_006, image));
 }
 

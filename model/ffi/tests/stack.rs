@@ -1,6 +1,6 @@
 //! The calls on the fullest store that document 01 allows, on the stack that include/cechnuol.h asks for.
 
-use cechnuol::raw::price_batch;
+use cechnuol::raw::{price_batch, DESK, FOYER};
 use ffi::Lent;
 use model::word::entry;
 use std::thread;
@@ -47,12 +47,17 @@ fn every_other_call() {
     with_stack(OTHERS, move || {
         let mut value = 0;
         let mut reads: Vec<u64> = (0..64).map(|k| entry(2 * k, None)).collect();
-        assert_eq!(lent.lend().issue(7, &mut reads), 0);
-        assert_eq!(lent.to_read().look_up(2, 64, &mut value), 0);
+        let mut few: Vec<u64> = reads[..16].to_vec();
+        assert_eq!(lent.lend().issue(DESK, 5, &mut reads), 0);
+        assert_eq!(lent.lend().issue(FOYER, 7, &mut few), 0);
+        assert_eq!(lent.to_read().look_up(DESK, 2, 64, &mut value), 0);
+        assert_eq!(lent.to_read().look_up(FOYER, 2, 64, &mut value), 0);
         assert_eq!(lent.lend().commit(&[]), 13);
-        assert_eq!(lent.lend().forward(7, 64, &mut reads), 0);
+        assert_eq!(lent.lend().forward(DESK, 5, 64, &mut reads), 0);
+        assert_eq!(lent.lend().forward(FOYER, 7, 64, &mut few), 0);
         assert_eq!(price_batch(&reads, &[], &mut [], &mut value), 0);
-        assert_eq!(lent.lend().release(7), 5);
+        assert_eq!(lent.lend().release(DESK, 5), 5);
+        assert_eq!(lent.lend().release(FOYER, 7), 5);
         assert_eq!(lent.lend().roll_back(32), 0);
         assert_eq!(lent.to_read().write_image(&mut bytes, &mut value), 0);
         assert_eq!(lent.lend().restart(&mut bytes), 0);

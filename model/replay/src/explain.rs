@@ -6,6 +6,7 @@ use cechnuol::Refusal;
 use ffi::library::Library;
 use ffi::said::{Said, UNTOUCHED};
 use ffi::NO_PRICE;
+use model::caller::Caller;
 use model::script::{file_bytes, parse, perform, Command, Line, Poke, Quoted, Reason};
 use model::unit::Call;
 
@@ -23,11 +24,12 @@ pub fn respond(library: &mut Library, line: &[u8]) -> Result<Vec<String>, Reason
     }
 }
 
-/// A call, made and answered.
+/// A call, made and answered. That the foyer makes it is said first.
 fn served(library: &mut Library, call: &Call) -> String {
+    let by = if call.caller() == Some(Caller::Foyer) { "foyer: " } else { "" };
     let request = request(library, call);
     let said = library.serve(call);
-    format!("{request}: {}", answer(call, &said))
+    format!("{by}{request}: {}", answer(call, &said))
 }
 
 fn load_file(library: &mut Library, name: &[u8]) -> Result<String, Reason> {
@@ -61,13 +63,13 @@ fn request(library: &Library, call: &Call) -> String {
         Call::Commit { list } => format!("commit {}", words(list, entry)),
         Call::RollBack { state } => format!("roll back to state {state}"),
         Call::Flush { state } => format!("flush to state {state}"),
-        Call::LookUp { offer, state } => format!("look up offer {offer} at state {state}"),
-        Call::Issue { slot, list } => format!("issue slot {slot} for {}", words(list, question)),
-        Call::Forward { slot, state, with: None } => format!("forward slot {slot} to state {state}"),
-        Call::Forward { slot, state, with: Some(list) } => {
+        Call::LookUp { offer, state, .. } => format!("look up offer {offer} at state {state}"),
+        Call::Issue { slot, list, .. } => format!("issue slot {slot} for {}", words(list, question)),
+        Call::Forward { slot, state, with: None, .. } => format!("forward slot {slot} to state {state}"),
+        Call::Forward { slot, state, with: Some(list), .. } => {
             format!("forward slot {slot} to state {state} with {}", words(list, entry))
         }
-        Call::Release { slot } => format!("release slot {slot}"),
+        Call::Release { slot, .. } => format!("release slot {slot}"),
         Call::PriceBatch { reads, orders, output } => format!(
             "price orders ({}) on ({}) into {}",
             words(orders, order),

@@ -45,6 +45,33 @@ restart # -> restart: ok
 }
 
 #[test]
+fn callers() {
+    let words: String = (0..17).map(|offer| format!(" {offer:08X}00000000")).collect();
+    let offers: Vec<String> = (0..17).map(|offer| format!("offer {offer}")).collect();
+    explains(&format!(
+        "lend table 2 # -> lend table 2
+lend journal 5 # -> lend journal 5
+clear # -> clear: ok
+commit 80000005000004B0 # -> commit offer 5 price 1200: ok
+look_up foyer 5 1 # -> foyer: look up offer 5 at state 1: price 1200
+look_up desk 5 1 # -> look up offer 5 at state 1: price 1200
+look_up foyer 9 1 # -> foyer: look up offer 9 at state 1: none
+issue foyer 6 0000000500000000 # -> foyer: issue slot 6 for offer 5: ok: offer 5 none
+issue foyer 5 # -> foyer: issue slot 5 for nothing: refused 19 OTHERS_SLOT: the slot is not the caller's
+issue foyer 7{words} # -> foyer: issue slot 7 for {}: refused 18 LONG_LIST: the foyer's list has over 16 words
+release 6 # -> release slot 6: refused 19 OTHERS_SLOT: the slot is not the caller's
+forward desk 6 1 # -> forward slot 6 to state 1: refused 19 OTHERS_SLOT: the slot is not the caller's
+forward foyer 6 1 # -> foyer: forward slot 6 to state 1: ok: offer 5 price 1200
+issue foyer 7 # -> foyer: issue slot 7 for nothing: ok: nothing
+forward foyer 7 1 with 0000000700000000 # -> foyer: forward slot 7 to state 1 with offer 7 none: ok: offer 7 none
+release foyer 7 # -> foyer: release slot 7: refused 5 SLOT_CLOSED: the slot named for a forward or release is closed
+foyer # -> no call: unknown word 'foyer'
+",
+        offers.join(", ")
+    ));
+}
+
+#[test]
 fn orders() {
     explains(
         "price_batch 80000005000004B0 / 0200003200000005 / 0000000000000000 # -> \
@@ -117,7 +144,7 @@ the length, the order of offers or a kind bit of the image is wrong
 fn refusals_have_the_names_of_the_header() {
     let header = include_str!("../../../include/cechnuol.h");
     let words: Vec<&str> = header.split_whitespace().collect();
-    let (_, printed, _) = ran(&["--explain", "../scripts/refusals.script"], b"");
+    let (_, printed, _) = ran(&["--explain", "../scripts/refusals.script", "../scripts/callers.script"], b"");
     let mut met = BTreeSet::new();
     for (_, refusal) in printed.lines().filter_map(|line| line.split_once(": refused ")) {
         let (number, rest) = refusal.split_once(' ').expect("a name follows the number");
@@ -127,5 +154,5 @@ fn refusals_have_the_names_of_the_header() {
         assert!(!sentence.is_empty(), "{refusal}");
         met.insert(number.parse::<u64>().expect("a number"));
     }
-    assert_eq!(met, (1..=17).collect());
+    assert_eq!(met, (1..=19).collect());
 }

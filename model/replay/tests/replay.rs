@@ -31,6 +31,18 @@ fn a_forward_takes_what_the_issue_filled() {
     assert_eq!(printed(script), expected);
 }
 
+/// The desk and the foyer read one store, each in its own slots.
+#[test]
+fn callers() {
+    let script = b"lend table 4\nlend journal 20\nclear\nissue foyer 6 0000000500000000\n\
+        issue desk 5 0000000500000000\ncommit 80000005000004B0\nforward 6 1\nforward foyer 5 1\nforward foyer 6 1\n\
+        forward 5 1\nrelease foyer 6\nrelease 6\nlook_up foyer 5 1\nlook_up 5 1\n";
+    let expected = "line 3: ok\nline 4: ok 0000000500000000\nline 5: ok 0000000500000000\nline 6: ok\n\
+        line 7: refused 19 0000000500000000\nline 8: refused 19 0000000500000000\nline 9: ok 80000005000004B0\n\
+        line 10: ok 80000005000004B0\nline 11: refused 5\nline 12: refused 19\nline 13: ok 1200\nline 14: ok 1200\n";
+    assert_eq!(printed(script), expected);
+}
+
 #[test]
 fn lines_of_any_bytes() {
     assert_eq!(printed(b""), "");
@@ -100,7 +112,7 @@ fn no_answer_is_hidden() {
     assert_eq!(text(0, 1, &[5]), "ok 1 0000000000000005");
     assert_eq!(text(NO_PRICE, UNTOUCHED, &[]), "none");
     assert_eq!(text(17, UNTOUCHED, &[5]), "refused 17 0000000000000005");
-    for code in [18, 99, 101, 1 << 32, u64::MAX] {
+    for code in [18, 19, 20, 99, 101, 1 << 32, u64::MAX] {
         assert_eq!(text(code, UNTOUCHED, &[]), format!("refused {code}"));
     }
     // a price of more than 32 bits, and values where there should be none

@@ -2,6 +2,7 @@
 
 use super::Generator;
 use crate::batch::{order, priced, ORDERS};
+use crate::caller::Caller;
 use crate::changes::{changes_of, words_of, Changes};
 use crate::image;
 use crate::script::LIST_WORDS;
@@ -26,10 +27,10 @@ impl Generator {
             4 => Call::Commit { list: self.list_for_commit() },
             5 => Call::RollBack { state: self.state() },
             6 => Call::Flush { state: self.state() },
-            7 => Call::LookUp { offer: self.offer(), state: self.state() },
-            8 => Call::Issue { slot: self.slot(false), list: self.question() },
+            7 => self.look_up(),
+            8 => self.issue(),
             9 => self.forward(),
-            10 => Call::Release { slot: self.slot(true) },
+            10 => self.release(),
             _ => self.batch(),
         };
         self.call(call);
@@ -39,7 +40,7 @@ impl Generator {
         self.draw.state(&self.unit.store.head)
     }
 
-    fn slot(&mut self, open: bool) -> u64 {
+    fn slot(&mut self, open: bool) -> (Caller, u64) {
         self.draw.slot(&self.unit.store.head.held, open)
     }
 
@@ -60,22 +61,35 @@ impl Generator {
         }
     }
 
-    fn question(&mut self) -> Vec<u64> {
-        match self.draw.rng.weighted(&[84, 8, 8]) {
+    fn look_up(&mut self) -> Call {
+        Call::LookUp { caller: self.draw.caller(), offer: self.offer(), state: self.state() }
+    }
+
+    fn issue(&mut self) -> Call {
+        let (caller, slot) = self.slot(false);
+        let list = match self.draw.rng.weighted(&[84, 8, 8, edges(caller)]) {
             0 => self.draw.questions(),
             1 => self.draw.changes(),
-            _ => self.draw.broken_list(),
-        }
+            2 => self.draw.broken_list(),
+            _ => self.draw.edge_questions(),
+        };
+        Call::Issue { caller, slot, list }
     }
 
     fn forward(&mut self) -> Call {
-        let (slot, state) = (self.slot(true), self.state());
-        let with = match self.draw.rng.weighted(&[70, 20, 10]) {
+        let ((caller, slot), state) = (self.slot(true), self.state());
+        let with = match self.draw.rng.weighted(&[70, 20, 10, edges(caller)]) {
             0 => None,
             1 => Some(self.draw.changes()),
-            _ => Some(self.draw.broken_list()),
+            2 => Some(self.draw.broken_list()),
+            _ => Some(self.draw.edge_changes()),
         };
-        Call::Forward { slot, state, with }
+        Call::Forward { caller, slot, state, with }
+    }
+
+    fn release(&mut self) -> Call {
+        let (caller, slot) = self.slot(true);
+        Call::Release { caller, slot }
     }
 
     /// Lends bytes for an image to be written: as many as it needs, some more, or too few.
@@ -243,5 +257,13 @@ impl Generator {
     fn insert(&mut self, orders: &mut Vec<u64>, word: u64) {
         let at = self.draw.rng.within(0, orders.len());
         orders.insert(at, word);
+    }
+}
+
+/// How often a list is near the most words that the caller may list, beside a hundred others.
+fn edges(caller: Caller) -> usize {
+    match caller {
+        Caller::Desk => 6,
+        Caller::Foyer => 80,
     }
 }

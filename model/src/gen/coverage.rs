@@ -1,5 +1,6 @@
 //! What generated scripts meet.
 
+use crate::caller::Caller;
 use crate::head::STEPS;
 use crate::sound::Clause;
 use crate::store::Store;
@@ -9,15 +10,15 @@ use std::collections::BTreeSet;
 /// What some calls met.
 #[derive(Clone, Debug, Default)]
 pub struct Coverage {
-    /// A call's word and its answer without values: `commit ok`, `look_up none`, `commit refused 13`.
+    /// A call's word, the foyer if it calls, and the answer without values: `commit ok`, `look_up foyer none`.
     pub answers: BTreeSet<String>,
     /// A call's word and the clause that refused it by ground 2.
     pub broken: BTreeSet<(&'static str, Clause)>,
     /// The lengths lent at calls.
     pub tables: BTreeSet<usize>,
     pub journals: BTreeSet<usize>,
-    /// The lengths of lists committed, issued, forwarded and read by batches, with the call's word.
-    pub lists: BTreeSet<(&'static str, usize)>,
+    /// The lengths of lists committed, issued, forwarded and read by batches, with the call's word and the caller.
+    pub lists: BTreeSet<(&'static str, Option<Caller>, usize)>,
     /// Whether 64 steps were held, and whether the tip was the largest number, at an accepted call.
     pub all_steps: bool,
     pub last_tip: bool,
@@ -31,7 +32,8 @@ impl Coverage {
             Answer::NoPrice | Answer::Refused(_) => answer.to_string(),
         };
         let accepted = !matches!(answer, Answer::Refused(_));
-        self.answers.insert(format!("{} {kind}", call.name()));
+        let by = if call.caller() == Some(Caller::Foyer) { " foyer" } else { "" };
+        self.answers.insert(format!("{}{by} {kind}", call.name()));
         if let (Some(clause), "refused 2") = (broken, kind.as_str()) {
             self.broken.insert((call.name(), clause));
         }
@@ -43,7 +45,7 @@ impl Coverage {
             Call::PriceBatch { reads, .. } => Some(reads),
             _ => None,
         };
-        self.lists.extend(list.map(|list| (call.name(), list.len())));
+        self.lists.extend(list.map(|list| (call.name(), call.caller(), list.len())));
         let head = &store.head;
         self.all_steps |= accepted && head.tip.checked_sub(head.oldest) == Some(STEPS as u32);
         self.last_tip |= accepted && head.tip == u32::MAX;

@@ -4,7 +4,7 @@ use super::{Generator, Item};
 use crate::script::{respond, LINE_BYTES};
 
 /// Lines that are no call on any memory, for one reason each.
-const NO_CALLS: [&str; 44] = [
+const NO_CALLS: [&str; 49] = [
     "Clear",
     "clear 0",
     "drop 1",
@@ -46,6 +46,11 @@ const NO_CALLS: [&str; 44] = [
     "roll_back",
     "flush 000000000000000000001",
     "look_up 5",
+    "look_up foyer 5",
+    "foyer issue 6",
+    "issue foyer",
+    "issue hall 6",
+    "commit foyer 80000005000004B0",
     "forward 0 0 80000005000004B0",
     "price_batch / /  / /",
     "price_batch /",

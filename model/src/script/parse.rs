@@ -5,6 +5,7 @@ use super::token::{
 };
 use super::{Command, HeadField, Memory, Poke, Quoted, Reason, Show, TallyField};
 use super::{BYTES, JOURNAL_WORDS, LINE_BYTES, LIST_WORDS, TABLE_WORDS};
+use crate::caller::Caller;
 use crate::head::{SLOTS, STEPS};
 use crate::unit::Call;
 
@@ -164,42 +165,55 @@ fn call(first: Token, rest: &[Token]) -> Result<Call, Reason> {
             let [state] = exactly("flush STATE", rest)?;
             Ok(Call::Flush { state: number_32("STATE", state)? })
         }
-        b"look_up" => {
-            let [offer, state] = exactly("look_up OFFER STATE", rest)?;
-            Ok(Call::LookUp { offer: number_32("OFFER", offer)?, state: number_32("STATE", state)? })
-        }
         b"price_batch" => price_batch(rest),
-        _ => slot_call(first, rest),
-    }
-}
-
-fn slot_call(first: Token, rest: &[Token]) -> Result<Call, Reason> {
-    match first {
-        b"issue" => {
-            let [slot, list @ ..] = rest else {
-                return Err(Reason::TooFew { form: "issue SLOT W..".to_string() });
-            };
-            Ok(Call::Issue { slot: number("SLOT", slot)?, list: words(list)? })
-        }
+        b"look_up" => look_up(rest),
+        b"issue" => issue(rest),
         b"forward" => forward(rest),
-        b"release" => {
-            let [slot] = exactly("release SLOT", rest)?;
-            Ok(Call::Release { slot: number("SLOT", slot)? })
-        }
+        b"release" => release(rest),
         _ => Err(Reason::UnknownWord(Quoted::new(first))),
     }
 }
 
+/// Who calls, with what a form has there, and what follows. Where neither word stands, it is the desk.
+fn caller<'a, 'b>(tokens: &'a [Token<'b>]) -> (Caller, &'static str, &'a [Token<'b>]) {
+    match tokens {
+        [b"desk", rest @ ..] => (Caller::Desk, " desk", rest),
+        [b"foyer", rest @ ..] => (Caller::Foyer, " foyer", rest),
+        rest => (Caller::Desk, "", rest),
+    }
+}
+
+fn look_up(tokens: &[Token]) -> Result<Call, Reason> {
+    let (caller, said, rest) = caller(tokens);
+    let [offer, state] = exactly(&format!("look_up{said} OFFER STATE"), rest)?;
+    Ok(Call::LookUp { caller, offer: number_32("OFFER", offer)?, state: number_32("STATE", state)? })
+}
+
+fn issue(tokens: &[Token]) -> Result<Call, Reason> {
+    let (caller, said, rest) = caller(tokens);
+    let [slot, list @ ..] = rest else {
+        return Err(Reason::TooFew { form: format!("issue{said} SLOT W..") });
+    };
+    Ok(Call::Issue { caller, slot: number("SLOT", slot)?, list: words(list)? })
+}
+
+fn release(tokens: &[Token]) -> Result<Call, Reason> {
+    let (caller, said, rest) = caller(tokens);
+    let [slot] = exactly(&format!("release{said} SLOT"), rest)?;
+    Ok(Call::Release { caller, slot: number("SLOT", slot)? })
+}
+
 fn forward(tokens: &[Token]) -> Result<Call, Reason> {
-    let [slot, state, with @ ..] = tokens else {
-        return Err(Reason::TooFew { form: "forward SLOT STATE".to_string() });
+    let (caller, said, rest) = caller(tokens);
+    let [slot, state, with @ ..] = rest else {
+        return Err(Reason::TooFew { form: format!("forward{said} SLOT STATE") });
     };
     let list = match with {
         [] => None,
         with => Some(forms_word("with", &["with"], with)?.1),
     };
     let (slot, state) = (number("SLOT", slot)?, number_32("STATE", state)?);
-    Ok(Call::Forward { slot, state, with: list.map(words).transpose()? })
+    Ok(Call::Forward { caller, slot, state, with: list.map(words).transpose()? })
 }
 
 fn price_batch(tokens: &[Token]) -> Result<Call, Reason> {

@@ -1,6 +1,7 @@
 //! Commands as the lines that say them.
 
 use super::{Command, HeadField, Memory, Poke, Show, TallyField};
+use crate::caller::Caller;
 use crate::unit::Call;
 use std::fmt;
 
@@ -85,20 +86,24 @@ impl fmt::Display for Show {
     }
 }
 
+/// The foyer is named; where no caller stands, it is the desk.
 impl fmt::Display for Call {
     fn fmt(&self, f: &mut fmt::Formatter<'_>) -> fmt::Result {
         f.write_str(self.name())?;
+        if self.caller() == Some(Caller::Foyer) {
+            write!(f, " {}", Caller::Foyer)?;
+        }
         match self {
             Call::Clear | Call::Load | Call::WriteImage | Call::Restart => Ok(()),
             Call::Commit { list } => f.write_str(&words_text(list)),
             Call::RollBack { state } | Call::Flush { state } => write!(f, " {state}"),
-            Call::LookUp { offer, state } => write!(f, " {offer} {state}"),
-            Call::Issue { slot, list } => write!(f, " {slot}{}", words_text(list)),
-            Call::Forward { slot, state, with: None } => write!(f, " {slot} {state}"),
-            Call::Forward { slot, state, with: Some(list) } => {
+            Call::LookUp { offer, state, .. } => write!(f, " {offer} {state}"),
+            Call::Issue { slot, list, .. } => write!(f, " {slot}{}", words_text(list)),
+            Call::Forward { slot, state, with: None, .. } => write!(f, " {slot} {state}"),
+            Call::Forward { slot, state, with: Some(list), .. } => {
                 write!(f, " {slot} {state} with{}", words_text(list))
             }
-            Call::Release { slot } => write!(f, " {slot}"),
+            Call::Release { slot, .. } => write!(f, " {slot}"),
             Call::PriceBatch { reads, orders, output } => {
                 write!(f, "{} /{} /{}", words_text(reads), words_text(orders), words_text(output))
             }

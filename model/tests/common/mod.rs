@@ -6,8 +6,9 @@ use model::unit::Unit;
 use std::fs;
 use std::path::PathBuf;
 
-/// Every answer that each call can give, without values, as document 01's grounds concern the call.
-pub const ANSWERS: [(&str, &[&str]); 12] = [
+/// Every answer that each call can give, without values, as the grounds concern the call. What follows the call's word says
+/// that the foyer makes it.
+pub const ANSWERS: [(&str, &[&str]); 16] = [
     ("clear", &["ok", "refused 1"]),
     ("load", &["ok", "refused 1", "refused 15", "refused 16"]),
     ("write_image", &["ok", "refused 1", "refused 2", "refused 17"]),
@@ -16,9 +17,32 @@ pub const ANSWERS: [(&str, &[&str]); 12] = [
     ("roll_back", &["ok", "refused 1", "refused 2", "refused 11"]),
     ("flush", &["ok", "refused 1", "refused 2", "refused 11", "refused 16"]),
     ("look_up", &["ok", "none", "refused 1", "refused 2", "refused 6", "refused 11"]),
-    ("issue", &["ok", "refused 1", "refused 2", "refused 3", "refused 4", "refused 6"]),
-    ("forward", &["ok", "refused 1", "refused 2", "refused 3", "refused 5", "refused 6", "refused 11"]),
-    ("release", &["ok", "refused 1", "refused 2", "refused 3", "refused 5"]),
+    ("look_up foyer", &["ok", "none", "refused 1", "refused 2", "refused 6", "refused 11"]),
+    ("issue", &["ok", "refused 1", "refused 2", "refused 3", "refused 19", "refused 4", "refused 6"]),
+    (
+        "issue foyer",
+        &["ok", "refused 1", "refused 2", "refused 3", "refused 19", "refused 4", "refused 6", "refused 18"],
+    ),
+    (
+        "forward",
+        &["ok", "refused 1", "refused 2", "refused 3", "refused 19", "refused 5", "refused 6", "refused 11"],
+    ),
+    (
+        "forward foyer",
+        &[
+            "ok",
+            "refused 1",
+            "refused 2",
+            "refused 3",
+            "refused 19",
+            "refused 5",
+            "refused 6",
+            "refused 18",
+            "refused 11",
+        ],
+    ),
+    ("release", &["ok", "refused 1", "refused 2", "refused 3", "refused 19", "refused 5"]),
+    ("release foyer", &["ok", "refused 1", "refused 2", "refused 3", "refused 19", "refused 5"]),
     ("price_batch", &["ok", "refused 6", "refused 7", "refused 8", "refused 9", "refused 10", "refused 17"]),
 ];
 
@@ -29,6 +53,12 @@ pub fn all_answers() -> Vec<String> {
         answers.iter().map(move |answer| format!("{call} {answer}"))
     };
     ANSWERS.iter().flat_map(of_call).collect()
+}
+
+/// The numbers of the refusals among a call's answers.
+pub fn refusals(answers: &[&str]) -> Vec<u8> {
+    let number = |answer: &&str| answer.strip_prefix("refused ").and_then(|number| number.parse().ok());
+    answers.iter().filter_map(number).collect()
 }
 
 /// A file or folder of this crate.

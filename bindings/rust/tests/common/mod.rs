@@ -1,6 +1,7 @@
 //! What several tests need.
 #![allow(dead_code)]
 
+use cechnuol::Caller::{Desk, Foyer};
 use cechnuol::{Entry, Head, Refusal, Store, Tally};
 use std::path::Path;
 
@@ -9,7 +10,7 @@ pub fn store() -> Store {
     let mut store = Store::new(8, 16).expect("a table and a journal of these lengths");
     store.commit(&[Entry::put(5, 1200), Entry::put(9, 700)]).expect("two entries");
     store.flush(1).expect("a state that there is");
-    store.issue(3, &mut [Entry::ask(5)]).expect("a slot that is closed");
+    store.issue(Desk, 3, &mut [Entry::ask(5)]).expect("a slot that is closed");
     store.commit(&[Entry::put(5, 1100), Entry::remove(9), Entry::put(11, 0)]).expect("three entries");
     store
 }
@@ -34,8 +35,8 @@ pub fn with_head(store: &Store, words: &[(usize, u64)]) -> Store {
 /// A call on a store that gives no value.
 pub type Call = fn(&mut Store) -> Result<(), Refusal>;
 
-/// A call of each kind that the store of [`store`] accepts.
-pub const CALLS: [(&str, Call); 11] = [
+/// A call of each kind that the store of [`store`] accepts, from the foyer too where it has slots of its own.
+pub const CALLS: [(&str, Call); 13] = [
     ("clear", |store| store.clear()),
     ("load", |store| store.load(&IMAGE)),
     ("write_image", |store| store.write_image(&mut [0; 64]).map(drop)),
@@ -43,10 +44,12 @@ pub const CALLS: [(&str, Call); 11] = [
     ("commit", |store| store.commit(&[Entry::put(7, 7)])),
     ("roll_back", |store| store.roll_back(1)),
     ("flush", |store| store.flush(2)),
-    ("look_up", |store| store.look_up(5, 2).map(drop)),
-    ("issue", |store| store.issue(0, &mut [Entry::ask(5)])),
-    ("forward", |store| store.forward(3, 2, &mut [Entry::put(5, 1200)])),
-    ("release", |store| store.release(3)),
+    ("look_up", |store| store.look_up(Desk, 5, 2).map(drop)),
+    ("look_up of the foyer", |store| store.look_up(Foyer, 5, 2).map(drop)),
+    ("issue", |store| store.issue(Desk, 0, &mut [Entry::ask(5)])),
+    ("issue of the foyer", |store| store.issue(Foyer, 6, &mut [Entry::ask(5)])),
+    ("forward", |store| store.forward(Desk, 3, 2, &mut [Entry::put(5, 1200)])),
+    ("release", |store| store.release(Desk, 3)),
 ];
 
 /// A call on a store is refused so, and leaves the store as it came.

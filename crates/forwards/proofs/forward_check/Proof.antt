@@ -67,22 +67,51 @@ returns-4 c =
     ∙ first-not _ _ _ (c .before .before .if1 .left)
     ∙ first-met _ _ _ (ap not (sym (c .before .is-list .ensures)) ∙ (c .if2 .taken)))
 
-state-check-requires : tie.Need-state-check-requires
-state-check-requires c κs = search needs
+long-check-requires : tie.Need-long-check-requires
+long-check-requires c κs = search needs
+
+enum-told-5 : tie.Need-enum-told-5
+enum-told-5 c = search needs
+
+enum-told-6 : tie.Need-enum-told-6
+enum-told-6 c = search needs
 
 returns-5 : tie.Need-returns-5
 returns-5 c =
     let c3 = c .before .before .before in
     let c4 = c3 .before in
-    let c6 = c4 .before .before in
+    let c5 = c4 .before in
+    let c6 = c5 .before in
+    let c8 = c6 .before .before in
+    let c9 = c8 .before in
+    let c11 = c9 .before .before in
+    stops _ _ (c .before .before .long-check .ensures .0) (c .enum-told6 .given .1)
+    ∙ sym
+    (goes-on _ _ (c11 .store-check .ensures .0) (c9 .enum-told .given .1)
+    ∙ goes-on _ _ (c8 .slot-check .ensures .0) (c6 .enum-told3 .given .1)
+    ∙ first-not _ _ _ (c5 .if1 .left)
+    ∙ first-not _ _ _ (ap not (sym (c4 .is-list .ensures)) ∙ (c3 .if2 .left)))
+
+state-check-requires : tie.Need-state-check-requires
+state-check-requires c κs = search needs
+
+returns-6 : tie.Need-returns-6
+returns-6 c =
+    let c3 = c .before .before .before in
+    let c4 = c3 .before in
+    let c5 = c4 .before in
+    let c6 = c5 .before in
     let c7 = c6 .before in
     let c9 = c7 .before .before in
+    let c10 = c9 .before in
+    let c12 = c10 .before .before in
     (c .state-check .ensures .0)
     ∙ sym
-    (goes-on _ _ (c9 .store-check .ensures .0) (c7 .enum-told .given .1)
-    ∙ goes-on _ _ (c6 .slot-check .ensures .0) (c4 .enum-told3 .given .1)
-    ∙ first-not _ _ _ (c3 .if1 .left)
-    ∙ first-not _ _ _ (ap not (sym (c .before .before .is-list .ensures)) ∙ (c .before .if2 .left)))
+    (goes-on _ _ (c12 .store-check .ensures .0) (c10 .enum-told .given .1)
+    ∙ goes-on _ _ (c9 .slot-check .ensures .0) (c7 .enum-told3 .given .1)
+    ∙ first-not _ _ _ (c6 .if1 .left)
+    ∙ first-not _ _ _ (ap not (sym (c5 .is-list .ensures)) ∙ (c4 .if2 .left))
+    ∙ goes-on _ _ (c3 .long-check .ensures .0) (c .before .enum-told5 .given .1))
 
 pub forward-check-spec : {M : Type 1} → statement M
 forward-check-spec =
@@ -100,5 +129,9 @@ forward-check-spec =
     returns-3
     is-list-requires
     returns-4
+    long-check-requires
+    enum-told-5
+    enum-told-6
+    returns-5
     state-check-requires
-    returns-5)
+    returns-6)

@@ -2,7 +2,7 @@
 -- Assumes nothing.
 use mathlib.Core.Path.{_∙_, sym, ap}
 use mathlib.Core.Bool.{not}
-use Rattle.answers.proofs.Firsts.{stops, goes-on, first-met, first-not, none-met}
+use Rattle.answers.proofs.Firsts.{stops, goes-on, first-met, first-not}
 use Rattle.slots.proofs.Passed.{slot-ok}
 use borrow.Author.Needs.{needs}
 use Rattle.issues.proofs.issue_check.Statement.{statement}
@@ -85,21 +85,25 @@ returns-5 c =
     ∙ first-not _ _ _ (ap not (sym (c3 .is-list .ensures)) ∙ (c .before .before .if2 .left))
     ∙ first-met _ _ _ (ap not (sym (c .before .has-no-put .ensures)) ∙ (c .if3 .taken)))
 
+long-check-requires : tie.Need-long-check-requires
+long-check-requires c κs = search needs
+
 returns-6 : tie.Need-returns-6
 returns-6 c =
     let c3 = c .before .before .before in
     let c4 = c3 .before in
     let c5 = c4 .before in
-    let c7 = c5 .before .before in
-    let c8 = c7 .before in
-    let c10 = c8 .before .before in
-    sym
-    (goes-on _ _ (c10 .store-check .ensures .0) (c8 .enum-told .given .1)
-    ∙ goes-on _ _ (c7 .slot-check .ensures .0) (c5 .enum-told3 .given .1)
-    ∙ first-not _ _ _ (c4 .if1 .left)
-    ∙ first-not _ _ _ (ap not (sym (c3 .is-list .ensures)) ∙ (c .before .before .if2 .left))
-    ∙ first-not _ _ _ (ap not (sym (c .before .has-no-put .ensures)) ∙ (c .if3 .left))
-    ∙ none-met)
+    let c6 = c5 .before in
+    let c8 = c6 .before .before in
+    let c9 = c8 .before in
+    let c11 = c9 .before .before in
+    (c .long-check .ensures .0)
+    ∙ sym
+    (goes-on _ _ (c11 .store-check .ensures .0) (c9 .enum-told .given .1)
+    ∙ goes-on _ _ (c8 .slot-check .ensures .0) (c6 .enum-told3 .given .1)
+    ∙ first-not _ _ _ (c5 .if1 .left)
+    ∙ first-not _ _ _ (ap not (sym (c4 .is-list .ensures)) ∙ (c3 .if2 .left))
+    ∙ first-not _ _ _ (ap not (sym (c .before .before .has-no-put .ensures)) ∙ (c .before .if3 .left)))
 
 pub issue-check-spec : {M : Type 1} → statement M
 issue-check-spec =
@@ -119,4 +123,5 @@ issue-check-spec =
     returns-4
     has-no-put-requires
     returns-5
+    long-check-requires
     returns-6)

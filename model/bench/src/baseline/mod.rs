@@ -2,6 +2,7 @@
 //! same tests. Every call on a store tests the whole of it, and a refused call leaves everything as it came.
 
 mod batch;
+mod caller;
 mod changes;
 mod head;
 mod image;
@@ -16,6 +17,7 @@ mod without_exits;
 pub mod word;
 
 pub use batch::price_batch;
+pub use caller::Caller;
 pub use head::{Head, Tally};
 pub use lent_words::LentWords;
 pub use refusal::Refusal;

@@ -1,11 +1,12 @@
 //! The calls that read: look up, issue, forward, release.
 
+use super::caller::Caller;
 use super::refusal::Refusal;
 use super::store::Store;
 use super::word;
 
 impl Store<'_> {
-    /// The price of an offer, or none, at a state.
+    /// The price of an offer, or none, at a state, whoever asks.
     pub fn look_up(&self, offer: u32, state: u32) -> Result<Option<u32>, Refusal> {
         self.test_store()?;
         Refusal::BadList.unless(offer < word::OFFERS)?;
@@ -17,11 +18,12 @@ impl Store<'_> {
     }
 
     /// Fills a list of kind 0 words from the table, and opens a slot.
-    pub fn issue(&mut self, slot: usize, list: &mut [u64]) -> Result<(), Refusal> {
+    pub fn issue(&mut self, caller: Caller, slot: usize, list: &mut [u64]) -> Result<(), Refusal> {
         self.test_store()?;
-        self.test_slot(slot)?;
+        self.test_slot(caller, slot)?;
         Refusal::SlotTaken.unless(!self.head.held[slot])?;
         Refusal::BadList.unless(word::is_list(list) && !list.iter().any(|&word| word::is_put(word)))?;
+        Refusal::LongList.unless(list.len() <= caller.list_words())?;
         let map = &self.table[..self.head.used];
         for word in list {
             *word = word::find(map, word::offer(*word)).unwrap_or(*word);
@@ -32,11 +34,18 @@ impl Store<'_> {
     }
 
     /// Brings a read set forward to a state at its own offers, and closes its slot.
-    pub fn forward(&mut self, slot: usize, state: u32, reads: &mut [u64]) -> Result<(), Refusal> {
+    pub fn forward(
+        &mut self,
+        caller: Caller,
+        slot: usize,
+        state: u32,
+        reads: &mut [u64],
+    ) -> Result<(), Refusal> {
         self.test_store()?;
-        self.test_slot(slot)?;
+        self.test_slot(caller, slot)?;
         Refusal::SlotClosed.unless(self.head.held[slot])?;
         Refusal::BadList.unless(word::is_list(reads))?;
+        Refusal::LongList.unless(reads.len() <= caller.list_words())?;
         self.test_state(state)?;
         let issued = self.head.issued[slot];
         for word in reads {
@@ -47,9 +56,9 @@ impl Store<'_> {
     }
 
     /// Closes a slot.
-    pub fn release(&mut self, slot: usize) -> Result<(), Refusal> {
+    pub fn release(&mut self, caller: Caller, slot: usize) -> Result<(), Refusal> {
         self.test_store()?;
-        self.test_slot(slot)?;
+        self.test_slot(caller, slot)?;
         Refusal::SlotClosed.unless(self.head.held[slot])?;
         self.close(slot);
         Ok(())

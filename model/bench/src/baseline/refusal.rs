@@ -1,4 +1,4 @@
-//! The grounds on which a call is turned away, with document 01's numbers.
+//! The grounds on which a call is turned away, with their numbers.
 
 /// A ground.
 #[derive(Clone, Copy, Debug, PartialEq, Eq)]
@@ -21,10 +21,12 @@ pub enum Refusal {
     BadImage,
     TableFull,
     OutputShort,
+    LongList,
+    OthersSlot,
 }
 
 impl Refusal {
-    /// The number of the ground in document 01.
+    /// The number of the ground.
     pub fn number(self) -> u64 {
         self as u64
     }

@@ -1,5 +1,6 @@
 //! A store's memory, and the grounds that concern most calls.
 
+use super::caller::Caller;
 use super::head::{Head, Tally, SLOTS};
 use super::refusal::Refusal;
 use super::sound::is_sound;
@@ -76,9 +77,10 @@ impl Store<'_> {
         Refusal::Unsound.unless(is_sound(self.table, self.journal, self.head))
     }
 
-    /// Ground 3.
-    pub(super) fn test_slot(&self, slot: usize) -> Result<(), Refusal> {
-        Refusal::SlotRange.unless(slot < SLOTS)
+    /// Grounds 3 and 19.
+    pub(super) fn test_slot(&self, caller: Caller, slot: usize) -> Result<(), Refusal> {
+        Refusal::SlotRange.unless(slot < SLOTS)?;
+        Refusal::OthersSlot.unless(caller.slots().contains(&slot))
     }
 
     /// Ground 11.

@@ -1,11 +1,16 @@
 -- `store::cechnuol_look_up` meets its contract: it has what the query on lent memory promises.
 -- Assumes nothing.
+use mathlib.Core.Path.{ap}
 use mathlib.Core.List.{[]}
-use Rattle.lent.specs.Asked.{lookUp}
-use Rattle.cechnuol.proofs.Serving.{tells}
+use Rattle.answers.specs.declared.call.Caller.{Caller}
+use Rattle.answers.specs.declared.call.Query.the-variants.{LookUp}
+use Rattle.cechnuol.proofs.Serving.{tells-same}
 use borrow.Author.Needs.{needs}
 use Rattle.cechnuol.proofs.store.cechnuol_look_up.Statement.{statement}
 use Rattle.cechnuol.proofs.store.cechnuol_look_up.Tie as tie
+
+caller-of-requires : tie.Need-caller-of-requires
+caller-of-requires c κs = search needs
 
 slice-aggregate-ask-on : tie.Need-slice-aggregate-ask-on
 slice-aggregate-ask-on c = search needs
@@ -25,14 +30,17 @@ code-of-requires c κs = search needs
 returns : tie.Need-returns
 returns c =
     let c5 = c .before .before .before .before .before in
-    let args = c5 .before .before .before .before .before .args in
-    tells (args .table .now) (args .journal .now) [] [] (args .head .now) (lookUp (args .offer) (args .state)) (args .price .now)
-    (c .code-of .ensures) (c .before .value-of .ensures) (c5 .ask-on .ensures)
+    let c8 = c5 .before .before .before in
+    let args = c8 .before .before .before .args in
+    tells-same (args .table .now) (args .journal .now) [] [] (args .head .now)
+    (ap (λ (k : Caller). LookUp (record { caller = k; offer = (args .offer); state = (args .state) })) (c8 .caller-of .ensures))
+    (args .price .now) (c .code-of .ensures) (c .before .value-of .ensures) (c5 .ask-on .ensures)
 
 pub cechnuol-look-up-spec : {M : Type 1} → statement M
 cechnuol-look-up-spec =
     tie.close
     (tie.spec
+    caller-of-requires
     slice-aggregate-ask-on
     slice-aggregate-ask-on-2
     ask-on-requires
