@@ -5,12 +5,12 @@ use mathlib.Core.Bool.{Bool, true, false}
 use mathlib.Core.List.{List}
 use Prim.Native.Nat.{ℕ, _-_, _^_, _≤_, _<_}
 use native.Mathlib.Omega.{arith}
-use borrow.Author.Tests.{leb-true, le-leb, lt-leb, lt-ltb, le-ltb, ne-eqb, eq-eqb}
-use lib.Dec.{leb, ltb}
+use borrow.Author.Tests.{le-leb, lt-leb, lt-ltb, le-ltb, ne-eqb, eq-eqb}
+use lib.Dec.{ltb}
 use lib.ListN.{length}
-use Rattle.changes.specs.Lists.{risingB, listB}
+use Rattle.changes.specs.Lists.{listB}
 use Rattle.changes.proofs.Laws.{changes-test}
-use Rattle.changes.proofs.ListTest.{and-both}
+use Rattle.changes.proofs.ListTest.{list-facts}
 use Rattle.answers.specs.declared.call.Caller.the-variants.{Desk, Foyer}
 use Rattle.answers.specs.declared.call.Reader.{Reader}
 use Rattle.layout.specs.declared.head.Head.{Head}
@@ -38,11 +38,8 @@ in-lengths table journal a b c d =
     ∙ first-holds _ _ (le-leb journal 4096 d)
     ∙ all-none
 
-list-short : (l : List ℕ) → listB l ≡ true → length l ≤ 64
-list-short l e = leb-true (length l) 64 (and-both (leb (length l) 64) (risingB 0 l) e .0)
-
 long-list : (l : List ℕ) → 65 ≤ length l → listB l ≡ false
-long-list l h = is-false (listB l) (λ e. omega (arith, list-short l e))
+long-list l h = is-false (listB l) (λ e. omega (arith, list-facts l e .0))
 
 slot-high : (reader : Reader) → 8 ≤ reader .slot → firstNumber (slotGrounds reader) ≡ 3
 unfolding firstNumber
@@ -68,7 +65,7 @@ module _ (slot : ℕ) where
 module _ (list : List ℕ) where
   desk-list : listB list ≡ true → firstNumber (longGrounds Desk (length list)) ≡ 0
   unfolding firstNumber
-  desk-list e = rw (le-ltb 64 (length list) (list-short list e)) refl
+  desk-list e = rw (le-ltb 64 (length list) (list-facts list e .0)) refl
 
   foyer-list : length list ≤ 16 → firstNumber (longGrounds Foyer (length list)) ≡ 0
   unfolding firstNumber
