@@ -5,9 +5,9 @@
  * committed list by list, and each list leads to the next state. The unit quotes any state from the checkpoint to the
  * tip, which is the newest; it steps back from the tip when the feed is corrected, and lets the checkpoint follow by a
  * flush. A read may start before the state that it serves exists: it is issued at the checkpoint and forwarded later. A
- * batch of orders is priced on such a read. An image holds the prices at the checkpoint as bytes, to be stored and
- * loaded again. Two callers share a store, the desk at the counter and a display in the foyer, and each has slots of
- * its own for its reads.
+ * batch of orders is priced on such a read. An image holds the prices at one state as bytes, to be stored and loaded
+ * again. Two callers share a store, the desk at the counter and a display in the foyer, and each has slots of its own
+ * for its reads.
  *
  * The functions of the library are proved: for every length and every content of what they are lent they answer and
  * leave what is defined for them, stay within the memory lent, and end. They allocate nothing, keep nothing between
@@ -45,20 +45,23 @@
  *   null. What a call may write overlaps nothing else that it is lent, else the outcome is undefined; what it only
  *   reads may overlap.
  *
- *   Threads. Calls on one store are made one at a time. Queries (cechnuol_look_up and cechnuol_write_image) of one
- *   store may run side by side, each with an output of its own, while no other call on that store runs. Calls on
- *   different stores, and cechnuol_price_batch, need no such care: the library has no memory of its own.
+ *   Threads. Calls on one store are made one at a time. Queries (cechnuol_look_up, cechnuol_write_image and
+ *   cechnuol_write_state_image) of one store may run side by side, each with an output of its own, while no other call
+ *   on that store runs. Calls on different stores, and cechnuol_price_batch, need no such care: the library has no
+ *   memory of its own.
  *
- *   Stack. A flush needs up to 160 KiB of stack, and any other call less than 32 KiB. A flush of few prices takes less
- *   than 40 KiB, so a test with a small store does not show that a stack is too small. Beware of small ones, as the 128
- *   KiB that musl gives a thread, or those that pthread_attr_setstacksize made smaller. A stack that is too small ends
- *   the program where a guard page lies below it; one in memory of the program's own (pthread_attr_setstack,
- *   coroutines) has none, and what lies below is overwritten. The library has no unwind tables: where a program ends
- *   within a call, a debugger shows the innermost function and none of its callers.
+ *   Stack. A flush, and the writing of the image of a state above the checkpoint, need up to 160 KiB of stack, and any
+ *   other call less than 32 KiB. With few prices they take less than 40 KiB, so a test with a small store does not show
+ *   that a stack is too small. Beware of small ones, as the 128 KiB that musl gives a thread, or those that
+ *   pthread_attr_setstacksize made smaller. A stack that is too small ends the program where a guard page lies below
+ *   it; one in memory of the program's own (pthread_attr_setstack, coroutines) has none, and what lies below is
+ *   overwritten. The library has no unwind tables: where a program ends within a call, a debugger shows the innermost
+ *   function and none of its callers.
  *
  * What a call costs. Every call on a store but clear and load tests the whole of it, in one pass over table and
  * journal: some microseconds where they are as long as can be. A flush of 64 steps of 64 words into the longest table
- * takes about a hundred, and a forward of 64 words over as many steps some tens.
+ * takes about a hundred, the image of the state above them as many, and a forward of 64 words over as many steps some
+ * tens.
  *
  * What a refusal leaves. A call that answers anything but CECHNUOL_OK leaves everything lent as it came: table,
  * journal, head, tally, words, bytes, price and count.
@@ -76,8 +79,8 @@ extern "C" {
 /* Version. */
 
 /* The version of this header: major * 1000000 + minor * 1000 + patch, and as text. */
-#define CECHNUOL_VERSION 2000000
-#define CECHNUOL_VERSION_TEXT "2.0.0"
+#define CECHNUOL_VERSION 3000000
+#define CECHNUOL_VERSION_TEXT "3.0.0"
 
 /* The version of the library that is linked, as a number. It differs from CECHNUOL_VERSION where header and library are
  * not of one release. */
@@ -94,7 +97,7 @@ enum {
     CECHNUOL_SLOTS = 8,            /* slots are numbered from 0 to 7 */
     CECHNUOL_FOYER_SLOT = 6,       /* the foyer has the slots from this one on, the desk those below it */
     CECHNUOL_STEPS = 64,           /* so many steps are held at most: tip - oldest */
-    CECHNUOL_IMAGE_BYTES = 64006   /* the longest image, that of 8,000 offers */
+    CECHNUOL_IMAGE_BYTES = 96774   /* the longest image, that of a state of 12,096 offers */
 };
 
 /* The length in bytes of an image of so many offers. */
@@ -268,13 +271,32 @@ static inline size_t cechnuol_oldest_slot(const uint64_t head[CECHNUOL_HEAD_WORD
     return oldest;
 }
 
+/* How many bytes are enough for the image of any state from the checkpoint to the tip: as if each change above the
+ * checkpoint were an offer of its own. Never above CECHNUOL_IMAGE_BYTES, whatever the words are. */
+static inline size_t cechnuol_image_bytes(const uint64_t head[CECHNUOL_HEAD_WORDS])
+{
+    const uint64_t *ends = head + CECHNUOL_ENDS;
+    uint64_t held = head[CECHNUOL_TIP] - head[CECHNUOL_OLDEST];
+    uint64_t below = head[CECHNUOL_CHECKPOINT] - head[CECHNUOL_OLDEST];
+    uint64_t used = head[CECHNUOL_USED], words;
+    if (held > CECHNUOL_STEPS || below > held || used > CECHNUOL_TABLE_WORDS)
+        return CECHNUOL_IMAGE_BYTES;
+    words = (held == 0 ? 0 : ends[held - 1]) - (below == 0 ? 0 : ends[below - 1]);
+    if (words > CECHNUOL_JOURNAL_WORDS)
+        return CECHNUOL_IMAGE_BYTES;
+    return CECHNUOL_IMAGE_BYTES_OF(used + words);
+}
+
 /* Images. */
 
 /* An image is the prices at one state as bytes: the state number in 32 bits, the count of offers in 16 bits, and then
  * that many entry words of kind 1 with strictly rising offers, each number most significant byte first. Its length is
  * exactly 6 + 8 * count bytes. What one store writes loads into any store whose table has count words or more.
  *
- * An image holds the checkpoint, not the tip: to save the newest prices, flush to the tip first. */
+ * An image is written of the tip, or of any state from the checkpoint to the tip that is named: to save the newest
+ * prices, nothing is flushed first. A state above the checkpoint may have more prices than the table has words, up to
+ * one for each word of table and journal. Its image is written too; a table takes it that has a word for each, and of
+ * more than 8,000 prices, or CECHNUOL_IMAGE_BYTES_OF(CECHNUOL_TABLE_WORDS) bytes, none does. */
 
 /* Answers. */
 
@@ -390,12 +412,20 @@ uint64_t cechnuol_clear(CECHNUOL_STORE);
  * more than 8,000 offers fits no table. */
 uint64_t cechnuol_load(CECHNUOL_STORE, const uint8_t *bytes, size_t byte_count);
 
-/* A query. Writes the image of the checkpoint to the start of the bytes and its length to *count; bytes past it stay.
- * The steps above the checkpoint are not in it: to save the newest prices, flush to the tip first.
+/* A query. Writes the image of the tip to the start of the bytes and its length to *count; bytes past it stay. It has
+ * the newest prices, whatever is flushed.
  * Changes: bytes, *count.
  * Refusals: LENGTHS, UNSOUND, OUTPUT_SHORT.
- * At OUTPUT_SHORT lend CECHNUOL_IMAGE_BYTES_OF(head[CECHNUOL_USED]) bytes; CECHNUOL_IMAGE_BYTES are always enough. */
+ * At OUTPUT_SHORT lend cechnuol_image_bytes(head) bytes; CECHNUOL_IMAGE_BYTES are always enough. */
 uint64_t cechnuol_write_image(CECHNUOL_STORE_TO_READ, uint8_t *bytes, size_t byte_count, uint64_t *count);
+
+/* A query. Writes the image of a state from the checkpoint to the tip to the start of the bytes and its length to
+ * *count; bytes past it stay. That of the checkpoint takes CECHNUOL_IMAGE_BYTES_OF(head[CECHNUOL_USED]) bytes.
+ * Changes: bytes, *count.
+ * Refusals: LENGTHS, UNSOUND, STATE_RANGE, OUTPUT_SHORT.
+ * At OUTPUT_SHORT lend cechnuol_image_bytes(head) bytes; CECHNUOL_IMAGE_BYTES are always enough. */
+uint64_t cechnuol_write_state_image(CECHNUOL_STORE_TO_READ, uint32_t state, uint8_t *bytes, size_t byte_count,
+                                    uint64_t *count);
 
 /* Writes the image of the checkpoint to the start of the bytes and loads it from there, as a program does that is
  * switched off and on again. The tip falls back to the checkpoint, so that all held steps are lost, all slots close, so
@@ -416,10 +446,10 @@ uint64_t cechnuol_restart(CECHNUOL_STORE, uint8_t *bytes, size_t byte_count);
  * until the commit passes. Where oldest is the checkpoint, no slot holds a step back and to close one frees nothing:
  * what helps then is said at TABLE_FULL of cechnuol_flush.
  * At JOURNAL_FULL do the same, but first test the list: one of more than journal_words words never fits, whatever is
- * given up. Commit it in parts, each a state of its own, or move to a store with a longer journal (flush to the tip,
- * write the image, load it there; open reads and the tally stay behind).
- * At LAST_STATE there is no further number: flush to the tip, write the image, set its first four bytes to 0, and load
- * it. The same prices are then state 0. */
+ * given up. Commit it in parts, each a state of its own, or move to a store with a longer journal (write the image, load
+ * it there; open reads, the states below the tip and the tally stay behind).
+ * At LAST_STATE there is no further number: write the image, set its first four bytes to 0, and load it. The same prices
+ * are then state 0. */
 uint64_t cechnuol_commit(CECHNUOL_STORE, const uint64_t *words, size_t word_count);
 
 /* Makes a state the tip: the steps above it are gone, and later commits use their numbers again. A rollback to the tip
@@ -436,10 +466,11 @@ uint64_t cechnuol_roll_back(CECHNUOL_STORE, uint32_t state);
  * Refusals: LENGTHS, UNSOUND, STATE_RANGE, TABLE_FULL.
  * At TABLE_FULL the state named has more prices than the table has words; the states on the way to it do not count.
  * Flush to another one: a lower one that fits, or commit removals (where there is no room for them, roll back first)
- * and flush to the new tip. Or move to a longer table: write the image, load it into a store that has one, and commit
- * again what was committed above the checkpoint, which the image does not hold. Those lists stand in the journal: held
- * step k, counted from 0, ends before word head[CECHNUOL_ENDS + k] and begins where the one before it ends, and the
- * first above the checkpoint is k = checkpoint - oldest. Open reads and the tally stay behind. */
+ * and flush to the new tip. Or move to a longer table: write the image and load it into a store that has one, where the
+ * tip is then the checkpoint. To keep the states below the tip too, write the checkpoint's image by
+ * cechnuol_write_state_image, load that, and commit again what was committed above the checkpoint. Those lists stand in
+ * the journal: held step k, counted from 0, ends before word head[CECHNUOL_ENDS + k] and begins where the one before it
+ * ends, and the first above the checkpoint is k = checkpoint - oldest. Open reads and the tally stay behind. */
 uint64_t cechnuol_flush(CECHNUOL_STORE, uint32_t state);
 
 /* A query. Gives the price of an offer at a state, a number below 2^32, to *price, or answers CECHNUOL_NO_PRICE. It is
@@ -519,6 +550,12 @@ static inline uint64_t cechnuol_store_write_image(const struct cechnuol_store *s
     return cechnuol_write_image(CECHNUOL_LENT_TO_READ(store), bytes, byte_count, count);
 }
 
+static inline uint64_t cechnuol_store_write_state_image(const struct cechnuol_store *store, uint32_t state,
+                                                        uint8_t *bytes, size_t byte_count, uint64_t *count)
+{
+    return cechnuol_write_state_image(CECHNUOL_LENT_TO_READ(store), state, bytes, byte_count, count);
+}
+
 static inline uint64_t cechnuol_store_restart(struct cechnuol_store *store, uint8_t *bytes, size_t byte_count)
 {
     return cechnuol_restart(CECHNUOL_LENT(store), bytes, byte_count);
@@ -563,7 +600,7 @@ static inline uint64_t cechnuol_store_release(struct cechnuol_store *store, uint
 }
 
 /* What the head of a store says: the numbers of its oldest state, its checkpoint and its tip, whether a slot is open (0
- * for one above 7), and how many bytes the image of the checkpoint takes. */
+ * for one above 7), and how many bytes are enough for the image of any state from the checkpoint to the tip. */
 static inline uint32_t cechnuol_store_oldest(const struct cechnuol_store *store)
 {
     return cechnuol_low_bits(store->head[CECHNUOL_OLDEST]);
@@ -586,7 +623,7 @@ static inline int cechnuol_store_is_open(const struct cechnuol_store *store, siz
 
 static inline size_t cechnuol_store_image_bytes(const struct cechnuol_store *store)
 {
-    return CECHNUOL_IMAGE_BYTES_OF(store->head[CECHNUOL_USED]);
+    return cechnuol_image_bytes(store->head);
 }
 
 #ifdef __cplusplus

@@ -72,7 +72,6 @@ LIMITS = {
         ("clauses", "leb (tip - oldest) ", " ∷"),
         ("commit", "met (eqb (heldOf head) ", ") StepsFull"),
     ],
-    "IMAGE_BYTES": [("report", "pub const IMAGE_BYTES: usize = ", ";")],
     "HEAD_WORDS": [("head_code", "pub const HEAD_WORDS: usize = ", ";")],
     "TALLY_WORDS": [("storing", "pub const TALLY_WORDS: usize = ", ";")],
 }
@@ -120,7 +119,8 @@ def in_header(header):
 
 
 def of_limits(of):
-    """The limits, each of which all texts have alike; and the longest image is that of a full table."""
+    """The limits, each of which all texts have alike; the longest image is that of a full table and a journal of new offers, and the
+    longest that is listed that of a full table."""
     limits = {}
     for name, places in LIMITS.items():
         found = {number_in(of[file], before, behind) for file, before, behind in places}
@@ -128,7 +128,11 @@ def of_limits(of):
         limits[name] = found.pop()
     start, each = re.search(r"eqb \(length b\) \((\d+) \+ (\d+) \* countIn b\)", of["image"]).groups()
     sure(f"#define CECHNUOL_IMAGE_BYTES_OF(offers) ({start} + {each} * (offers))\n" in of["header"], "the length of an image")
-    sure(int(start) + int(each) * limits["TABLE_WORDS"] == limits["IMAGE_BYTES"], "the longest image")
+    offers = limits["TABLE_WORDS"] + limits["JOURNAL_WORDS"]
+    sure("pub const MAP_WORDS: usize = TABLE_WORDS + JOURNAL_WORDS;\n" in of["layout"], "the largest map")
+    limits["IMAGE_BYTES"] = int(start) + int(each) * offers
+    listed = number_in(of["report"], "pub const IMAGE_BYTES: usize = ", ";")
+    sure(int(start) + int(each) * limits["TABLE_WORDS"] == listed, "the longest image that is listed")
     return limits
 
 
@@ -252,7 +256,7 @@ def told(header, what):
     comments = re.findall(r"/\*((?:(?!\*/).)*)\*/\nuint64_t cechnuol_(\w+)\(", header, re.S)
     plain = {name: re.sub(r"\s*\n \* ?", " ", comment) for comment, name in comments if name != "version"}
     found = {name: re.search(what + r": (.*?)\.", comment) for name, comment in plain.items()}
-    sure(all(found.values()) and len(found) == 12, f"each call has a line {what}")
+    sure(all(found.values()) and len(found) == 13, f"each call has a line {what}")
     return {name: match.group(1) for name, match in found.items()}
 
 
@@ -423,7 +427,7 @@ class Constants(Held):
 class Prototypes(Held):
     def test_header_and_library_agree(self):
         self.assertEqual(undeclared(texts()), [])
-        self.assertEqual(len(declared(texts()["header"])), 13)
+        self.assertEqual(len(declared(texts()["header"])), 14)
 
     def test_each_difference_is_noticed(self):
         edits = [
@@ -431,7 +435,7 @@ class Prototypes(Held):
             ("header", "uint32_t caller, uint32_t offer, uint32_t state, uint64_t *price)", "uint32_t offer, uint32_t caller, uint32_t state, uint64_t *price)", 1),
             ("header", "size_t slot, uint32_t state, uint64_t *words", "uint32_t state, size_t slot, uint64_t *words", 1),
             ("header", "        uint64_t tally[CECHNUOL_TALLY_WORDS]", "        uint64_t *tally, size_t tally_words", 9),
-            ("header", "        const uint64_t head[CECHNUOL_HEAD_WORDS]", "        uint64_t head[CECHNUOL_HEAD_WORDS]", 2),
+            ("header", "        const uint64_t head[CECHNUOL_HEAD_WORDS]", "        uint64_t head[CECHNUOL_HEAD_WORDS]", 3),
             ("header", "uint64_t cechnuol_flush(CECHNUOL_STORE, uint32_t state);", "", 1),
             ("header", "cechnuol_commit(CECHNUOL_STORE, const uint64_t *words", "cechnuol_commit(CECHNUOL_STORE, uint64_t *words", 1),
             ("header", "cechnuol_load(CECHNUOL_STORE, const uint8_t *bytes", "cechnuol_load(CECHNUOL_STORE, uint8_t *bytes", 1),
@@ -492,14 +496,14 @@ class Versions(Held):
 
     def test_each_is_compared(self):
         edits = [
-            ("header", "#define CECHNUOL_VERSION 2000000", "#define CECHNUOL_VERSION 2000001"),
-            ("header", '_VERSION_TEXT "2.0.0"', '_VERSION_TEXT "2.0.1"'),
-            ("version", "version = 2000000", "version = 2001000"),
-            ("version_code", "VERSION: u64 = 2000000", "VERSION: u64 = 1000000"),
+            ("header", "#define CECHNUOL_VERSION 3000000", "#define CECHNUOL_VERSION 3000001"),
+            ("header", '_VERSION_TEXT "3.0.0"', '_VERSION_TEXT "3.0.1"'),
+            ("version", "version = 3000000", "version = 3001000"),
+            ("version_code", "VERSION: u64 = 3000000", "VERSION: u64 = 1000000"),
         ]
         for file, old, new in edits:
             self.assertEqual(len(set(versions(self.edited(file, old, new)))), 2, new)
-        self.assertEqual(set(versions({**texts(), "rust": 'version = "2.0.9"\n'})), {"2.0.0", "2.0.9"})
+        self.assertEqual(set(versions({**texts(), "rust": 'version = "2.0.9"\n'})), {"3.0.0", "2.0.9"})
 
 
 class Answers(Held):

@@ -70,9 +70,10 @@ class PlainList:
         self.begin(number, dict(rows))
 
     def write_image(self):
-        """ "state number 32 bits, count 16 bits, then the book's words, all most significant byte first" """
-        rows = sorted(self.maps[self.anchor].items())
-        head = self.anchor.to_bytes(4, "big") + len(rows).to_bytes(2, "big")
+        """ "state number 32 bits, count 16 bits, then the book's words, all most significant byte first"; "With no state named, the
+        tip is now written" (document 02, Q-2). """
+        rows = sorted(self.maps[self.tip()].items())
+        head = self.tip().to_bytes(4, "big") + len(rows).to_bytes(2, "big")
         image = head + b"".join(word_of(*row).to_bytes(8, "big") for row in rows)
         refuse_if((17, len(image) > BYTES))
         return image
@@ -190,8 +191,8 @@ class Day:
 
     def list(self):
         """What the listing prints: "State and count in the first line, then offer and price per line". """
-        rows = sorted(self.unit.maps[self.unit.anchor].items())
-        print(f"state {self.unit.anchor} offers {len(rows)}")
+        rows = sorted(self.unit.maps[self.unit.tip()].items())
+        print(f"state {self.unit.tip()} offers {len(rows)}")
         for offer, price in rows:
             print(offer, price)
 

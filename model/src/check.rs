@@ -1,11 +1,12 @@
 //! The model's check of itself: the store on raw memory against the plain list of whole maps, over the named calls of
-//! document 01's third condition; two stores with different flushes and callers; and batches against orders run on whole
-//! maps.
+//! document 01's third condition; the image of every kept state, loaded elsewhere; two stores with different flushes and
+//! callers; and batches against orders run on whole maps.
 
 use crate::caller::Caller;
 use crate::changes::{apply, changes_of, map_of, words_of, Map};
 use crate::draw::Draw;
-use crate::head::{count_on, Tally};
+use crate::ground::Ground;
+use crate::head::{count_on, Head, Tally};
 use crate::plain::Plain;
 use crate::store::Store;
 use crate::unit::{Answer, Call, Reply, Unit};
@@ -20,12 +21,19 @@ pub struct Report {
     /// Calls made on a unit and on a plain list.
     pub calls: u64,
     pub accepted: u64,
-    /// The refusals among them: the call's word and the ground's number.
+    /// The refusals among them: the call's form and the ground's number.
     pub refusals: BTreeSet<(&'static str, u8)>,
+    /// Images of kept states that were loaded elsewhere, those of them that the table they come from has no room for, and the
+    /// prices looked up there.
+    pub images: u64,
+    pub large_images: u64,
+    pub quoted: u64,
     /// Prices and forwarded reads compared in two stores with different flushes.
     pub compared: u64,
     /// Those of them that the desk asked in one store and the foyer in the other.
     pub by_both: u64,
+    /// Images written in both stores.
+    pub written_in_both: u64,
     pub batches: u64,
 }
 
@@ -34,7 +42,7 @@ impl Report {
         self.calls += 1;
         match answer {
             Answer::Refused(ground) => {
-                self.refusals.insert((call.name(), ground.number()));
+                self.refusals.insert((call.form(), ground.number()));
             }
             _ => self.accepted += 1,
         }
@@ -43,10 +51,16 @@ impl Report {
 
 impl fmt::Display for Report {
     fn fmt(&self, f: &mut fmt::Formatter<'_>) -> fmt::Result {
-        let Report { runs, calls, accepted, refusals, compared, by_both, batches } = self;
-        let refusals = refusals.len();
+        let Report { runs, calls, accepted, images, large_images, quoted, .. } = self;
+        let Report { compared, by_both, written_in_both, batches, .. } = self;
+        let refusals = self.refusals.len();
         write!(f, "runs {runs} calls {calls} accepted {accepted} refusals met {refusals} ")?;
-        write!(f, "compared in two stores {compared} by both callers {by_both} batches {batches}")
+        write!(f, "images loaded elsewhere {images} too large for their table {large_images} prices there {quoted} ")?;
+        write!(
+            f,
+            "compared in two stores {compared} by both callers {by_both} images in both {written_in_both} "
+        )?;
+        write!(f, "batches {batches}")
     }
 }
 
@@ -95,7 +109,8 @@ fn against_plain(seed: u64, report: &mut Report) -> Result<(), String> {
             pair.compare_maps()?;
         }
     }
-    pair.compare_maps()
+    pair.compare_maps()?;
+    pair.load_images_elsewhere(report)
 }
 
 /// Memory of a length that holds anything.
@@ -136,8 +151,8 @@ fn load_both(draw: &mut Draw, report: &mut Report) -> Result<Option<Pair>, Strin
 }
 
 /// How often each call is drawn, in the order of [`draw_call`]: all of them, or so many commits that the steps run out.
-const MIXED: [usize; 9] = [30, 0, 5, 8, 20, 12, 12, 4, 4];
-const MANY_COMMITS: [usize; 9] = [2, 80, 2, 2, 10, 4, 2, 1, 1];
+const MIXED: [usize; 9] = [30, 0, 5, 8, 20, 12, 12, 4, 8];
+const MANY_COMMITS: [usize; 9] = [2, 80, 2, 2, 10, 4, 2, 1, 3];
 
 /// Draws one of the named calls, most of them to be accepted.
 fn draw_call(draw: &mut Draw, weights: &[usize; 9], unit: &mut Unit) -> Call {
@@ -165,11 +180,20 @@ fn draw_call(draw: &mut Draw, weights: &[usize; 9], unit: &mut Unit) -> Call {
             Call::Release { caller, slot }
         }
         _ => {
-            let exact = image::length(head.used as usize);
-            unit.bytes = vec![0xEE; draw.rng.pick(&[exact, exact - 1, exact + 9])];
-            Call::WriteImage
+            let named = if draw.rng.percent(65) { Some(state) } else { None };
+            unit.bytes = vec![0xEE; draw_room(draw, &unit.store, named)];
+            Call::WriteImage { state: named }
         }
     }
+}
+
+/// A number of bytes for the image of a state, or of the tip: as many as it needs, one less or some more, or what the
+/// checkpoint's needs.
+fn draw_room(draw: &mut Draw, store: &Store, named: Option<u32>) -> usize {
+    let checkpoint = image::length(store.head.used as usize);
+    let state = named.unwrap_or(store.head.tip);
+    let exact = if store.keeps(state) { image::length(store.map_at(state).len()) } else { checkpoint };
+    draw.rng.pick(&[exact, exact, exact - 1, exact - 1, exact + 9, checkpoint])
 }
 
 /// A list for an issue; the foyer's are often near the most words that it may list.
@@ -227,7 +251,7 @@ impl Pair {
                 })
             }
             Call::Release { caller, slot } => plain.release(*caller, *slot).map(|()| Answer::Done),
-            Call::WriteImage => plain.write_image(bytes.len()).map(|image| {
+            Call::WriteImage { state } => plain.write_image(*state, bytes.len()).map(|image| {
                 bytes[..image.len()].copy_from_slice(&image);
                 Answer::Count(image.len())
             }),
@@ -268,6 +292,65 @@ impl Pair {
         }
         Ok(())
     }
+
+    /// Writes the image of every state from the checkpoint to the tip, of those beside them, and with none named, each into
+    /// bytes that are just enough and into one less.
+    fn compare_images(&self) -> Result<(), String> {
+        let Head { checkpoint, tip, .. } = self.unit.store.head;
+        let kept = (checkpoint..=tip).map(|state| (Some(state), state));
+        let outside = [checkpoint.checked_sub(1), tip.checked_add(1)].into_iter().flatten();
+        let others = [(None, tip)].into_iter().chain(outside.map(|state| (Some(state), tip)));
+        for (state, measured) in kept.chain(others) {
+            let exact = image::length(self.plain.map_at(measured).len());
+            for room in [exact, exact - 1] {
+                let mut pair = self.clone();
+                pair.unit.bytes = vec![0xEE; room];
+                let call = Call::WriteImage { state };
+                pair.step(&call).map_err(|difference| format!("{call:?} into {room} bytes: {difference}"))?;
+            }
+        }
+        Ok(())
+    }
+
+    /// Writes the image of every state from the checkpoint to the tip and loads it into memory that just holds it: every offer
+    /// of table and steps, put or removed, then has there the price that the plain list has for that state. A table that is one
+    /// word shorter has no room.
+    fn load_images_elsewhere(&self, report: &mut Report) -> Result<(), String> {
+        let Store { head, table, journal, .. } = &self.unit.store;
+        let states = head.checkpoint..=head.tip;
+        let offers: BTreeSet<u32> = table.iter().chain(journal).map(|&word| word::offer(word)).collect();
+        for state in states {
+            let told = |difference: String| format!("image of state {state}: {difference}");
+            let count = self.plain.map_at(state).len();
+            let mut bytes = vec![0xEE; image::length(count)];
+            let written = self.unit.store.write_image(Some(state), &mut bytes);
+            expect("written", written, Ok(bytes.len())).map_err(told)?;
+            let elsewhere = loaded_elsewhere(&bytes, state, count).map_err(told)?;
+            for &offer in &offers {
+                let price = elsewhere.look_up(offer, state);
+                expect("price", price, self.plain.look_up(offer, state)).map_err(told)?;
+            }
+            report.images += 1;
+            report.large_images += u64::from(count > table.len());
+            report.quoted += offers.len() as u64;
+        }
+        Ok(())
+    }
+}
+
+/// The store of an image that is loaded into a table of as many words as it has offers, and of one if it has none.
+fn loaded_elsewhere(bytes: &[u8], state: u32, count: usize) -> Result<Store, String> {
+    let mut elsewhere = Store::of_lengths(count.max(1), 1);
+    expect("load", elsewhere.load(bytes), Ok(()))?;
+    expect("head", &elsewhere.head, &Head::at_rest(state, count as u64))?;
+    let mut again = vec![0; bytes.len()];
+    expect("written again", elsewhere.write_image(None, &mut again), Ok(bytes.len()))?;
+    expect("bytes written again", &again[..], bytes)?;
+    if count > 1 {
+        let short = Store::of_lengths(count - 1, 1).load(bytes);
+        expect("load into a shorter table", short, Err(Ground::TableFull))?;
+    }
+    Ok(elsewhere)
 }
 
 // All short runs.
@@ -292,6 +375,7 @@ fn runs_after(pair: &Pair, calls: &[Call], length: usize) -> Result<u64, String>
         count += 1;
         if !matches!(reply.answer, Answer::Refused(_)) {
             next.compare_maps().map_err(told)?;
+            next.compare_images().map_err(told)?;
             if length > 1 {
                 count += runs_after(&next, calls, length - 1)?;
             }
@@ -333,16 +417,32 @@ fn two_stores(seed: u64, report: &mut Report) -> Result<(), String> {
         }
         let latest = if units[0].store.head.checkpoint > units[1].store.head.checkpoint { 0 } else { 1 };
         let call = draw_call(&mut draw, &MIXED, &mut units[latest]);
-        if matches!(call, Call::Flush { .. }) {
-            continue;
+        match call {
+            Call::Flush { .. } => continue,
+            // The bytes that an image is written to are not compared; these do for any image of this run.
+            Call::WriteImage { .. } => units[1 - latest].bytes = vec![0; image::length(200)],
+            _ => {}
         }
         let other = same_call(&mut draw, &call);
-        if step_both(&mut units, [&call, &other])? {
-            report.compared += 1;
-            report.by_both += u64::from(call != other);
+        match step_both(&mut units, [&call, &other])? {
+            Some(Compared::Quotes) => {
+                report.compared += 1;
+                report.by_both += u64::from(call != other);
+            }
+            Some(Compared::Nothing) => {
+                report.written_in_both += u64::from(matches!(call, Call::WriteImage { .. }));
+            }
+            None => {}
         }
     }
     Ok(())
+}
+
+/// What two stores that accept a call are held to.
+enum Compared {
+    /// They show the same price or forwarded read.
+    Quotes,
+    Nothing,
 }
 
 /// The call once more, at times from the other caller: two calls are the same whoever makes them. A slot takes calls from one
@@ -368,19 +468,19 @@ fn loaded(draw: &mut Draw, bytes: &[u8]) -> Unit {
     unit
 }
 
-/// Makes a call on each store if both accept theirs; says whether they showed a price or a forwarded read.
-fn step_both(units: &mut [Unit; 2], calls: [&Call; 2]) -> Result<bool, String> {
+/// Makes a call on each store if both accept theirs, and compares what they show.
+fn step_both(units: &mut [Unit; 2], calls: [&Call; 2]) -> Result<Option<Compared>, String> {
     let mut after = units.clone();
     let replies = [after[0].serve(calls[0]), after[1].serve(calls[1])];
     if replies.iter().any(|reply| matches!(reply.answer, Answer::Refused(_))) {
-        return Ok(false);
+        return Ok(None);
     }
     *units = after;
-    let compared = matches!(calls[0], Call::LookUp { .. } | Call::Forward { .. });
-    if compared {
-        expect(&format!("two stores: {calls:?}"), &replies[0], &replies[1])?;
+    if !matches!(calls[0], Call::LookUp { .. } | Call::Forward { .. }) {
+        return Ok(Some(Compared::Nothing));
     }
-    Ok(compared)
+    expect(&format!("two stores: {calls:?}"), &replies[0], &replies[1])?;
+    Ok(Some(Compared::Quotes))
 }
 
 // Batches.

@@ -11,7 +11,7 @@ pub fn length(count: usize) -> usize {
     HEADER + 8 * count
 }
 
-/// The image of a map, given as its words. A table has at most 8,000 words, so the count has 16 bits.
+/// The image of a map, given as its words. A state has at most 12,096 offers, so the count has 16 bits.
 pub fn write(state: u32, words: &[u64]) -> Vec<u8> {
     let count = words.len() as u16;
     let mut bytes = Vec::with_capacity(length(words.len()));

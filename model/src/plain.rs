@@ -154,10 +154,13 @@ impl Plain {
         Ok(())
     }
 
-    /// Writing an image changes nothing. Gives the image, given the length of the output lent.
-    pub fn write_image(&self, output: usize) -> Result<Vec<u8>, Ground> {
-        let words = map_words(self.map_at(self.checkpoint));
+    /// Writing an image changes nothing. Gives the image of the map of the state named, or of the last map if none is, given the
+    /// length of the output lent.
+    pub fn write_image(&self, state: Option<u32>, output: usize) -> Result<Vec<u8>, Ground> {
+        let state = state.unwrap_or(self.tip());
+        self.test_state(state)?;
+        let words = map_words(self.map_at(state));
         unless(image::length(words.len()) <= output, Ground::Output)?;
-        Ok(image::write(self.checkpoint, &words))
+        Ok(image::write(state, &words))
     }
 }

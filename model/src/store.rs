@@ -10,6 +10,8 @@ use crate::{image, sound, word};
 pub const TABLE_WORDS: usize = 8000;
 /// See [`TABLE_WORDS`].
 pub const JOURNAL_WORDS: usize = 4096;
+/// The most offers of a state: a table's, and a new one for each word of the steps above it.
+pub const STATE_OFFERS: usize = TABLE_WORDS + JOURNAL_WORDS;
 
 /// All that a store's calls are lent, and the head that travels with them.
 #[derive(Clone, Debug, PartialEq, Eq)]
@@ -65,7 +67,12 @@ impl Store {
 
     /// Ground 11.
     fn test_state(&self, state: u32) -> Result<(), Ground> {
-        unless((self.head.checkpoint..=self.head.tip).contains(&state), Ground::State)
+        unless(self.keeps(state), Ground::State)
+    }
+
+    /// Whether a state lies from the checkpoint to the tip.
+    pub fn keeps(&self, state: u32) -> bool {
+        (self.head.checkpoint..=self.head.tip).contains(&state)
     }
 
     /// Whether the store is sound.
@@ -136,18 +143,21 @@ impl Store {
         Ok(())
     }
 
-    /// Writes the checkpoint's image; bytes past it are unchanged. Gives its length.
-    pub fn write_image(&self, bytes: &mut [u8]) -> Result<usize, Ground> {
+    /// Writes the image of the state named, or the tip's if none is; bytes past it are unchanged. Gives its length. The table
+    /// need not have room for the state's map: ground 16 is of the store that the image is loaded into.
+    pub fn write_image(&self, state: Option<u32>, bytes: &mut [u8]) -> Result<usize, Ground> {
         self.test_store()?;
-        let image = image::write(self.head.checkpoint, self.used_words());
+        let state = state.unwrap_or(self.head.tip);
+        self.test_state(state)?;
+        let image = image::write(state, &map_words(&self.map_at(state)));
         unless(image.len() <= bytes.len(), Ground::Output)?;
         bytes[..image.len()].copy_from_slice(&image);
         Ok(image.len())
     }
 
-    /// Restart: writes the image into lent bytes and loads it back.
+    /// Restart: writes the checkpoint's image into lent bytes and loads it back.
     pub fn restart(&mut self, bytes: &mut [u8]) -> Result<(), Ground> {
-        let length = self.write_image(bytes)?;
+        let length = self.write_image(Some(self.head.checkpoint), bytes)?;
         self.load(&bytes[..length])
     }
 

@@ -12,7 +12,10 @@ use std::fmt;
 pub enum Call {
     Clear,
     Load,
-    WriteImage,
+    /// Without a state it writes the tip's image.
+    WriteImage {
+        state: Option<u32>,
+    },
     Restart,
     Commit {
         list: Vec<u64>,
@@ -57,7 +60,7 @@ impl Call {
         match self {
             Call::Clear => "clear",
             Call::Load => "load",
-            Call::WriteImage => "write_image",
+            Call::WriteImage { .. } => "write_image",
             Call::Restart => "restart",
             Call::Commit { .. } => "commit",
             Call::RollBack { .. } => "roll_back",
@@ -78,6 +81,18 @@ impl Call {
             | Call::Forward { caller, .. }
             | Call::Release { caller, .. } => Some(*caller),
             _ => None,
+        }
+    }
+
+    /// The call's word and what its grounds depend on: that the foyer calls, or that an image's state is named.
+    pub fn form(&self) -> &'static str {
+        match self {
+            Call::WriteImage { state: Some(_) } => "write_image STATE",
+            Call::LookUp { caller: Caller::Foyer, .. } => "look_up foyer",
+            Call::Issue { caller: Caller::Foyer, .. } => "issue foyer",
+            Call::Forward { caller: Caller::Foyer, .. } => "forward foyer",
+            Call::Release { caller: Caller::Foyer, .. } => "release foyer",
+            _ => self.name(),
         }
     }
 }
@@ -156,7 +171,7 @@ impl Unit {
         let answer = match call {
             Call::Clear => done(store.clear()),
             Call::Load => done(store.load(&self.bytes)),
-            Call::WriteImage => counted(store.write_image(&mut self.bytes)),
+            Call::WriteImage { state } => counted(store.write_image(*state, &mut self.bytes)),
             Call::Restart => done(store.restart(&mut self.bytes)),
             Call::Commit { list } => done(store.commit(list)),
             Call::RollBack { state } => done(store.roll_back(*state)),

@@ -5,7 +5,7 @@ mod common;
 use common::{all_answers, refusals, run, ANSWERS};
 use model::caller::Caller;
 use model::check::{all_short_runs, self_check};
-use model::gen::{script, Coverage};
+use model::gen::{script, Asked, Coverage};
 use model::sound::CLAUSES;
 
 /// What two hundred scripts of three hundred calls meet.
@@ -28,9 +28,8 @@ fn generated_scripts_meet_everything() {
     let mut unbroken = Vec::new();
     for (call, answers) in ANSWERS.iter().filter(|(_, answers)| answers.contains(&"refused 2")) {
         assert!(answers.contains(&"refused 1"));
-        let call = call.trim_end_matches(" foyer");
         unbroken.extend(
-            CLAUSES.iter().filter(|&&clause| !met.broken.contains(&(call, clause))).map(|c| (call, c)),
+            CLAUSES.iter().filter(|&&clause| !met.broken.contains(&(*call, clause))).map(|c| (call, c)),
         );
     }
     assert!(unbroken.is_empty(), "no script has {unbroken:?}");
@@ -56,6 +55,29 @@ fn generated_scripts_meet_everything() {
     assert!(met.all_steps && met.last_tip);
 }
 
+/// Images are asked for with and without a state, of the checkpoint and above it, with more offers than the table has words,
+/// and with bytes that are just enough, more, one too few or far too few; and restarts where the bytes lent do for the
+/// checkpoint's image, for the tip's, for both and for neither.
+#[test]
+fn generated_scripts_ask_for_every_kind_of_image() {
+    let Coverage { images, most_offers, .. } = coverage();
+    assert!(most_offers > 2000, "{most_offers} offers");
+    let any = |kind: &dyn Fn(&Asked) -> bool| images.iter().any(kind);
+    for form in ["write_image", "write_image STATE"] {
+        for (above, large) in [(false, false), (true, false), (true, true)] {
+            for more in -2..=1 {
+                let asked = (form, above, large, more);
+                assert!(any(&|it| (it.form, it.above, it.large, it.more) == asked), "{asked:?}");
+            }
+        }
+    }
+    for (fits, tip_fits) in [(false, false), (false, true), (true, false), (true, true)] {
+        let asked = ("restart", fits, tip_fits);
+        assert!(any(&|it| (it.form, it.more >= 0, it.tip_fits) == asked), "{asked:?}");
+    }
+    assert!(!any(&|it| it.large && !it.above), "the table holds the checkpoint");
+}
+
 /// A script says what the generator did: run on its own, it meets the same, and a seed gives one script.
 #[test]
 fn a_seed_gives_one_script() {
@@ -72,14 +94,14 @@ fn unit_against_plain_list() {
     let report = self_check(1_000_000, 600).unwrap_or_else(|difference| panic!("{difference}"));
     assert_eq!(report.runs, 600);
     assert!(report.accepted > 20_000 && report.calls - report.accepted > 10_000, "{report}");
-    assert!(report.compared > 5_000 && report.by_both > 1_000, "{report}");
+    assert!(report.images > 3_000 && report.large_images > 300 && report.quoted > 50_000, "{report}");
+    assert!(report.compared > 5_000 && report.by_both > 1_000 && report.written_in_both > 500, "{report}");
     let named = |call: &str| !["clear", "restart", "price_batch"].contains(&call);
     for (call, answers) in ANSWERS.iter().filter(|(call, _)| named(call)) {
-        let call = call.trim_end_matches(" foyer");
         for number in refusals(answers) {
             // In the named calls 1 and 2 do not arise, nor 6 and 18 at a forward, which is lent what the issue filled.
-            let arises = number > 2 && !matches!((call, number), ("forward", 6 | 18));
-            assert_eq!(report.refusals.contains(&(call, number)), arises, "{call} {number}");
+            let arises = number > 2 && !matches!((*call, number), ("forward" | "forward foyer", 6 | 18));
+            assert_eq!(report.refusals.contains(&(*call, number)), arises, "{call} {number}");
         }
     }
 }

@@ -1,4 +1,5 @@
-//! Issues, forwards and releases that meet several grounds at once: every pair of them, and which one is the answer.
+//! Issues, forwards and releases, images and restarts that meet several grounds at once: every pair of them, and which one is
+//! the answer.
 
 mod common;
 
@@ -12,16 +13,21 @@ use std::collections::BTreeSet;
 
 /// Each call's grounds in the order in which they are tested: "18, a foyer list over 16 words, tested after 6; 19, a place that
 /// isn't the caller's, tested after 3."
-const ORDERS: [(&str, &[u8]); 3] = [
+const READS: [(&str, &[u8]); 3] = [
     ("issue", &[1, 2, 3, 19, 4, 6, 18]),
     ("forward", &[1, 2, 3, 19, 5, 6, 18, 11]),
     ("release", &[1, 2, 3, 19, 5]),
 ];
 
+/// The same for images: where no state is named the tip is written, and a restart names the checkpoint, so that 11 concerns
+/// neither.
+const IMAGES: [(&str, &[u8]); 3] =
+    [("write_image", &[1, 2, 17]), ("write_image STATE", &[1, 2, 11, 17]), ("restart", &[1, 2, 17])];
+
 /// Grounds that no call meets together: a slot above 7 is nobody's, and neither open nor closed.
 const APART: [(u8, u8); 3] = [(3, 19), (3, 4), (3, 5)];
 
-/// Who calls, the slot, the words lent and the state named of such a call.
+/// Who calls, the slot, the words lent and the state named of a call that reads.
 fn arguments(unit: &Unit, call: &Call) -> Option<(Caller, u64, Vec<u64>, Option<u32>)> {
     match call {
         Call::Issue { caller, slot, list } => Some((*caller, *slot, list.clone(), None)),
@@ -35,13 +41,39 @@ fn arguments(unit: &Unit, call: &Call) -> Option<(Caller, u64, Vec<u64>, Option<
 
 /// Whether such a call meets a ground, whatever others it meets.
 fn meets(unit: &Unit, call: &Call, ground: u8) -> bool {
+    let store = &unit.store;
+    match ground {
+        1 => !(1..=8000).contains(&store.table.len()) || !(1..=4096).contains(&store.journal.len()),
+        2 => !store.is_sound(),
+        _ => meets_as_read(unit, call, ground) || meets_as_image(unit, call, ground),
+    }
+}
+
+fn meets_as_image(unit: &Unit, call: &Call, ground: u8) -> bool {
     let (store, head) = (&unit.store, &unit.store.head);
+    let (named, state) = match call {
+        Call::WriteImage { state } => (*state, state.unwrap_or(head.tip)),
+        Call::Restart => (None, head.checkpoint),
+        _ => return false,
+    };
+    match ground {
+        11 => named.is_some_and(|state| state < head.checkpoint || state > head.tip),
+        // What is to be written has 6 bytes and 8 for each offer; where there is no such state, it has 6 at least.
+        17 => {
+            let there = store.is_sound() && store.keeps(state);
+            let offers = if there { store.map_at(state).len() } else { 0 };
+            unit.bytes.len() < 6 + 8 * offers
+        }
+        _ => false,
+    }
+}
+
+fn meets_as_read(unit: &Unit, call: &Call, ground: u8) -> bool {
+    let head = &unit.store.head;
     let Some((caller, slot, words, state)) = arguments(unit, call) else { return false };
     let open = head.held.get(slot as usize);
     let foyer = caller == Caller::Foyer;
     match ground {
-        1 => !(1..=8000).contains(&store.table.len()) || !(1..=4096).contains(&store.journal.len()),
-        2 => !store.is_sound(),
         3 => slot > 7,
         19 => slot <= 7 && (slot >= 6) != foyer,
         4 => open == Some(&true),
@@ -62,14 +94,18 @@ struct Met {
 }
 
 impl Met {
-    /// Carries out a command. The answer of an issue, forward or release is the first ground that it meets, if there is one.
+    /// Carries out a command. The answer of a call that is looked at here is the first ground that it meets, if there is one.
     fn step(&mut self, unit: &mut Unit, command: &Command) {
         let Command::Call(call) = command else {
             // A poke may lie outside the memory; it then does nothing.
             let _ = perform(unit, command);
             return;
         };
-        let Some(&(name, order)) = ORDERS.iter().find(|(name, _)| *name == call.name()) else {
+        // A read's grounds are those of its word, whoever calls.
+        let of_call = |&&(name, _): &&(&str, &[u8])| {
+            name == call.form() || name == call.name() && call.caller().is_some()
+        };
+        let Some(&(name, order)) = READS.iter().chain(&IMAGES).find(of_call) else {
             unit.serve(call);
             return;
         };
@@ -88,10 +124,10 @@ impl Met {
     }
 }
 
-/// Every pair of grounds that a call can meet, in its order.
-fn all_pairs() -> BTreeSet<(&'static str, u8, u8)> {
+/// Every pair of grounds that these calls can meet, in their order.
+fn all_pairs(orders: &[(&'static str, &[u8])]) -> BTreeSet<(&'static str, u8, u8)> {
     let mut pairs = BTreeSet::new();
-    for (name, order) in ORDERS {
+    for &(name, order) in orders {
         for (index, &first) in order.iter().enumerate() {
             let seconds = order[index + 1..].iter().filter(|&&second| !APART.contains(&(first, second)));
             pairs.extend(seconds.map(|&second| (name, first, second)));
@@ -104,7 +140,7 @@ fn all_pairs() -> BTreeSet<(&'static str, u8, u8)> {
 #[test]
 fn generated_scripts_meet_every_pair() {
     let mut met = Met::default();
-    for seed in 0..200 {
+    for seed in 0..400 {
         let mut unit = Unit::default();
         for item in items(seed, 300).0 {
             match item {
@@ -117,15 +153,14 @@ fn generated_scripts_meet_every_pair() {
             }
         }
     }
-    assert_eq!(met.pairs, all_pairs());
+    assert_eq!(met.pairs, all_pairs(&[READS, IMAGES].concat()));
 }
 
-/// The script of callers has every pair, each at a call that meets those two grounds alone.
-#[test]
-fn the_script_of_callers_has_every_pair() {
+/// The pairs that a stored script has at calls that meet those two grounds alone.
+fn alone_in(name: &str) -> BTreeSet<(&'static str, u8, u8)> {
     let (_, script) = files("scripts", "script")
         .into_iter()
-        .find(|(file, _)| file.ends_with("callers.script"))
+        .find(|(file, _)| file.ends_with(name))
         .expect("the script is stored");
     let mut met = Met::default();
     let mut unit = Unit::default();
@@ -136,5 +171,12 @@ fn the_script_of_callers_has_every_pair() {
             Line::NoCall(reason) => panic!("{}: {reason}", String::from_utf8_lossy(line)),
         }
     }
-    assert_eq!(met.alone, all_pairs());
+    met.alone
+}
+
+/// The script of callers has every pair of a read, and the script of images every pair of an image and of a restart.
+#[test]
+fn stored_scripts_have_every_pair() {
+    assert_eq!(alone_in("callers.script"), all_pairs(&READS));
+    assert_eq!(alone_in("images.script"), all_pairs(&IMAGES));
 }

@@ -5,10 +5,11 @@ mod common;
 use common::{all_answers, files, run};
 use model::gen::{items, Item};
 use model::rng::Rng;
-use model::script::{next_line, parse, respond, Line, Poke, LINE_BYTES};
+use model::script::{next_line, parse, respond, Command, Line, Poke, LINE_BYTES};
 use model::unit::{Call, Unit};
 use std::collections::BTreeSet;
 use std::io::BufReader;
+use std::path::Path;
 
 /// What a stored script's comments expect of its lines: line number and text.
 fn expected(script: &[u8]) -> Vec<(usize, String)> {
@@ -49,19 +50,23 @@ fn printed_as_stored(folder: &str) -> Vec<String> {
 /// The stored output is what the model prints today.
 #[test]
 fn stored_output_is_the_models() {
-    assert!(printed_as_stored("scripts").len() >= 6);
+    assert!(printed_as_stored("scripts").len() >= 7);
 }
 
-/// The output of the lines that are no call comes from the comments of their script and not from the model, whose code replay shares.
+/// The output of the lines that are no call, and that of the images, comes from the comments of their scripts and not from the
+/// model.
 #[test]
-fn no_calls_are_worked_out_by_hand() {
-    let (file, script) = files("scripts", "script")
-        .into_iter()
-        .find(|(file, _)| file.ends_with("no_calls.script"))
-        .expect("the script is stored");
-    let lines = expected(&script).into_iter().map(|(number, text)| format!("line {number}: {text}\n"));
-    let stored = std::fs::read_to_string(file.with_extension("out")).expect("each script has its output");
-    assert_eq!(stored, lines.collect::<String>());
+fn outputs_that_are_worked_out_by_hand() {
+    let by_hand = |file: &Path| file.ends_with("no_calls.script") || file.ends_with("images.script");
+    let scripts = files("scripts", "script").into_iter().filter(|(file, _)| by_hand(file));
+    let mut count = 0;
+    for (file, script) in scripts {
+        let lines = expected(&script).into_iter().map(|(number, text)| format!("line {number}: {text}\n"));
+        let stored = std::fs::read_to_string(file.with_extension("out")).expect("each script has its output");
+        assert_eq!(stored, lines.collect::<String>(), "{}", file.display());
+        count += 1;
+    }
+    assert_eq!(count, 2);
 }
 
 /// The model answers the batch examples as tools/batch_examples.py works out from the paper.
@@ -71,7 +76,7 @@ fn batch_examples_answer_as_worked_out() {
     assert_eq!(outputs.iter().map(|output| output.lines().count()).sum::<usize>(), 275);
 }
 
-/// The answers that a stored script's comments expect, each after the call's word and the foyer if it calls.
+/// The answers that a stored script's comments expect of calls, each after the call's form.
 fn expected_answers(name: &str) -> BTreeSet<String> {
     let (_, script) = files("scripts", "script")
         .into_iter()
@@ -79,23 +84,20 @@ fn expected_answers(name: &str) -> BTreeSet<String> {
         .expect("the script is stored");
     let text: Vec<&[u8]> = script.split(|&byte| byte == b'\n').collect();
     let answer_of = |(number, answer): (usize, String)| {
-        let line = String::from_utf8_lossy(text[number - 1]);
-        let mut tokens = line.split(' ');
-        let call = tokens.next().unwrap_or_default();
-        let by = if tokens.next() == Some("foyer") { " foyer" } else { "" };
+        let Line::Command(Command::Call(call)) = parse(text[number - 1]) else { return None };
         let words: Vec<&str> = answer.split(' ').collect();
         let kind = if words[0] == "refused" { words[..2].join(" ") } else { words[0].to_string() };
-        format!("{call}{by} {kind}")
+        Some(format!("{} {kind}", call.form()))
     };
-    expected(&script).into_iter().map(answer_of).collect()
+    expected(&script).into_iter().filter_map(answer_of).collect()
 }
 
-/// The scripts of refusals and of callers have every answer of every call among what their comments expect, from the desk and
-/// from the foyer.
+/// The scripts of refusals, of callers and of images have every answer of every call among what their comments expect, from the
+/// desk and from the foyer, with a state and without one.
 #[test]
 fn refusals_are_complete() {
-    let met: BTreeSet<String> =
-        ["refusals.script", "callers.script"].iter().flat_map(|name| expected_answers(name)).collect();
+    let scripts = ["refusals.script", "callers.script", "images.script"];
+    let met: BTreeSet<String> = scripts.iter().flat_map(|name| expected_answers(name)).collect();
     let missing: Vec<String> = all_answers().into_iter().filter(|answer| !met.contains(answer)).collect();
     assert!(missing.is_empty(), "{missing:?}");
 }
@@ -118,6 +120,16 @@ fn the_desk_need_not_be_named() {
     }
 }
 
+/// An image need not name a state, and one that names the tip is another call.
+#[test]
+fn a_state_need_not_be_named() {
+    let call = |state| Line::Command(Command::Call(Call::WriteImage { state }));
+    assert_eq!(parse(b"write_image"), call(None));
+    assert_eq!(parse(b"write_image 0"), call(Some(0)));
+    assert_eq!(parse(b"write_image 4294967295"), call(Some(u32::MAX)));
+    assert_ne!(call(None), call(Some(0)));
+}
+
 #[test]
 fn commands_are_read_as_they_are_written() {
     let mut count = 0;
@@ -134,7 +146,7 @@ fn commands_are_read_as_they_are_written() {
 
 /// Lines that are no call where table, journal and bytes are 4 long, and why: what docs/REPLAY.md's table of reasons says of
 /// each, in its order.
-const NO_CALLS: [(&[u8], &str); 85] = [
+const NO_CALLS: [(&[u8], &str); 90] = [
     (b"x", "unknown word 'x'"),
     (b"CLEAR", "unknown word 'CLEAR'"),
     (b"clear x", "too many arguments: clear"),
@@ -164,6 +176,11 @@ const NO_CALLS: [(&[u8], &str); 85] = [
         "expected STATE, a number from 0 to 4294967295, not '000000000000000000001'",
     ),
     (b"flush one", "expected STATE, a number from 0 to 4294967295, not 'one'"),
+    (b"write_image tip", "expected STATE, a number from 0 to 4294967295, not 'tip'"),
+    (b"write_image 4294967296", "expected STATE, a number from 0 to 4294967295, not '4294967296'"),
+    (b"write_image 0 14", "too many arguments: write_image STATE"),
+    (b"write_image x y", "too many arguments: write_image STATE"),
+    (b"restart 0", "too many arguments: restart"),
     (b"look_up 4294967296 0", "expected OFFER, a number from 0 to 4294967295, not '4294967296'"),
     (b"look_up x y", "expected OFFER, a number from 0 to 4294967295, not 'x'"),
     (b"look_up 0", "too few arguments: look_up OFFER STATE"),
@@ -196,7 +213,7 @@ const NO_CALLS: [(&[u8], &str); 85] = [
     (b"lend table", "too few arguments: lend table N"),
     (b"lend table 8193", "expected N, a number from 0 to 8192, not '8193'"),
     (b"lend journal 4609", "expected N, a number from 0 to 4608, not '4609'"),
-    (b"lend bytes 65543", "expected N, a number from 0 to 65542, not '65543'"),
+    (b"lend bytes 98305", "expected N, a number from 0 to 98304, not '98305'"),
     (b"lend table 4 4", "too many arguments: lend table N"),
     (b"poke table 4 8000000500000001", "past the end of the table, whose length is 4"),
     (b"poke table 3 8000000500000001 8000000600000001", "past the end of the table, whose length is 4"),
@@ -280,7 +297,7 @@ fn lines_that_are_calls_at_the_edge() {
     let mut says = |line: &[u8]| says(&mut unit, line);
     assert_eq!(says(b"lend table 8192"), "");
     assert_eq!(says(b"lend journal 00000000000000004608"), "");
-    assert_eq!(says(b"lend bytes 65542"), "");
+    assert_eq!(says(b"lend bytes 98304"), "");
     assert_eq!(says(b"  lend   table 1  "), "");
     assert_eq!(says(b"\tlend \t table\t1\t\r"), "");
     assert_eq!(says(b"\r"), "");
@@ -364,7 +381,7 @@ fn a_forward_takes_what_the_issue_filled() {
 }
 
 /// What random scripts are made of.
-const PIECES: [&[u8]; 26] = [
+const PIECES: [&[u8]; 27] = [
     b"lend ",
     b"table ",
     b"journal ",
@@ -379,6 +396,7 @@ const PIECES: [&[u8]; 26] = [
     b"all ",
     b"clear ",
     b"load ",
+    b"write_image ",
     b"commit ",
     b"forward ",
     b"issue ",
@@ -411,14 +429,12 @@ fn random_bytes_do_no_harm() {
 #[test]
 fn pokes_say_all_memories() {
     let poke = |line: &[u8]| match parse(line) {
-        Line::Command(model::script::Command::Poke { at, poke }) => Some((at, poke)),
+        Line::Command(Command::Poke { at, poke }) => Some((at, poke)),
         _ => None,
     };
     assert_eq!(poke(b"poke table 1 0000000000000002"), Some((1, Poke::Table(vec![2]))));
     assert_eq!(poke(b"poke journal 1 0000000000000002"), Some((1, Poke::Journal(vec![2]))));
     assert_eq!(poke(b"poke bytes 1 02 fF"), Some((1, Poke::Bytes(vec![2, 255]))));
-    let call = |line: &[u8]| {
-        matches!(parse(line), Line::Command(model::script::Command::Call(Call::Forward { .. })))
-    };
+    let call = |line: &[u8]| matches!(parse(line), Line::Command(Command::Call(Call::Forward { .. })));
     assert!(call(b"forward 0 0 with") && call(b"forward 0 0"));
 }

@@ -72,7 +72,9 @@ fn each_clause_is_tested() {
 fn all_calls_but_clear_and_load_refuse_an_unsound_store() {
     let list = vec![entry(5, None)];
     let calls = [
-        Call::WriteImage,
+        Call::WriteImage { state: None },
+        Call::WriteImage { state: Some(11) },
+        Call::WriteImage { state: Some(12) },
         Call::Restart,
         Call::Commit { list: list.clone() },
         Call::RollBack { state: 11 },

@@ -233,8 +233,8 @@ static void commit_again(struct cechnuol_store *other)
     }
 }
 
-/* To a longer table by an image; what was committed above the checkpoint is committed again. A slot that is open since
- * state 0 holds steps below the checkpoint, which are not. */
+/* To a longer table by the checkpoint's image; what was committed above the checkpoint is committed again. A slot that
+ * is open since state 0 holds steps below the checkpoint, which are not. */
 static void longer_table(void)
 {
     struct cechnuol_store other = {longer, 2, journal + 64, 8, {0}, {0}};
@@ -242,7 +242,8 @@ static void longer_table(void)
     uint64_t count = 0;
     begin_with_table_full();
     IS(cechnuol_store_checkpoint(&store) - cechnuol_store_oldest(&store), 1);
-    ANSWERS(cechnuol_store_write_image(&store, image, sizeof image, &count), OK);
+    ANSWERS(cechnuol_store_write_state_image(&store, cechnuol_store_checkpoint(&store), image, sizeof image, &count), OK);
+    IS(count, CECHNUOL_IMAGE_BYTES_OF(store.head[CECHNUOL_USED]));
     ANSWERS(cechnuol_store_load(&other, image, count), OK);
     hold_price(&other, 1, 10);
     ANSWERS(cechnuol_store_look_up(&other, CECHNUOL_DESK, 2, cechnuol_store_tip(&other), &count), NO_PRICE);
@@ -252,30 +253,35 @@ static void longer_table(void)
     hold_price(&other, 1, 11);
     hold_price(&other, 2, 20);
     /* a load into a table that is too short: the fifth and sixth byte say how long it must be */
-    ANSWERS(cechnuol_store_write_image(&other, image, sizeof image, &count), OK);
+    ANSWERS(cechnuol_store_write_image(&store, image, sizeof image, &count), OK);
     ANSWERS(cechnuol_store_load(&shorter, image, count), TABLE_FULL);
     IS((uint64_t)image[4] << 8 | image[5], 2);
     shorter.table_words = 2;
     ANSWERS(cechnuol_store_load(&shorter, image, count), OK);
+    IS(cechnuol_store_checkpoint(&shorter), cechnuol_store_tip(&store));
+    hold_price(&shorter, 1, 11);
+    hold_price(&shorter, 2, 20);
 }
 
-/* An image and a restart have the checkpoint: what is above it is lost, unless it is flushed before. */
-static void images_hold_the_checkpoint(void)
+/* An image has the newest prices, or those of the state that is named. A restart has the checkpoint: what is above it is
+ * lost, unless it is flushed before. */
+static void images_and_restarts(void)
 {
     struct cechnuol_store other = {longer, 4, journal + 64, 8, {0}, {0}};
     uint64_t asked = cechnuol_ask(1), count = 0;
     begin(4, 8, 0);
     ANSWERS(commit_put(1, 10), OK);
     ANSWERS(cechnuol_store_issue(&store, CECHNUOL_DESK, 3, &asked, 1), OK);
-    ANSWERS(cechnuol_store_write_image(&store, image, sizeof image, &count), OK);
+    ANSWERS(cechnuol_store_write_state_image(&store, 0, image, sizeof image, &count), OK);
     IS(count, 6);
-    ANSWERS(cechnuol_store_flush(&store, 1), OK);
     IS(cechnuol_store_image_bytes(&store), 14);
     ANSWERS(cechnuol_store_write_image(&store, image, cechnuol_store_image_bytes(&store), &count), OK);
     ANSWERS(cechnuol_store_load(&other, image, count), OK);
+    IS(cechnuol_store_tip(&other), 1);
     hold_price(&other, 1, 10);
+    ANSWERS(cechnuol_store_flush(&store, 1), OK);
     ANSWERS(commit_put(1, 11), OK);
-    ANSWERS(cechnuol_store_restart(&store, image, sizeof image), OK);
+    ANSWERS(cechnuol_store_restart(&store, image, CECHNUOL_IMAGE_BYTES_OF(store.head[CECHNUOL_USED])), OK);
     IS(cechnuol_store_tip(&store), 1);
     IS(cechnuol_store_is_open(&store, 3) != 0, 0);
     hold_price(&store, 1, 10);
@@ -295,7 +301,6 @@ static void last_state(void)
     ANSWERS(cechnuol_store_load(&store, last_but_one, 6), OK);
     ANSWERS(commit_put(1, 10), OK);
     ANSWERS(commit_put(1, 11), LAST_STATE);
-    ANSWERS(cechnuol_store_flush(&store, cechnuol_store_tip(&store)), OK);
     ANSWERS(cechnuol_store_write_image(&store, image, sizeof image, &count), OK);
     memset(image, 0, 4);
     ANSWERS(cechnuol_store_load(&store, image, count), OK);
@@ -316,7 +321,9 @@ static void output_short(void)
     ANSWERS(cechnuol_price_batch(reads, 2, orders, 1, out, 0, &count), OUTPUT_SHORT);
     ANSWERS(cechnuol_price_batch(reads, 2, orders, 1, out, 1, &count), OK);
     begin(4, 8, 1);
-    ANSWERS(cechnuol_store_flush(&store, 1), OK);
+    ANSWERS(cechnuol_store_write_image(&store, image, cechnuol_store_image_bytes(&store) - 1, &count), OUTPUT_SHORT);
+    ANSWERS(cechnuol_store_write_image(&store, image, cechnuol_store_image_bytes(&store), &count), OK);
+    ANSWERS(commit_put(2, 9), OK);
     ANSWERS(cechnuol_store_write_image(&store, image, cechnuol_store_image_bytes(&store) - 1, &count), OUTPUT_SHORT);
     ANSWERS(cechnuol_store_write_image(&store, image, cechnuol_store_image_bytes(&store), &count), OK);
 }
@@ -332,7 +339,7 @@ int main(void)
     another_read_set();
     table_full_at_a_flush();
     longer_table();
-    images_hold_the_checkpoint();
+    images_and_restarts();
     last_state();
     output_short();
     return differences != 0;

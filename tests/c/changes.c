@@ -20,9 +20,16 @@ static void of_resets(void)
     begin();
     CHANGES(cechnuol_write_image(TO_READ, lent.bytes, 64, &lent.value), BYTES | VALUE);
     IS(lent.value, 22);
+    IS(lent.bytes[3], 9);
     IS(lent.bytes[22], 0x5A);
     begin();
+    CHANGES(cechnuol_write_state_image(TO_READ, 8, lent.bytes, 64, &lent.value), BYTES | VALUE);
+    IS(lent.value, 30);
+    IS(lent.bytes[3], 8);
+    IS(lent.bytes[30], 0x5A);
+    begin();
     CHANGES(cechnuol_restart(STORE, lent.bytes, 64), JOURNAL | HEAD | TALLY | BYTES);
+    IS(lent.bytes[3], 7);
     IS(lent.bytes[22], 0x5A);
 }
 

@@ -6,7 +6,7 @@ enum { GUARD = 0x5A };
 /* Each memory with a word, or byte, more than its limit. */
 static uint64_t table[CECHNUOL_TABLE_WORDS + 1], journal[CECHNUOL_JOURNAL_WORDS + 1];
 static uint64_t words[CECHNUOL_LIST_WORDS + 1], orders[CECHNUOL_BATCH_ORDERS + 1], out[CECHNUOL_LIST_WORDS + 1];
-static uint8_t image[CECHNUOL_IMAGE_BYTES + 8], copy[CECHNUOL_IMAGE_BYTES + 8];
+static uint8_t image[CECHNUOL_IMAGE_BYTES + 1], copy[CECHNUOL_IMAGE_BYTES + 1];
 static struct cechnuol_store store = {table, CECHNUOL_TABLE_WORDS, journal, CECHNUOL_JOURNAL_WORDS, {0}, {0}};
 
 /* A store whose table or journal is as long as given. */
@@ -52,23 +52,53 @@ static size_t image_of(size_t offers)
 
 static void images(void)
 {
+    const size_t full = CECHNUOL_IMAGE_BYTES_OF(CECHNUOL_TABLE_WORDS);
     uint64_t count = 7;
-    IS(image_of(CECHNUOL_TABLE_WORDS + 1), CECHNUOL_IMAGE_BYTES + 8);
-    ANSWERS(cechnuol_store_load(&store, image, CECHNUOL_IMAGE_BYTES + 8), TABLE_FULL);
-    IS(image_of(CECHNUOL_TABLE_WORDS), CECHNUOL_IMAGE_BYTES);
-    ANSWERS(cechnuol_store_load(&store, image, CECHNUOL_IMAGE_BYTES + 1), BAD_IMAGE);
-    ANSWERS(cechnuol_store_load(&store, image, CECHNUOL_IMAGE_BYTES - 1), BAD_IMAGE);
-    ANSWERS(cechnuol_store_load(&store, image, CECHNUOL_IMAGE_BYTES), OK);
+    IS(image_of(CECHNUOL_TABLE_WORDS + 1), full + 8);
+    ANSWERS(cechnuol_store_load(&store, image, full + 8), TABLE_FULL);
+    IS(image_of(CECHNUOL_TABLE_WORDS), full);
+    ANSWERS(cechnuol_store_load(&store, image, full + 1), BAD_IMAGE);
+    ANSWERS(cechnuol_store_load(&store, image, full - 1), BAD_IMAGE);
+    ANSWERS(cechnuol_store_load(&store, image, full), OK);
     IS(store.head[CECHNUOL_USED], CECHNUOL_TABLE_WORDS);
+    IS(cechnuol_store_image_bytes(&store), full);
+    memset(copy, GUARD, sizeof copy);
+    ANSWERS(cechnuol_store_write_image(&store, copy, full - 1, &count), OUTPUT_SHORT);
+    ANSWERS(cechnuol_store_write_image(&store, copy, sizeof copy, &count), OK);
+    IS(count, full);
+    IS(memcmp(copy, image, full) == 0, 1);
+    IS(copy[full], GUARD);
+    ANSWERS(cechnuol_store_load(&store, image, image_of(0)), OK);
+    IS(image_of(0), 6);
+}
+
+/* The longest image: of a full table and a journal full of new offers. No table takes it, and a restart needs less. */
+static void longest_image(void)
+{
+    const size_t full = CECHNUOL_IMAGE_BYTES_OF(CECHNUOL_TABLE_WORDS);
+    size_t step;
+    uint64_t count = 7;
+    ANSWERS(cechnuol_store_load(&store, image, image_of(CECHNUOL_TABLE_WORDS)), OK);
+    for (step = 0; step < CECHNUOL_STEPS; step++) {
+        put_offers(words, CECHNUOL_LIST_WORDS, cechnuol_low_bits(CECHNUOL_TABLE_WORDS + CECHNUOL_LIST_WORDS * step), 1);
+        ANSWERS(cechnuol_store_commit(&store, words, CECHNUOL_LIST_WORDS), OK);
+    }
     IS(cechnuol_store_image_bytes(&store), CECHNUOL_IMAGE_BYTES);
+    IS(image_of(CECHNUOL_TABLE_WORDS + CECHNUOL_JOURNAL_WORDS), CECHNUOL_IMAGE_BYTES);
+    image[3] = CECHNUOL_STEPS;
     memset(copy, GUARD, sizeof copy);
     ANSWERS(cechnuol_store_write_image(&store, copy, CECHNUOL_IMAGE_BYTES - 1, &count), OUTPUT_SHORT);
+    IS(copy[0], GUARD);
     ANSWERS(cechnuol_store_write_image(&store, copy, sizeof copy, &count), OK);
     IS(count, CECHNUOL_IMAGE_BYTES);
     IS(memcmp(copy, image, CECHNUOL_IMAGE_BYTES) == 0, 1);
     IS(copy[CECHNUOL_IMAGE_BYTES], GUARD);
-    ANSWERS(cechnuol_store_load(&store, image, image_of(0)), OK);
-    IS(image_of(0), 6);
+    ANSWERS(cechnuol_store_load(&store, copy, CECHNUOL_IMAGE_BYTES), TABLE_FULL);
+    ANSWERS(cechnuol_store_write_state_image(&store, 0, copy, full, &count), OK);
+    IS(count, full);
+    ANSWERS(cechnuol_store_restart(&store, copy, full - 1), OUTPUT_SHORT);
+    ANSWERS(cechnuol_store_restart(&store, copy, full), OK);
+    IS(cechnuol_store_tip(&store), 0);
 }
 
 static void lists(void)
@@ -181,6 +211,7 @@ int main(void)
 {
     lengths();
     images();
+    longest_image();
     lists();
     batches();
     slots();

@@ -14,6 +14,7 @@ static void on_nothing(void)
     ANSWERS(cechnuol_clear(NOTHING), LENGTHS);
     ANSWERS(cechnuol_load(NOTHING, NULL, 0), LENGTHS);
     ANSWERS(cechnuol_write_image(NOTHING_TO_READ, NULL, 0, &value), LENGTHS);
+    ANSWERS(cechnuol_write_state_image(NOTHING_TO_READ, 0, NULL, 0, &value), LENGTHS);
     ANSWERS(cechnuol_restart(NOTHING, NULL, 0), LENGTHS);
     ANSWERS(cechnuol_commit(NOTHING, NULL, 0), LENGTHS);
     ANSWERS(cechnuol_roll_back(NOTHING, 0), LENGTHS);
@@ -36,6 +37,7 @@ static void of_no_length(void)
     ANSWERS(cechnuol_issue(STORE, CECHNUOL_DESK, 0, NULL, 0), OK);
     ANSWERS(cechnuol_forward(STORE, CECHNUOL_DESK, 0, 1, NULL, 0), OK);
     ANSWERS(cechnuol_write_image(table, 4, journal, 16, head, NULL, 0, &value), OUTPUT_SHORT);
+    ANSWERS(cechnuol_write_state_image(table, 4, journal, 16, head, 1, NULL, 0, &value), OUTPUT_SHORT);
     ANSWERS(cechnuol_restart(STORE, NULL, 0), OUTPUT_SHORT);
 }
 

@@ -24,7 +24,7 @@ static void hold_alike(uint64_t by_plain, uint64_t by_struct, const char *what)
     hold(cechnuol_store_oldest(&store), plain.head[1], "oldest");
     hold(cechnuol_store_checkpoint(&store), plain.head[2], "checkpoint");
     hold(cechnuol_store_tip(&store), plain.head[3], "tip");
-    hold(cechnuol_store_image_bytes(&store), 6 + 8 * plain.head[0], "bytes of the image");
+    hold(cechnuol_store_image_bytes(&store), cechnuol_image_bytes(plain.head), "bytes of an image");
 }
 
 /* The same words for both. */
@@ -79,11 +79,43 @@ static void images(void)
     const uint8_t image[14] = {0, 0, 0, 7, 0, 1, 0x80, 0, 0, 5, 0, 0, 0x04, 0xB0};
     hold_alike(cechnuol_write_image(TO_READ, plain.bytes, 64, &plain.value),
                cechnuol_store_write_image(&store, other.bytes, 64, &other.value), "write_image");
+    hold_alike(cechnuol_write_state_image(TO_READ, 1, plain.bytes, 64, &plain.value),
+               cechnuol_store_write_state_image(&store, 1, other.bytes, 64, &other.value), "write_state_image");
     hold_alike(cechnuol_restart(STORE, plain.bytes, 64), cechnuol_store_restart(&store, other.bytes, 64), "restart");
     ALIKE(load, image, 14);
     ALIKE(load, image, 13);
     hold_alike(cechnuol_write_image(TO_READ, plain.bytes, 13, &plain.value),
                cechnuol_store_write_image(&store, other.bytes, 13, &other.value), "write_image, short");
+}
+
+/* Heads, sound or not, and the bytes that are enough for an image. */
+static void image_bytes(void)
+{
+    uint64_t head[CECHNUOL_HEAD_WORDS] = {0};
+    IS(cechnuol_image_bytes(head), 6);
+    head[0] = 2;
+    IS(cechnuol_image_bytes(head), 22);
+    head[1] = 4294967290, head[2] = 4294967291, head[3] = 4294967293;
+    head[20] = 4, head[21] = 6, head[22] = 9;
+    IS(cechnuol_image_bytes(head), 62);
+    head[2] = 4294967290;
+    IS(cechnuol_image_bytes(head), 94);
+    head[2] = head[3];
+    IS(cechnuol_image_bytes(head), 22);
+    head[2]++;
+    IS(cechnuol_image_bytes(head), CECHNUOL_IMAGE_BYTES);
+    head[2] = 4294967291, head[22] = 3;
+    IS(cechnuol_image_bytes(head), CECHNUOL_IMAGE_BYTES);
+    head[22] = 4100;
+    IS(cechnuol_image_bytes(head), 6 + 8 * (2 + 4096));
+    head[22] = 4101;
+    IS(cechnuol_image_bytes(head), CECHNUOL_IMAGE_BYTES);
+    head[22] = 4100, head[0] = 8000;
+    IS(cechnuol_image_bytes(head), CECHNUOL_IMAGE_BYTES);
+    head[0] = 8001;
+    IS(cechnuol_image_bytes(head), CECHNUOL_IMAGE_BYTES);
+    memset(head, 0xFF, sizeof head);
+    IS(cechnuol_image_bytes(head), CECHNUOL_IMAGE_BYTES);
 }
 
 /* Heads with slots open as given, and the slot that is the oldest of them. */
@@ -109,6 +141,7 @@ int main(void)
     reads();
     images();
     oldest_slots();
+    image_bytes();
     IS(sizeof store.head / sizeof *store.head, 84);
     IS(sizeof store.tally / sizeof *store.tally, 3);
     return differences != 0;

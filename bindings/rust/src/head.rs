@@ -39,7 +39,7 @@ impl Head {
         self.0[OLDEST] as u32
     }
 
-    /// The state that the table holds: the lowest that can be looked up, and the one that an image has.
+    /// The state that the table holds: the lowest that can be looked up or written as an image, and the one that a restart keeps.
     pub const fn checkpoint(&self) -> u32 {
         self.0[CHECKPOINT] as u32
     }
@@ -77,6 +77,15 @@ impl Head {
     pub fn ends(&self) -> &[u64] {
         let ends = &self.0[ENDS..];
         &ends[..self.held_steps().min(STEPS)]
+    }
+
+    /// The words of the journal that the steps above the checkpoint have.
+    pub(crate) fn words_above_checkpoint(&self) -> usize {
+        let ends = self.ends();
+        let below = self.checkpoint().saturating_sub(self.oldest()) as usize;
+        let end_of =
+            |steps: usize| steps.checked_sub(1).and_then(|last| ends.get(last)).map_or(0, |&end| end);
+        end_of(ends.len()).saturating_sub(end_of(below)) as usize
     }
 
     /// The word of a slot, of those that begin at a place.

@@ -57,7 +57,9 @@
 //! Every lookup, issue, forward and release says who calls ([`Caller`]): the desk at the counter, or a display in the foyer
 //! that reads the same store. Each has slots of its own, and the foyer's lists are shorter. Lookups are open to both.
 //!
-//! A [`Store::restart`] or an image that is written and loaded keeps the checkpoint and nothing above it.
+//! An image is the map of one state: of the tip ([`Store::write_image`]), or of any other from the checkpoint on
+//! ([`Store::write_state_image`]). Loaded, it is that state and nothing else: no step and no open slot. A
+//! [`Store::restart`] keeps the checkpoint and nothing above it.
 //!
 //! # Limits
 //!
@@ -73,7 +75,9 @@
 //! | slots | 8, from 0 to 7 | [`SLOTS`] |
 //! | the desk's slots, and the foyer's | 0 to 5, and 6 and 7 | [`FOYER_SLOT`] |
 //! | held steps | 64 | [`STEPS`] |
-//! | an image | 6 bytes and 8 for each offer, at most 64,006 | [`IMAGE_BYTES`], [`image_bytes_of`] |
+//! | an image | 6 bytes and 8 for each offer | [`image_bytes_of`], [`Store::image_bytes`] |
+//! | the longest image, of a state with a full table and 4,096 new offers above it | 96,774 bytes | [`IMAGE_BYTES`] |
+//! | the longest that can be loaded | 64,006 bytes, in a table of 8,000 words | |
 //!
 //! # Refusals, threads and stack
 //!
@@ -82,15 +86,15 @@
 //!
 //! A [`Store`] is `Send` and `Sync` where its memory is. Queries take `&self` and may be made from several threads at once.
 //!
-//! A flush needs up to 160 KiB of stack, and any other call less than 32 KiB. A flush of few prices takes less than 40
-//! KiB, so that a test with a small store does not show that a stack is too small. Rust's threads have 2 MiB unless they
-//! are given less.
+//! A flush, and the writing of an image of a state above the checkpoint, need up to 160 KiB of stack, and any other call
+//! less than 32 KiB. With few prices these two take less than 40 KiB, so that a test with a small store does not show that
+//! a stack is too small. Rust's threads have 2 MiB unless they are given less.
 //!
 //! # What a call tests, and what it does not
 //!
 //! Every call on a store but `clear` and `load` tests the whole of it, in one pass over table and journal: some microseconds
-//! where they are as long as can be. A flush of 64 steps of 64 entries into the longest table takes about a hundred, and a
-//! forward of 64 entries over as many steps some tens.
+//! where they are as long as can be. A flush of 64 steps of 64 entries into the longest table takes about a hundred, as does
+//! an image of the state that they lead to, and a forward of 64 entries over as many steps some tens.
 //!
 //! [`Refusal::Unsound`] is answered where the form of a store is broken: the order of offers, the zeros, or numbers that do
 //! not fit each other. A price, an offer, the end of a step or the checkpoint that was changed within that form is taken as
@@ -140,15 +144,16 @@ pub const SLOTS: usize = 8;
 pub const FOYER_SLOT: usize = 6;
 /// The most steps that are held.
 pub const STEPS: usize = 64;
-/// The bytes of the longest image, which has as many offers as the longest table has words.
-pub const IMAGE_BYTES: usize = image_bytes_of(TABLE_WORDS);
+/// The bytes of the longest image: of a state that has as many offers as the longest table and the longest journal have words.
+/// No table holds more offers than [`TABLE_WORDS`], so that the longest image that can be loaded is shorter.
+pub const IMAGE_BYTES: usize = image_bytes_of(TABLE_WORDS + JOURNAL_WORDS);
 /// The words of a head.
 pub const HEAD_WORDS: usize = 84;
 /// The words of a tally.
 pub const TALLY_WORDS: usize = 3;
 
 /// The version of this crate as a number: major * 1,000,000 + minor * 1,000 + patch.
-pub const VERSION: u64 = 2_000_000;
+pub const VERSION: u64 = 3_000_000;
 
 /// The version of the library that is linked, as a number. It differs from [`VERSION`] where crate and library are not of
 /// one release.

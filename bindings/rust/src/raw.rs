@@ -118,6 +118,7 @@ declare_calls! {
 
 declare_queries! {
     cechnuol_write_image(bytes: *mut u8, byte_count: usize, count: *mut u64);
+    cechnuol_write_state_image(state: u32, bytes: *mut u8, byte_count: usize, count: *mut u64);
     cechnuol_look_up(caller: u32, offer: u32, state: u32, price: *mut u64);
 }
 
@@ -219,10 +220,16 @@ impl StoreMut<'_> {
 
 /// The queries, each as [`Store`](crate::Store) has it by the same name.
 impl StoreRef<'_> {
-    /// Writes the image of the checkpoint to the start of the bytes, and its length to the count.
+    /// Writes the image of the tip to the start of the bytes, and its length to the count.
     #[inline]
     pub fn write_image(self, bytes: &mut [u8], count: &mut u64) -> u64 {
         query!(self, cechnuol_write_image, bytes.as_mut_ptr(), bytes.len(), count)
+    }
+
+    /// Writes the image of a state to the start of the bytes, and its length to the count.
+    #[inline]
+    pub fn write_state_image(self, state: u32, bytes: &mut [u8], count: &mut u64) -> u64 {
+        query!(self, cechnuol_write_state_image, state, bytes.as_mut_ptr(), bytes.len(), count)
     }
 
     /// Writes an offer's price at a state to the price, where there is one. Who calls makes no difference.

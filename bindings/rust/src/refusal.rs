@@ -82,7 +82,7 @@ refusals! {
     StateRange = 11 "STATE_RANGE" "the state is below the checkpoint or above the tip",
         "States below the checkpoint are gone: the way back is an earlier image.";
     LastState = 12 "LAST_STATE" "the tip is the last state number, 2^32 - 1",
-        "Flush to the tip, write the image, put a lower state number into its first four bytes, and load it.";
+        "Write the image of the tip, put a lower state number into its first four bytes, and load it.";
     StepsFull = 13 "STEPS_FULL" "64 steps are held",
         "That is, tip - oldest is 64. Flush; if it is still full and the oldest state is below the checkpoint, a slot that \
          was opened there holds the steps: forward or release it ([`Head::oldest_slot`](crate::Head::oldest_slot)). To \
@@ -94,10 +94,11 @@ refusals! {
     BadImage = 15 "BAD_IMAGE" "the length, the order of offers or a kind bit of the image is wrong";
     TableFull = 16 "TABLE_FULL" "the state has more prices than the table has words",
         "At a flush: flush to another state whose map fits, or commit removals first and flush to the state after them; \
-         or load the image of the checkpoint into a longer table, and commit the later lists again. At a load: load into \
-         a longer table.";
+         or write the image of the state, which needs no room in the table, and load it into a longer one. At a load: load \
+         into a longer table.";
     OutputShort = 17 "OUTPUT_SHORT" "the output is shorter than what is to be written",
-        "[`IMAGE_BYTES`](crate::IMAGE_BYTES) are enough for any image, and as many entries as there are orders for a batch.";
+        "[`Store::image_bytes`](crate::Store::image_bytes) are enough for any image of a store and for its restart, \
+         [`IMAGE_BYTES`](crate::IMAGE_BYTES) for those of every store, and as many entries as there are orders for a batch.";
     LongList = 18 "LONG_LIST" "the foyer's list has over 16 words",
         "A list that the foyer issues, or a read set that it forwards. Ask for the offers in several reads, one after another.";
     OthersSlot = 19 "OTHERS_SLOT" "the slot is not the caller's",

@@ -1,7 +1,7 @@
 //! A store: its memory, and the calls on it.
 
 use crate::raw::{self, StoreMut, StoreRef};
-use crate::{Caller, Entry, Head, Refusal, Tally, JOURNAL_WORDS, TABLE_WORDS};
+use crate::{image_bytes_of, Caller, Entry, Head, Refusal, Tally, IMAGE_BYTES, JOURNAL_WORDS, TABLE_WORDS};
 use std::fmt;
 
 /// A store of prices: states numbered one after another, each a map from offers to prices.
@@ -11,8 +11,9 @@ use std::fmt;
 /// the journal are held by: anything that gives a slice of words.
 ///
 /// The table holds the map at the checkpoint, the journal the steps since the oldest state. Methods that change the store
-/// take `&mut self`, the queries [`look_up`](Store::look_up) and [`write_image`](Store::write_image) `&self`, so that
-/// several threads may query a store at once. No call panics or allocates; a refused one leaves everything as it came.
+/// take `&mut self`, the queries [`look_up`](Store::look_up), [`write_image`](Store::write_image) and
+/// [`write_state_image`](Store::write_state_image) `&self`, so that several threads may query a store at once. No call panics
+/// or allocates; a refused one leaves everything as it came.
 #[derive(Clone, PartialEq, Eq)]
 pub struct Store<T = Vec<u64>, J = T> {
     table: T,
@@ -109,6 +110,27 @@ impl<T, J> Store<T, J> {
     pub const fn tally(&self) -> &Tally {
         &self.tally
     }
+
+    /// So many bytes are enough for the image of every state from the checkpoint to the tip, and for a restart: 6, and 8 for
+    /// each word of the table in use and of the steps above the checkpoint. Never more than
+    /// [`IMAGE_BYTES`](crate::IMAGE_BYTES), whatever words the head has.
+    ///
+    /// ```
+    /// use cechnuol::{Entry, Refusal, Store};
+    ///
+    /// let mut store = Store::new(4, 16)?;
+    /// assert_eq!(store.image_bytes(), 6);
+    /// store.commit(&[Entry::put(5, 1200), Entry::put(9, 700)])?;
+    /// store.commit(&[Entry::put(9, 800)])?;
+    /// assert_eq!(store.image_bytes(), 30);
+    /// let mut bytes = vec![0; store.image_bytes()];
+    /// assert_eq!(store.write_image(&mut bytes), Ok(22));
+    /// # Ok::<(), Refusal>(())
+    /// ```
+    pub fn image_bytes(&self) -> usize {
+        let offers = self.head.used().saturating_add(self.head.words_above_checkpoint());
+        image_bytes_of(offers).min(IMAGE_BYTES)
+    }
 }
 
 /// What reads a store.
@@ -162,25 +184,70 @@ impl<T: AsRef<[u64]>, J: AsRef<[u64]>> Store<T, J> {
         }
     }
 
-    /// Writes the image of the checkpoint to the start of the bytes, and gives its length: 6 bytes and 8 for each offer
-    /// ([`image_bytes_of`](crate::image_bytes_of)). Bytes past it stay. Steps above the checkpoint are not in an image; to
-    /// have the newest state in it, flush to the tip before.
+    /// Writes the image of the tip to the start of the bytes, and gives its length: 6 bytes and 8 for each offer
+    /// ([`image_bytes_of`]). Bytes past it stay. The newest prices are in it: no flush is needed before.
     ///
-    /// Refused: [`Refusal::Lengths`], [`Refusal::Unsound`], [`Refusal::OutputShort`].
+    /// The tip may have more offers than the table has words. Its image is written all the same; it can be loaded into a
+    /// table that has a word for each of its offers, and into a shorter one not ([`Refusal::TableFull`]).
+    ///
+    /// Needs up to 160 KiB of stack where the tip is above the checkpoint.
+    ///
+    /// Refused: [`Refusal::Lengths`], [`Refusal::Unsound`], [`Refusal::OutputShort`]. At the last lend
+    /// [`Store::image_bytes`], or [`IMAGE_BYTES`], which are always enough.
     ///
     /// ```
-    /// use cechnuol::{image_bytes_of, Refusal, Store};
+    /// use cechnuol::{Caller, Entry, Refusal, Store};
     ///
-    /// let store = Store::new(4, 16)?;
-    /// let mut bytes = vec![0xAA; image_bytes_of(store.head().used())];
-    /// assert_eq!(store.write_image(&mut bytes), Ok(6));
-    /// assert_eq!(bytes, [0; 6]);
+    /// let mut store = Store::new(1, 16)?;
+    /// store.commit(&[Entry::put(5, 1200), Entry::put(9, 700)])?;
+    /// let mut bytes = vec![0; store.image_bytes()];
+    /// let length = store.write_image(&mut bytes)?;
+    ///
+    /// // The table of one word has no room for two offers, and a longer one has.
+    /// assert_eq!(store.load(&bytes[..length]), Err(Refusal::TableFull));
+    /// let mut longer = Store::new(2, 16)?;
+    /// longer.load(&bytes[..length])?;
+    /// assert_eq!(longer.head().tip(), 1);
+    /// assert_eq!(longer.look_up(Caller::Desk, 9, 1), Ok(Some(700)));
     /// # Ok::<(), Refusal>(())
     /// ```
     #[inline]
     pub fn write_image(&self, bytes: &mut [u8]) -> Result<usize, Refusal> {
         let mut count = 0;
         Refusal::check(self.as_raw().write_image(bytes, &mut count))?;
+        // It is at most as long as the bytes.
+        Ok(count as usize)
+    }
+
+    /// Writes the image of a state from the checkpoint to the tip to the start of the bytes, and gives its length, as
+    /// [`Store::write_image`] does for the tip. The image has the state's number, and loads as its map.
+    ///
+    /// Needs up to 160 KiB of stack where the state is above the checkpoint.
+    ///
+    /// Refused: [`Refusal::Lengths`], [`Refusal::Unsound`], [`Refusal::StateRange`], [`Refusal::OutputShort`]. At the last
+    /// lend [`Store::image_bytes`], or [`IMAGE_BYTES`], which are always enough.
+    ///
+    /// ```
+    /// use cechnuol::{Caller, Entry, Refusal, Store};
+    ///
+    /// let mut store = Store::new(4, 16)?;
+    /// store.commit(&[Entry::put(5, 1200)])?;
+    /// store.commit(&[Entry::put(5, 1100)])?;
+    ///
+    /// // What was quoted at state 1.
+    /// let mut bytes = vec![0; store.image_bytes()];
+    /// let length = store.write_state_image(1, &mut bytes)?;
+    /// let mut then = Store::new(4, 16)?;
+    /// then.load(&bytes[..length])?;
+    /// assert_eq!(then.look_up(Caller::Desk, 5, 1), Ok(Some(1200)));
+    ///
+    /// assert_eq!(store.write_state_image(3, &mut bytes), Err(Refusal::StateRange));
+    /// # Ok::<(), Refusal>(())
+    /// ```
+    #[inline]
+    pub fn write_state_image(&self, state: u32, bytes: &mut [u8]) -> Result<usize, Refusal> {
+        let mut count = 0;
+        Refusal::check(self.as_raw().write_state_image(state, bytes, &mut count))?;
         // It is at most as long as the bytes.
         Ok(count as usize)
     }
@@ -238,14 +305,15 @@ impl<T: AsMut<[u64]>, J: AsMut<[u64]>> Store<T, J> {
     /// checkpoint: the steps above it are lost, all slots close, and the tally is set to zero. To keep the newest state,
     /// flush to the tip before.
     ///
-    /// Refused: [`Refusal::Lengths`], [`Refusal::Unsound`], [`Refusal::OutputShort`].
+    /// Refused: [`Refusal::Lengths`], [`Refusal::Unsound`], [`Refusal::OutputShort`]. The last goes by the image of the
+    /// checkpoint, however long that of the tip is: [`image_bytes_of`] the words of the table in use.
     ///
     /// ```
-    /// use cechnuol::{Caller, Entry, Refusal, Store, IMAGE_BYTES};
+    /// use cechnuol::{image_bytes_of, Caller, Entry, Refusal, Store};
     ///
     /// let mut store = Store::new(4, 16)?;
     /// store.commit(&[Entry::put(5, 1200)])?;
-    /// store.restart(&mut [0; IMAGE_BYTES])?;
+    /// store.restart(&mut vec![0; image_bytes_of(store.head().used())])?;
     /// assert_eq!(store.head().tip(), 0);
     /// assert_eq!(store.look_up(Caller::Desk, 5, 0), Ok(None));
     /// # Ok::<(), Refusal>(())
@@ -345,9 +413,9 @@ impl<T: AsMut<[u64]>, J: AsMut<[u64]>> Store<T, J> {
     /// Refused: [`Refusal::Lengths`], [`Refusal::Unsound`], [`Refusal::StateRange`], [`Refusal::TableFull`]. At the last
     /// the map at the state has more offers than the table has words. Flush to another state whose map fits, or commit
     /// removals first and flush to the state after them (only the map at the state named has to fit; where there is no room
-    /// for a commit, roll back before); or load the image of the checkpoint into a longer table, and commit the lists since
-    /// then again, which [`Store::journal`] and [`Head::ends`](crate::Head::ends) still have. Open reads and the tally stay
-    /// behind.
+    /// for a commit, roll back before); or write the image of the state ([`Store::write_state_image`]), which needs no room in
+    /// the table, and load it into a longer one. The lists above it are committed there again: [`Store::journal`] and
+    /// [`Head::ends`](crate::Head::ends) still have them. Open reads and the tally stay behind.
     ///
     /// ```
     /// use cechnuol::{Entry, Refusal, Store};

@@ -5,8 +5,8 @@ mod common;
 use cechnuol::raw::{ENDS, TAKEN, TIP};
 use cechnuol::Caller::{Desk, Foyer};
 use cechnuol::Refusal::{self, *};
-use cechnuol::{price_batch, Entry, Head, Order, Store, Tally};
-use common::{of_lengths, refused, store, with_head, CALLS, IMAGE};
+use cechnuol::{image_bytes_of, price_batch, Entry, Head, Order, Store, Tally};
+use common::{of_lengths, refused, store, with_head, CALLS, IMAGE, TIP_IMAGE};
 
 #[test]
 fn every_call_tests_the_lengths() {
@@ -63,10 +63,59 @@ fn load() {
 fn write_image() {
     let mut bytes = [0xAA; 25];
     assert_eq!(store().write_image(&mut bytes), Ok(22));
-    assert_eq!(bytes[..], [&IMAGE[..], &[0xAA; 3]].concat());
+    assert_eq!(bytes[..], [&TIP_IMAGE[..], &[0xAA; 3]].concat());
     let mut bytes = [0xAA; 21];
     refused(&store(), OutputShort, |store| store.write_image(&mut bytes));
     assert_eq!(bytes, [0xAA; 21]);
+}
+
+#[test]
+fn write_state_image() {
+    for (state, image) in [(1, IMAGE), (2, TIP_IMAGE)] {
+        let mut bytes = [0xAA; 25];
+        assert_eq!(store().write_state_image(state, &mut bytes), Ok(22));
+        assert_eq!(bytes[..], [&image[..], &[0xAA; 3]].concat());
+        refused(&store(), OutputShort, |store| store.write_state_image(state, &mut bytes[..21]));
+        assert_eq!(bytes[..22], image);
+    }
+    for state in [0, 3, u32::MAX] {
+        let mut bytes = [0xAA; 25];
+        refused(&store(), StateRange, |store| store.write_state_image(state, &mut bytes));
+        refused(&store(), StateRange, |store| store.write_state_image(state, &mut []));
+        assert_eq!(bytes, [0xAA; 25]);
+    }
+}
+
+/// A table of one word: the image of a state with two offers is written, and loaded where there is room for it.
+#[test]
+fn image_of_a_state_that_the_table_has_no_room_for() {
+    let mut store = of_lengths(1, 4);
+    assert_eq!(store.commit(&[Entry::put(5, 1200), Entry::put(9, 700)]), Ok(()));
+    refused(&store, TableFull, |store| store.flush(1));
+    let mut bytes = [0xAA; 22];
+    assert_eq!((store.write_image(&mut bytes), bytes), (Ok(22), IMAGE));
+    assert_eq!(store.write_state_image(1, &mut bytes), Ok(22));
+    refused(&store, TableFull, |store| store.load(&bytes));
+    let mut longer = of_lengths(2, 1);
+    assert_eq!(longer.load(&bytes), Ok(()));
+    assert_eq!(longer.entries(), [Entry::put(5, 1200), Entry::put(9, 700)]);
+}
+
+/// Enough bytes for the image of every state, whether or not an open slot holds steps below the checkpoint.
+#[test]
+fn image_bytes() {
+    assert_eq!(of_lengths(8, 16).image_bytes(), 6);
+    let mut store = store();
+    assert_eq!(store.image_bytes(), image_bytes_of(2 + 3));
+    assert_eq!(store.commit(&[]), Ok(()));
+    assert_eq!(store.commit(&[Entry::remove(7)]), Ok(()));
+    assert_eq!(store.image_bytes(), image_bytes_of(2 + 4));
+    assert_eq!(store.flush(2), Ok(()));
+    assert_eq!((store.head().oldest(), store.image_bytes()), (1, image_bytes_of(2 + 1)));
+    assert_eq!(store.release(Desk, 3), Ok(()));
+    assert_eq!((store.head().oldest(), store.image_bytes()), (2, image_bytes_of(2 + 1)));
+    assert_eq!(store.flush(4), Ok(()));
+    assert_eq!(store.image_bytes(), image_bytes_of(2));
 }
 
 #[test]
@@ -79,6 +128,22 @@ fn restart() {
     let mut loaded = of_lengths(8, 16);
     assert_eq!(loaded.load(&IMAGE), Ok(()));
     assert_eq!(store, loaded);
+}
+
+/// A restart goes by the image of the checkpoint, where that of the tip is longer and where it is shorter.
+#[test]
+fn restart_beside_a_tip_of_another_length() {
+    let mut longer = store();
+    assert_eq!(longer.commit(&[Entry::put(1, 1), Entry::put(2, 2)]), Ok(()));
+    let mut bytes = [0xAA; 22];
+    refused(&longer, OutputShort, |store| store.write_image(&mut bytes));
+    assert_eq!((longer.restart(&mut bytes), bytes), (Ok(()), IMAGE));
+    let mut shorter = store();
+    assert_eq!(shorter.commit(&[Entry::remove(5), Entry::remove(11)]), Ok(()));
+    assert_eq!(shorter.write_image(&mut bytes[..6]), Ok(6));
+    refused(&shorter, OutputShort, |store| store.restart(&mut bytes[..21]));
+    refused(&shorter, OutputShort, |store| store.restart(&mut bytes[..6]));
+    assert_eq!((shorter.restart(&mut bytes), bytes), (Ok(()), IMAGE));
 }
 
 #[test]

@@ -2,7 +2,7 @@
 
 mod common;
 
-use cechnuol::raw::StoreMut;
+use cechnuol::raw::{StoreMut, CHECKPOINT, ENDS, OLDEST, TIP, USED};
 use cechnuol::Caller::{Desk, Foyer};
 use cechnuol::{image_bytes_of, price_batch, Entry, Order, Refusal, Store};
 use cechnuol::{
@@ -87,16 +87,55 @@ fn steps() {
 
 #[test]
 fn images() {
-    assert_eq!((IMAGE_BYTES, image_bytes_of(0), image_bytes_of(usize::MAX)), (64_006, 6, usize::MAX));
-    let mut image = vec![0, 0, 0, 0];
-    image.extend((TABLE_WORDS as u16).to_be_bytes());
-    image.extend((0..TABLE_WORDS as u32).flat_map(|offer| Entry::put(offer, 7).word().to_be_bytes()));
-    let mut store = of_lengths(TABLE_WORDS, 1);
+    assert_eq!((IMAGE_BYTES, image_bytes_of(0), image_bytes_of(usize::MAX)), (96_774, 6, usize::MAX));
+    let full = image_bytes_of(TABLE_WORDS);
+    let image = image_of(0, TABLE_WORDS as u32);
+    assert_eq!((full, image.len()), (64_006, 64_006));
+    let mut store = of_lengths(TABLE_WORDS, JOURNAL_WORDS);
     assert_eq!(store.load(&image), Ok(()));
-    assert_eq!(store.write_image(&mut [0; IMAGE_BYTES - 1]), Err(Refusal::OutputShort));
-    let mut bytes = [0; IMAGE_BYTES];
+    assert_eq!(store.image_bytes(), full);
+    let mut bytes = vec![0; IMAGE_BYTES];
+    assert_eq!(store.write_image(&mut bytes[..full - 1]), Err(Refusal::OutputShort));
+    assert_eq!((store.write_image(&mut bytes), &bytes[..full]), (Ok(full), &image[..]));
+    // the fullest state: each step has as many new offers as a list may have
+    for step in 0..STEPS as u32 {
+        let first = TABLE_WORDS as u32 + step * LIST_WORDS as u32;
+        let list: Vec<Entry> = (first..first + LIST_WORDS as u32).map(|offer| Entry::put(offer, 7)).collect();
+        assert_eq!(store.commit(&list), Ok(()));
+    }
+    assert_eq!(store.image_bytes(), IMAGE_BYTES);
+    assert_eq!(store.write_image(&mut bytes[..IMAGE_BYTES - 1]), Err(Refusal::OutputShort));
     assert_eq!(store.write_image(&mut bytes), Ok(IMAGE_BYTES));
-    assert_eq!(bytes[..], image);
+    assert_eq!(bytes, image_of(64, (TABLE_WORDS + JOURNAL_WORDS) as u32));
+    assert_eq!(store.load(&bytes), Err(Refusal::TableFull));
+    assert_eq!((store.write_state_image(0, &mut bytes), &bytes[..full]), (Ok(full), &image[..]));
+    assert_eq!(store.restart(&mut bytes[..full - 1]), Err(Refusal::OutputShort));
+    assert_eq!(store.restart(&mut bytes[..full]), Ok(()));
+}
+
+/// The image of so many offers, each at 7.
+fn image_of(state: u32, offers: u32) -> Vec<u8> {
+    let mut image = state.to_be_bytes().to_vec();
+    image.extend((offers as u16).to_be_bytes());
+    image.extend((0..offers).flat_map(|offer| Entry::put(offer, 7).word().to_be_bytes()));
+    image
+}
+
+/// Of any words of a head, no more bytes than the longest image has.
+#[test]
+fn bytes_for_images() {
+    let (used, end, last) = (USED, ENDS, HEAD_WORDS - 1);
+    for words in [
+        &[(used, u64::MAX)][..],
+        &[(end, u64::MAX)],
+        &[(used, u64::MAX), (end, u64::MAX)],
+        &[(TIP, u64::MAX), (last, u64::MAX)],
+        &[(CHECKPOINT, u64::MAX), (end, 7)],
+        &[(OLDEST, 7), (end, 7)],
+    ] {
+        assert!(with_head(&store(), words).image_bytes() <= IMAGE_BYTES, "{words:?}");
+    }
+    assert_eq!(with_head(&store(), &[(used, u64::MAX)]).image_bytes(), IMAGE_BYTES);
 }
 
 /// The last word of the head is tested, and the last of the tally counted; the library writes nothing behind them.

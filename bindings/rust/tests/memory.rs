@@ -4,7 +4,7 @@ mod common;
 
 use cechnuol::Caller::Desk;
 use cechnuol::{Entry, Head, Refusal, Store, Tally};
-use common::store;
+use common::{store, IMAGE, TIP_IMAGE};
 use std::thread;
 
 const ENTRY: Entry = Entry::put(5, 1200);
@@ -50,7 +50,9 @@ fn memory_to_read() {
     let kept = store();
     let reader = Store::from_parts(kept.table(), kept.journal(), kept.head().clone(), *kept.tally());
     assert_eq!(reader.look_up(Desk, 5, 2), Ok(Some(1100)));
-    assert_eq!(reader.write_image(&mut [0; 22]), Ok(22));
+    let mut bytes = vec![0; reader.image_bytes()];
+    assert_eq!((reader.write_image(&mut bytes), &bytes[..22]), (Ok(22), &TIP_IMAGE[..]));
+    assert_eq!((reader.write_state_image(1, &mut bytes), &bytes[..22]), (Ok(22), &IMAGE[..]));
     assert_eq!(reader.entries(), kept.entries());
 }
 
@@ -61,6 +63,13 @@ fn queries_from_several_threads() {
         for _ in 0..4 {
             scope.spawn(|| (0..1000).for_each(|_| assert_eq!(store.look_up(Desk, 5, 2), Ok(Some(1100)))));
         }
+        scope.spawn(|| {
+            for _ in 0..1000 {
+                let mut bytes = [0; 22];
+                assert_eq!((store.write_image(&mut bytes), bytes), (Ok(22), TIP_IMAGE));
+                assert_eq!((store.write_state_image(1, &mut bytes), bytes), (Ok(22), IMAGE));
+            }
+        });
     });
     let moved = thread::spawn(move || store.look_up(Desk, 9, 1));
     assert_eq!(moved.join().expect("a lookup"), Ok(Some(700)));

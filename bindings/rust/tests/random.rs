@@ -4,7 +4,9 @@
 mod common;
 
 use cechnuol::Caller::{Desk, Foyer};
-use cechnuol::{price_batch, Entry, Head, Order, Refusal, Store, Tally, HEAD_WORDS, TALLY_WORDS};
+use cechnuol::{
+    price_batch, Entry, Head, Order, Refusal, Store, Tally, HEAD_WORDS, IMAGE_BYTES, TALLY_WORDS,
+};
 use common::{of_lengths, store, Rng, CALLS};
 
 fn entries(rng: &mut Rng) -> Vec<Entry> {
@@ -135,6 +137,55 @@ fn random_stores() {
     assert!(accepted > 2000 && refused > 2000, "{accepted} accepted, {refused} refused");
 }
 
+/// Random commits, rollbacks, flushes and reads: the image of every state from the checkpoint to the tip fits into
+/// [`Store::image_bytes`], and loaded elsewhere it quotes what the store quotes.
+#[test]
+fn images_of_random_stores() {
+    let mut rng = Rng(7);
+    let (mut images, mut large) = (0, 0);
+    for _ in 0..300 {
+        let mut store = of_lengths(1 + rng.below(12), 200);
+        for _ in 0..rng.below(40) {
+            let head = store.head();
+            let state = head.checkpoint() + rng.below((head.tip() - head.checkpoint()) as usize + 1) as u32;
+            // refused where there is no room, which does no harm here
+            let _ = match rng.below(8) {
+                0 => store.flush(state),
+                1 => store.roll_back(state),
+                2 => store.issue(Desk, rng.below(6), &mut [Entry::ask(5)]),
+                3 => store.release(Desk, rng.below(6)),
+                _ => {
+                    let mut offers: Vec<u32> = (0..rng.below(6)).map(|_| rng.below(20) as u32).collect();
+                    offers.sort_unstable();
+                    offers.dedup();
+                    let price = rng.below(3) as u32;
+                    let entry = |&offer: &u32| match (offer + price) % 3 {
+                        0 => Entry::remove(offer),
+                        _ => Entry::put(offer, price),
+                    };
+                    store.commit(&offers.iter().map(entry).collect::<Vec<Entry>>())
+                }
+            };
+        }
+        let mut bytes = vec![0; store.image_bytes()];
+        for state in store.head().checkpoint()..=store.head().tip() {
+            let length = store.write_state_image(state, &mut bytes).expect("bytes enough for each state");
+            let mut elsewhere = of_lengths(20, 1);
+            assert_eq!(elsewhere.load(&bytes[..length]), Ok(()));
+            let quotes =
+                |store: &Store| (0..20).map(|offer| store.look_up(Desk, offer, state)).collect::<Vec<_>>();
+            assert_eq!(quotes(&elsewhere), quotes(&store), "state {state}");
+            assert_eq!(length, 6 + 8 * elsewhere.entries().len());
+            images += 1;
+            large += usize::from(elsewhere.entries().len() > store.table().len());
+        }
+    }
+    assert!(
+        images > 1000 && large > 100,
+        "{images} images, {large} with more offers than the table has words"
+    );
+}
+
 /// What is read of a head and shown of a store, of any words.
 #[test]
 fn random_heads_are_read() {
@@ -147,6 +198,7 @@ fn random_heads_are_read() {
         assert!(head.oldest_slot().is_none_or(|slot| head.is_open(slot)));
         assert_eq!(head.ends().len(), head.held_steps().min(64));
         assert!(store.entries().len() <= store.table().len());
+        assert!((6..=IMAGE_BYTES).contains(&store.image_bytes()));
         assert!(!format!("{store:?}").is_empty());
     }
 }

@@ -1,3 +1,4 @@
 pub mod Firsts
 pub mod Counting
 pub mod Telling
+pub mod Counted

@@ -15,7 +15,7 @@ pub enum Reset {
     Clear,
     // The bytes are the image.
     Load,
-    // The image goes to the start of the bytes and is loaded back.
+    // The checkpoint's image goes to the start of the bytes and is loaded back.
     Restart,
 }
 
@@ -54,8 +54,10 @@ pub struct Reader {
 // The calls that change nothing of a store.
 pub enum Query {
     LookUp(LookUp),
-    // The image goes to the start of the bytes.
+    // The image of the tip goes to the start of the bytes.
     WriteImage,
+    // A state; its image goes to the start of the bytes.
+    WriteStateImage(u32),
 }
 
 // Who asks, for the price of which offer, and at which state. Lookups are open to all callers.

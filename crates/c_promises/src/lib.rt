@@ -13,6 +13,7 @@ use cechnuol::store::cechnuol_release;
 use cechnuol::store::cechnuol_restart;
 use cechnuol::store::cechnuol_roll_back;
 use cechnuol::store::cechnuol_write_image;
+use cechnuol::store::cechnuol_write_state_image;
 use head_words::HEAD_WORDS;
 use lent::storing::TALLY_WORDS;
 ghost use mathlib.Core.Bool.{cond};
@@ -20,7 +21,7 @@ ghost use mathlib.Core.List.{[]};
 ghost use lib.Dec.{eqb};
 ghost use Rattle.answers.specs.declared.call.Call.the-variants.{Reset, Step, Read};
 ghost use Rattle.answers.specs.declared.call.Caller.the-variants.{Desk, Foyer};
-ghost use Rattle.answers.specs.declared.call.Query.the-variants.{LookUp, WriteImage};
+ghost use Rattle.answers.specs.declared.call.Query.the-variants.{LookUp, WriteImage, WriteStateImage};
 ghost use Rattle.answers.specs.declared.call.Read.the-variants.{Issue, Forward, Release};
 ghost use Rattle.answers.specs.declared.call.Reset.the-variants.{Clear, Load, Restart};
 ghost use Rattle.answers.specs.declared.call.Step.the-variants.{Commit, RollBack, Flush};
@@ -199,6 +200,22 @@ pub fn write_image(
         (now (bytes .entry)) r (now (count .entry)) (now (count .exit)) (now (bytes .exit)) ⌝ }
 {
     cechnuol_write_image(table, journal, head, bytes, count)
+}
+
+// `cechnuol_write_state_image`.
+pub fn write_state_image(
+    table: &[u64],
+    journal: &[u64],
+    head: &[u64; HEAD_WORDS],
+    state: u32,
+    bytes: &mut [u8],
+    count: &mut u64,
+) -> u64
+    ensures { λ r. ⌜ QueryKeeps (WriteStateImage state)
+        (now (table .entry)) (now (journal .entry)) (now (head .entry))
+        (now (bytes .entry)) r (now (count .entry)) (now (count .exit)) (now (bytes .exit)) ⌝ }
+{
+    cechnuol_write_state_image(table, journal, head, state, bytes, count)
 }
 
 // `cechnuol_price_batch`.

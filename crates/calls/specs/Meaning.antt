@@ -1,16 +1,17 @@
 -- What each call means, by the definitions that its own contract cites: one clause a call.
 -- Assumes nothing.
-use mathlib.Core.List.{_++_}
-use Prim.Native.Nat.{_+_, _*_}
-use lib.ListN.{length, take, drop, replicate}
+use mathlib.Core.List.{List}
+use Prim.Native.Nat.{ℕ, _+_}
+use lib.ListN.{length, take, replicate}
 use Rattle.changes.specs.Calculus.{find, composeAll}
 use Rattle.changes.specs.ReadSets.{readOf, over}
 use Rattle.changes.specs.Runs.{startOf}
 use Rattle.answers.specs.declared.answer.Answer.the-variants.{Done, Count}
+use Rattle.answers.specs.First.{Test}
 use Rattle.answers.specs.declared.call.Call.{Call}
 use Rattle.answers.specs.declared.call.Call.the-variants.{Reset, Step, Read, Ask}
 use Rattle.answers.specs.declared.call.Query.{Query}
-use Rattle.answers.specs.declared.call.Query.the-variants.{LookUp, WriteImage}
+use Rattle.answers.specs.declared.call.Query.the-variants.{LookUp, WriteImage, WriteStateImage}
 use Rattle.answers.specs.declared.call.Read.{Read as ReadCall}
 use Rattle.answers.specs.declared.call.Read.the-variants.{Issue, Forward, Release}
 use Rattle.answers.specs.declared.call.Reset.{Reset as ResetCall}
@@ -23,8 +24,10 @@ use Rattle.layout.specs.States.{heldOf, mapHere}
 use Rattle.views.specs.Laid.{padded}
 use Rattle.views.specs.Trim.{trimmedHead, trimmedJournal}
 use Rattle.slots.specs.Slots.{opened, closedAt}
-use Rattle.snapshot.specs.Snapshots.{loadGrounds, writeGrounds, imageHere}
+use Rattle.snapshot.specs.Snapshots.{loadGrounds}
 use Rattle.snapshot.specs.Fresh.{freshHead}
+use Rattle.exports.specs.Export.{writeGrounds, ownGrounds, imageSize, imageOver}
+use Rattle.restarts.specs.Restart.{restartGrounds, restartImage}
 use Rattle.commits.specs.Commit.{commitGrounds, usedOf, withList, withStep}
 use Rattle.rollbacks.specs.RollBack.{rollGrounds, keptOf, cutAt, cutTo}
 use Rattle.flushes.specs.Flush.{flushGrounds, flushedHead}
@@ -47,12 +50,12 @@ module _ (l : Lent) where
       (replicate (length (l .journal)) 0)
       (freshHead (countIn (l .bytes)) (numberIn (l .bytes))))
   resetOf Restart =
-      let image = imageHere (l .table) (l .head) in
-      means (writeGrounds (l .table) (l .journal) (l .head) (length (l .bytes))) Done
+      let image = restartImage (l .table) (l .journal) (l .head) in
+      means (restartGrounds (l .table) (l .journal) (l .head) (length (l .bytes))) Done
       (withBytes
       (withStore l (padded (length (l .table)) (wordsIn image)) (replicate (length (l .journal)) 0)
       (freshHead (countIn image) (numberIn image)))
-      (image ++ drop (6 + 8 * l .head .used) (l .bytes)))
+      (imageOver (l .table) (l .journal) (l .head) (l .head .checkpoint) (l .bytes)))
 
   -- the calls that add steps, take them back and flush them
   abbrev pub stepOf : StepCall → Meaning
@@ -88,6 +91,15 @@ module _ (l : Lent) where
       means (releaseGrounds (l .table) (l .journal) (l .head) reader) Done
       (withStore l (l .table) (trimmedJournal head (l .journal)) (trimmedHead head))
 
+  -- the writing of a state's image
+  abbrev pub imageQuery : List Test → ℕ → Asking
+  imageQuery grounds state = record {
+    grounds = grounds;
+    answer = Count (imageSize (l .table) (l .journal) (l .head) state);
+    words = l .words;
+    bytes = imageOver (l .table) (l .journal) (l .head) state (l .bytes);
+  }
+
   -- the calls that change nothing of a store
   abbrev pub queryOf : Query → Asking
   queryOf (LookUp asked) = record {
@@ -96,12 +108,9 @@ module _ (l : Lent) where
     words = l .words;
     bytes = l .bytes;
   }
-  queryOf WriteImage = record {
-    grounds = writeGrounds (l .table) (l .journal) (l .head) (length (l .bytes));
-    answer = Count (6 + 8 * l .head .used);
-    words = l .words;
-    bytes = imageHere (l .table) (l .head) ++ drop (6 + 8 * l .head .used) (l .bytes);
-  }
+  -- "With no state named, the tip is now written"
+  queryOf WriteImage = imageQuery (ownGrounds (l .table) (l .journal) (l .head) (l .head .tip) (length (l .bytes))) (l .head .tip)
+  queryOf (WriteStateImage state) = imageQuery (writeGrounds (l .table) (l .journal) (l .head) state (length (l .bytes))) state
 
   abbrev pub meaning : Call → Meaning
   meaning (Reset call) = resetOf call

@@ -1,9 +1,10 @@
 // The calls that change nothing of a store: they are lent it to read, and memory for what they write.
 use answers::answer::Answer;
 use answers::call::Query;
+use exports::write::write_image;
+use exports::write::write_state;
 use layout::head::Head;
 use lookups::look_up;
-use snapshot::write::write_image;
 ghost use Rattle.calls.specs.Lent.{lent, Performs};
 ghost use Rattle.calls.specs.Meaning.{queryLeft};
 
@@ -22,5 +23,6 @@ pub fn ask(
     match query {
         Query::LookUp(asked) => look_up(table, journal, head, asked),
         Query::WriteImage => write_image(table, journal, head, bytes),
+        Query::WriteStateImage(state) => write_state(table, journal, head, state, bytes),
     }
 }

@@ -2,9 +2,9 @@
 use answers::call::Reset;
 use layout::head::Head;
 use layout::head::Reply;
+use restarts::restart;
 use snapshot::clear::clear;
 use snapshot::load::load;
-use snapshot::restart::restart;
 ghost use Rattle.calls.specs.Lent.{lent, Performs};
 ghost use Rattle.calls.specs.Meaning.{resetLeft};
 

@@ -20,7 +20,8 @@ use lent::codes::value_of;
 use lent::storing::TALLY_WORDS;
 ghost use mathlib.Core.Path.{_≡_};
 ghost use mathlib.Core.List.{[]};
-ghost use Rattle.lent.specs.Asked.{clear, load, restart, commit, rollBack, flush, issue, forward, release, lookUp, writeImage};
+ghost use Rattle.lent.specs.Asked.{clear, load, restart, commit, rollBack, flush, issue, forward, release, lookUp};
+ghost use Rattle.lent.specs.Asked.{writeImage, writeStateImage};
 ghost use Rattle.lent.specs.Lent.{Serves, Tells, wordsAfter, bytesAfter, bytesWritten};
 
 // The empty map as state 0.
@@ -57,7 +58,7 @@ pub extern "C" fn cechnuol_load(
     code_of(answer)
 }
 
-// Writes the image of the checkpoint to the start of the bytes, and its length to `count`.
+// Writes the image of the tip to the start of the bytes, and its length to `count`.
 #[no_mangle]
 pub extern "C" fn cechnuol_write_image(
     table: &[u64],
@@ -73,6 +74,35 @@ pub extern "C" fn cechnuol_write_image(
 {
     let mut words = [0u64; 0];
     let answer = ask_on(table, journal, &mut words, bytes, head, Query::WriteImage);
+    *count = value_of(answer, *count);
+    code_of(answer)
+}
+
+// Writes the image of a state to the start of the bytes, and its length to `count`.
+#[no_mangle]
+pub extern "C" fn cechnuol_write_state_image(
+    table: &[u64],
+    journal: &[u64],
+    head: &[u64; HEAD_WORDS],
+    state: u32,
+    bytes: &mut [u8],
+    count: &mut u64,
+) -> u64
+    ensures { λ r. ⌜ Tells (now (table .entry)) (now (journal .entry)) [] (now (bytes .entry)) (now (head .entry))
+        (writeStateImage state) r (now (count .exit)) (now (count .entry))
+        × (now (bytes .exit)
+        ≡ bytesWritten (now (table .entry)) (now (journal .entry)) [] (now (bytes .entry)) (now (head .entry))
+        (writeStateImage state)) ⌝ }
+{
+    let mut words = [0u64; 0];
+    let answer = ask_on(
+        table,
+        journal,
+        &mut words,
+        bytes,
+        head,
+        Query::WriteStateImage(state),
+    );
     *count = value_of(answer, *count);
     code_of(answer)
 }

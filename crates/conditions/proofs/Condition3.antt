@@ -1,5 +1,6 @@
 -- Condition 3, proved.
 -- Assumes nothing.
+use mathlib.Core.Path.{refl}
 use Rattle.conditions.specs.CCalls.{CallOnStoreC, memoryAfter, tellsC, CLoads, lengthsC}
 use Rattle.conditions.specs.Serving.{CallOnStore, handed, tells, lengthsIn, Loads}
 use Rattle.conditions.specs.Condition3.{Condition3}
@@ -9,6 +10,9 @@ use Rattle.conditions.proofs.ServeRuns.{Follows, store-steps, loads-as-
 
 pub condition-3 : Condition3
 condition-3 = record {
+  bytes-not-compared = λ named list a b. refl;
+  caller-not-compared = λ a b slot offer n list. (refl, refl, refl, refl);
+  flushes-apart = λ n. refl;
   serve-loads-as-plain = loads-as-plain;
   c-loads-as-plain = loads-c-as-plain;
   serve-answers-as-plain = answers CallOnStore handed tells Loads lengthsIn Follows store-steps starts;

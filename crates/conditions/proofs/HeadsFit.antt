@@ -26,8 +26,9 @@ use Rattle.views.specs.Trim.{floorOf, goneSteps, goneWords, movedEnds, trimmedH
 use Rattle.views.proofs.Laid.{padded-length}
 use Rattle.views.proofs.SlotLists.{least-up-to}
 use Rattle.slots.specs.Slots.{opened, closedAt}
-use Rattle.snapshot.specs.Snapshots.{imageHere}
 use Rattle.snapshot.specs.Fresh.{freshHead}
+use Rattle.exports.specs.Export.{imageHere}
+use Rattle.restarts.specs.Restart.{restartImage}
 use Rattle.commits.specs.Commit.{usedOf, withStep}
 use Rattle.commits.proofs.CommitAccepted.{commit-ok, end-small}
 use Rattle.rollbacks.specs.RollBack.{keptOf, cutTo}
@@ -157,6 +158,12 @@ number-low bytes h =
     let few : length (take 4 bytes) ≤ 4 = simp (length-take) (omega arith) in
     omega (arith, value-small (take 4 bytes) (all-take Byte 4 bytes h), four-bytes (length (take 4 bytes)) few)
 
+-- the number in the image that a restart loads back
+number-is : (table journal : List ℕ) (head : Head) → head .checkpoint < limit
+    → numberIn (restartImage table journal head) ≡ head .checkpoint
+unfolding imageHere
+number-is table journal head small = image-number (head .checkpoint) (mapHere table journal head (head .checkpoint)) small
+
 by-check : (l : Lent) (c : Check) (made : Left) → Fits (l .head) → (c ≡ Passed → Fits (made .lent .head))
     → Fits (settledBy c made l .lent .head)
 by-check l Passed made f g = g refl
@@ -167,9 +174,9 @@ module _ (l : Lent) (f : Fits (l .head)) (bytes : All Byte (l .bytes)) where
   accepted-fits (Reset Clear) e = fits-fresh 0 0 (omega arith)
   accepted-fits (Reset Load) e = fits-fresh (countIn (l .bytes)) (numberIn (l .bytes)) (number-low (l .bytes) bytes)
   accepted-fits (Reset Restart) e =
-      let image = imageHere (l .table) (l .head) in
+      let image = restartImage (l .table) (l .journal) (l .head) in
       fits-fresh (countIn image) (numberIn image)
-      (subst (λ (n : ℕ). n < limit) (sym (image-number (l .head .checkpoint) (take (l .head .used) (l .table)) (f .checkpoint-low)))
+      (subst (λ (n : ℕ). n < limit) (sym (number-is (l .table) (l .journal) (l .head) (f .checkpoint-low)))
       (f .checkpoint-low))
   accepted-fits (Step Commit) e =
       let ok = commit-ok (l .table) (l .journal) (l .head) (l .words) e in

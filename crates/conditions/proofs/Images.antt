@@ -1,85 +1,213 @@
 -- Images, proved of the calls.
 -- Assumes nothing.
 use mathlib.Core.Path.{_≡_, refl, sym, ap, ap₂, subst, _∙_}
-use mathlib.Core.Bool.{true}
+use mathlib.Core.Bool.{true, not}
 use mathlib.Core.List.{List, _++_}
 use Prim.Native.Nat.{ℕ, _+_, _*_, _^_, _≤_, _<_}
+use native.Mathlib.Decide.{decLt}
 use native.Mathlib.Omega.{arith}
+use borrow.Author.Tests.{lt-ltb, le-ltb}
 use lib.ListN.{length, take, drop, replicate}
 use lib.Seq.{take-at}
 use Rattle.changes.specs.Lists.{All}
 use Rattle.answers.specs.declared.answer.Answer.{Answer}
-use Rattle.answers.specs.declared.answer.Check.the-variants.{Passed}
-use Rattle.answers.specs.declared.call.Call.the-variants.{Reset}
+use Rattle.answers.specs.declared.answer.Answer.the-variants.{Count, Done as Accepted}
+use Rattle.answers.specs.declared.answer.Check.{Check}
+use Rattle.answers.specs.declared.answer.Check.the-variants.{Passed, Refused}
+use Rattle.answers.specs.declared.call.Call.the-variants.{Reset, Ask}
 use Rattle.answers.specs.declared.call.Query.the-variants.{WriteImage}
 use Rattle.answers.specs.declared.call.Reset.the-variants.{Load, Restart}
-use Rattle.answers.specs.Answers.{Said, accepted, saidBy, valueIn, acceptedB}
-use Rattle.answers.proofs.Firsts.{new-is}
+use Rattle.answers.specs.declared.ground.Ground.the-variants.{StateRange}
+use Rattle.answers.specs.First.{Test, first}
+use Rattle.answers.specs.Answers.{Said, accepted, refused, saidBy, valueIn, groundIn, acceptedB, answered}
+use Rattle.answers.proofs.Firsts.{first-met, first-not, new-is}
 use Rattle.image.specs.Bytes.{Byte}
-use Rattle.image.specs.Image.{countIn, numberIn, wordsIn}
+use Rattle.image.specs.Image.{imageOf, countIn, numberIn, wordsIn}
 use Rattle.image.proofs.RoundTrip.{image-length}
 use Rattle.layout.specs.declared.head.Head.{Head}
+use Rattle.layout.specs.declared.head.Reply.{Reply}
+use Rattle.soundness.specs.Checks.{stateGrounds}
 use Rattle.views.specs.Laid.{padded}
+use Rattle.views.specs.View.{Shaped}
+use Rattle.views.proofs.SoundFacts.{shaped}
+use Rattle.state_maps.specs.Held.{HeldState}
 use Rattle.snapshot.specs.Fresh.{freshHead}
-use Rattle.snapshot.specs.Snapshots.{loadCheck, loadTable, loadJournal, loadHead, writeCheck, writeAnswer, imageHere}
-use Rattle.snapshot.proofs.ImagesAccepted.{WriteOk, write-ok, used-long, count-back}
-use Rattle.snapshot.proofs.Theorems.{written-loads, written-same, load-then-write, load-then-write-count, load-then-write-bytes}
-use Rattle.head_words.specs.HeadWords.{headB}
+use Rattle.snapshot.specs.Snapshots.{loadCheck, loadTable, loadJournal, loadHead}
+use Rattle.exports.specs.Export.{imageHere, imageSize, imageOver, roomGrounds, writeCheck, writeAnswer}
+use Rattle.exports.proofs.ImagesWritten.{write-ok, reads-back, count-back}
+use Rattle.exports.proofs.Theorems.{written-loads, written-too-large, load-then-write, load-then-write-count, load-then-write-bytes}
+use Rattle.exports.proofs.Writing.{but-room, held-passes, tip-check}
+use Rattle.restarts.specs.Restart.{restartCheck}
+use Rattle.restarts.proofs.Restarting.{names-checkpoint, number-back, words-back, count-back as restart-count}
+use Rattle.head_words.specs.HeadWords.{headB, Fits}
 use Rattle.head_words.proofs.Theorems.{words-fits}
 use Rattle.lent.specs.Codes.{codeOf, valueOf}
-use Rattle.unit.specs.Carried.{Carried, next}
+use Rattle.answers.specs.Counts.{tallyAfter}
+use Rattle.calls.specs.Lent.{Left, settledBy}
+use Rattle.unit.specs.Carried.{Carried, lentTo, next}
+use Rattle.unit.specs.Serve.{replyOf}
 use Rattle.conditions.specs.CCalls.{Memory, carriedIn, Result, CallOfC, CLoads}
 use Rattle.conditions.specs.Runs.{lending}
 use Rattle.conditions.specs.Serving.{Seen, CallOfServe, handed, loading, Loads}
-use Rattle.conditions.specs.Images.{writing, imageLeft, mapIn, Holds, IsLoaded, Images}
+use Rattle.conditions.specs.Images.{Naming, noState, state, queryFor, writing, imageLeft, mapIn, mapAt, namedAt}
+use Rattle.conditions.specs.Images.{IsSound, Holds, TooSmall, IsLoaded, Images}
 use Rattle.conditions.proofs.CCalls.{StandsFor, code-is, code-asked, value-asked, bytes-asked, carried-is, head-fits}
 use Rattle.conditions.proofs.CCalls.{code-accepted, unfit-code, accepted-anew, stands-anew}
 use Rattle.conditions.proofs.Serves.{meant, Done, passed, done, seenOf, serves-seen, next-is}
 
-module _ (k : Carried) (words out : List ℕ) (s : Seen) (serves : CallOfServe k (writing words out) s)
-    (y : acceptedB (s .reply .answer) ≡ true) (small : k .head .checkpoint < 2 ^ 32) where
+-- the check of a writing, and the answer by it
+abbrev checkAt : Carried → ℕ → ℕ → Check
+checkAt k n room = writeCheck (k .table) (k .journal) (k .head) n room
+
+answer-by : (k : Carried) (naming : Naming) (words out : List ℕ) (s : Seen) → CallOfServe k (writing naming words out) s
+    → s .reply .answer ≡ writeAnswer (k .table) (k .journal) (k .head) (namedAt k naming) (length out)
+answer-by k noState words out s serves =
+    ap (λ (r : Reply). r .answer) (serves .0 .0)
+    ∙ ap (λ (c : Check). answered c (Count (imageSize (k .table) (k .journal) (k .head) (k .head .tip))))
+    (sym (tip-check (k .table) (k .journal) (k .head) (length out)))
+answer-by k (state n) words out s serves = ap (λ (r : Reply). r .answer) (serves .0 .0)
+
+-- what is seen of a writing that is accepted
+record Wrote (k : Carried) (n : ℕ) (words out : List ℕ) (s : Seen) : Type 0 where
+  answer : s .reply .answer ≡ Count (imageSize (k .table) (k .journal) (k .head) n)
+  bytes : s .bytes ≡ imageOver (k .table) (k .journal) (k .head) n out
+  same-words : s .words ≡ words
+
+wrote : (k : Carried) (naming : Naming) (words out : List ℕ) (s : Seen) → CallOfServe k (writing naming words out) s
+    → checkAt k (namedAt k naming) (length out) ≡ Passed → Wrote k (namedAt k naming) words out s
+wrote k noState words out s serves e =
+    let d = done k (writing noState words out) s serves (sym (tip-check (k .table) (k .journal) (k .head) (length out)) ∙ e) in
+    record { answer = d .answer; bytes = d .bytes; same-words = d .words }
+wrote k (state n) words out s serves e =
+    let d = done k (writing (state n) words out) s serves e in
+    record { answer = d .answer; bytes = d .bytes; same-words = d .words }
+
+was-passed : (k : Carried) (naming : Naming) (words out : List ℕ) (s : Seen) → CallOfServe k (writing naming words out) s
+    → acceptedB (s .reply .answer) ≡ true → checkAt k (namedAt k naming) (length out) ≡ Passed
+was-passed k noState words out s serves y =
+    tip-check (k .table) (k .journal) (k .head) (length out) ∙ passed k (writing noState words out) s serves y
+was-passed k (state n) words out s serves y = passed k (writing (state n) words out) s serves y
+
+-- the states that are kept, and the others
+module _ (k : Carried) (n : ℕ) (words out : List ℕ) (s : Seen) (sound : IsSound k)
+    (serves : CallOfServe k (writing (state n) words out) s) where
+  module _ (low : k .head .checkpoint ≤ n) (high : n ≤ k .head .tip) where
+    kept : HeldState (k .table) (k .journal) (k .head) n
+    kept = record { lengths = sound .lengths; sound = sound .sound; low = low; high = high }
+
+    pub writes-kept : 6 + 8 * length (mapAt k n) ≤ length out
+        → (saidBy (s .reply .answer) ≡ accepted (6 + 8 * length (mapAt k n)))
+        × (s .bytes ≡ imageOf n (mapAt k n) ++ drop (6 + 8 * length (mapAt k n)) out)
+        × (s .words ≡ words)
+    unfolding imageHere imageSize
+    writes-kept room =
+        let w = wrote k (state n) words out s serves
+        (held-passes (k .table) (k .journal) (k .head) n out kept (length out) room) in
+        (ap saidBy (w .answer), w .bytes, w .same-words)
+
+    pub refuses-short : length out < 6 + 8 * length (mapAt k n) → saidBy (s .reply .answer) ≡ refused 17
+    unfolding imageSize
+    refuses-short short =
+        let e = but-room (k .table) (k .journal) (k .head) n out kept (length out)
+        ∙ first-met _ _ _ (lt-ltb (length out) (6 + 8 * length (mapAt k n)) short) in
+        ap saidBy (answer-by k (state n) words out s serves ∙ ap (λ (c : Check). answered c (Count (6 + 8 * length (mapAt k n)))) e)
+
+  pub refuses-other : (k .head .checkpoint ≤ n → n ≤ k .head .tip → ⊥) → saidBy (s .reply .answer) ≡ refused 11
+  refuses-other not-kept =
+      ap saidBy
+      (answer-by k (state n) words out s serves
+      ∙ ap (λ (c : Check). answered c (Count (imageSize (k .table) (k .journal) (k .head) n)))
+      (past-store ∙ by (decLt n (k .head .checkpoint))))
+    where
+      rest : List Test
+      rest = stateGrounds (k .head) n ++ roomGrounds (k .table) (k .journal) (k .head) n (length out)
+
+      past-store : checkAt k n (length out) ≡ first rest
+      past-store = first-not _ _ _ (ap not (sound .lengths)) ∙ first-not _ _ _ (ap not (sound .sound))
+
+      by : Dec (n < k .head .checkpoint) → first rest ≡ Refused StateRange
+      by (yes l) = first-met _ _ _ (lt-ltb n (k .head .checkpoint) l)
+      by (no l) =
+          let low : k .head .checkpoint ≤ n = omega arith in
+          first-not _ _ _ (le-ltb n (k .head .checkpoint) low)
+          ∙ first-met _ _ _ (lt-ltb (k .head .tip) n (above (decLt (k .head .tip) n)))
+        where
+          above : Dec (k .head .tip < n) → k .head .tip < n
+          above (yes h) = h
+          above (no h) = absurd (not-kept (omega arith) (omega arith))
+
+-- no state named is the tip named
+pub unnamed : (k : Carried) (words out : List ℕ) (s t : Seen) → CallOfServe k (writing noState words out) s
+    → CallOfServe k (writing (state (k .head .tip)) words out) t → s ≡ t
+unnamed k words out s t f g =
+    let e = tip-check (k .table) (k .journal) (k .head) (length out) in
+    let l = lentTo k (writing noState words out) in
+    let made = meant k (writing noState words out) .accepted in
+    let left : Check → Left = λ (c : Check). settledBy c made l in
+    let seen : Check → Seen = λ (c : Check). record {
+      reply = replyOf (left c);
+      tally = tallyAfter (k .tally) (k .head .checkpoint) (k .head .tip) (Ask WriteImage) (left c .answer);
+      table = left c .lent .table;
+      journal = left c .lent .journal;
+      words = left c .lent .words;
+      bytes = left c .lent .bytes;
+    } in
+    (λ i. record { reply = f .0 .0 i; tally = f .1 i; table = f .2 i; journal = f .3 i; words = f .4 i; bytes = f .5 i })
+    ∙ ap seen (sym e)
+    ∙ sym (λ i. record { reply = g .0 .0 i; tally = g .1 i; table = g .2 i; journal = g .3 i; words = g .4 i; bytes = g .5 i })
+
+-- What an accepted call writes, loaded elsewhere.
+module _ (k : Carried) (naming : Naming) (words out : List ℕ) (s : Seen) (serves : CallOfServe k (writing naming words out) s)
+    (y : acceptedB (s .reply .answer) ≡ true) (p : Shaped (k .head)) (small : namedAt k naming < 2 ^ 32) where
+  abbrev n : ℕ
+  n = namedAt k naming
+
   abbrev image : List ℕ
-  image = imageHere (k .table) (k .head)
+  image = imageHere (k .table) (k .journal) (k .head) n
 
-  check : writeCheck (k .table) (k .journal) (k .head) (length out) ≡ Passed
-  check = passed k (writing words out) s serves y
+  check : checkAt k n (length out) ≡ Passed
+  check = was-passed k naming words out s serves y
 
-  ok : WriteOk (k .table) (k .journal) (k .head) (length out)
-  ok = write-ok (k .table) (k .journal) (k .head) (length out) check
+  held : HeldState (k .table) (k .journal) (k .head) n
+  held = write-ok (k .table) (k .journal) (k .head) n (length out) check .held
 
   -- the bytes by the count are the image
   image-written : imageLeft s ≡ image
+  unfolding imageHere imageSize
   image-written =
-      let d = done k (writing words out) s serves check in
-      let size = 6 + 8 * k .head .used in
-      let long : length image ≡ size = image-length (k .head .checkpoint) (mapIn k) ∙ ap (λ (n : ℕ). 6 + 8 * n) (used-long ok) in
-      ap₂ (λ (a : Answer) (b : List ℕ). take (valueIn (saidBy a)) b) (d .answer) (d .bytes) ∙ take-at image (drop size out) size long
+      let w = wrote k naming words out s serves check in
+      ap₂ (λ (a : Answer) (b : List ℕ). take (valueIn (saidBy a)) b) (w .answer) (w .bytes)
+      ∙ take-at image (drop (6 + 8 * length (mapAt k n)) out) (6 + 8 * length (mapAt k n)) (image-length n (mapAt k n))
 
-  module _ (k′ : Carried) (words′ : List ℕ) (s′ : Seen) (h : Holds k′ (mapIn k))
-      (loads : CallOfServe k′ (loading words′ (imageLeft s)) s′) where
+  module _ (k′ : Carried) (words′ : List ℕ) (s′ : Seen) (loads : CallOfServe k′ (loading words′ (imageLeft s)) s′) where
     same : CallOfServe k′ (loading words′ image) s′
     same = subst (λ (b : List ℕ). CallOfServe k′ (loading words′ b) s′) image-written loads
 
-    loads-check : loadCheck (k′ .table) (k′ .journal) image ≡ Passed
-    loads-check =
-        written-loads (k .table) (k .journal) (k .head) (length out) check small (length (k′ .table)) (length (k′ .journal)) (h .range)
-        (omega (arith, used-long ok, h .room))
+    pub too-large : TooSmall k′ (mapAt k n) → saidBy (s′ .reply .answer) ≡ refused 16
+    too-large small′ =
+        let e = written-too-large (k .table) (k .journal) (k .head) n p held small (length (k′ .table)) (length (k′ .journal))
+        (small′ .range) (small′ .short) in
+        ap saidBy (ap (λ (r : Reply). r .answer) (same .0 .0) ∙ ap (λ (c : Check). answered c Accepted) e)
 
-    loaded : Done (meant k′ (loading words′ image) .accepted) s′
-    loaded = done k′ (loading words′ image) s′ same loads-check
+    module _ (h : Holds k′ (mapAt k n)) where
+      loads-check : loadCheck (k′ .table) (k′ .journal) image ≡ Passed
+      loads-check =
+          written-loads (k .table) (k .journal) (k .head) n p held small (length (k′ .table)) (length (k′ .journal)) (h .range)
+          (h .room)
 
-    read-back : (numberIn image ≡ k .head .checkpoint) × (wordsIn image ≡ mapIn k)
-    read-back = written-same (k .table) (k .journal) (k .head) (length out) check small
+      loaded : Done (meant k′ (loading words′ image) .accepted) s′
+      loaded = done k′ (loading words′ image) s′ same loads-check
 
-    pub as-written : (acceptedB (s′ .reply .answer) ≡ true) × IsLoaded k′ (handed s′) (mapIn k) (k .head .checkpoint)
-    as-written = (
-      ap acceptedB (loaded .answer),
-      record {
-        table = loaded .table ∙ ap (padded (length (k′ .table))) (read-back .1);
-        journal = loaded .journal;
-        head = loaded .head ∙ ap₂ freshHead (count-back ok small ∙ sym (used-long ok)) (read-back .0);
-      },
-    )
+      pub as-written : (acceptedB (s′ .reply .answer) ≡ true) × IsLoaded k′ (handed s′) (mapAt k n) n
+      as-written =
+          let back = reads-back p held small in (
+            ap acceptedB (loaded .answer),
+            record {
+              table = loaded .table ∙ ap (padded (length (k′ .table))) (back .2);
+              journal = loaded .journal;
+              head = loaded .head ∙ ap₂ freshHead (count-back p held small) (back .1);
+            },
+          )
 
 module _ (k : Carried) (image : List ℕ) (s : Seen) (bytes : All Byte image) (loads : Loads k image s) where
   load-check : loadCheck (k .table) (k .journal) image ≡ Passed
@@ -107,115 +235,155 @@ module _ (k : Carried) (image : List ℕ) (s : Seen) (bytes : All Byte image) (l
   head-is = left .head ∙ sym (new-is load-check (freshHead (countIn image) (numberIn image)) (k .head))
 
   module _ (words out : List ℕ) (s′ : Seen) (room : length image ≤ length out)
-      (serves : CallOfServe (handed s) (writing words out) s′) where
-    write-check : writeCheck (s .table) (s .journal) (s .reply .head) (length out) ≡ Passed
+      (serves : CallOfServe (handed s) (writing noState words out) s′) where
+    write-check : checkAt (handed s) (s .reply .head .tip) (length out) ≡ Passed
     write-check =
-        (λ i. writeCheck (table-is i) (journal-is i) (head-is i) (length out))
+        (λ i. writeCheck (table-is i) (journal-is i) (head-is i) (head-is i .tip) (length out))
         ∙ load-then-write (k .table) (k .journal) image out (k .head) bytes load-check room
-
-    back : Done (meant (handed s) (writing words out) .accepted) s′
-    back = done (handed s) (writing words out) s′ serves write-check
 
     pub written-back : (saidBy (s′ .reply .answer) ≡ accepted (length image)) × (s′ .bytes ≡ image ++ drop (length image) out)
     written-back = (
-      ap (λ (r : Answer). saidBy r)
-          (ap (λ r. r .answer) (serves .0 .0)
-          ∙ (λ i. writeAnswer (table-is i) (journal-is i) (head-is i) (length out))
+      ap saidBy
+          (answer-by (handed s) noState words out s′ serves
+          ∙ (λ i. writeAnswer (table-is i) (journal-is i) (head-is i) (head-is i .tip) (length out))
           ∙ load-then-write-count (k .table) (k .journal) image out (k .head) bytes load-check room),
-      back .bytes
-          ∙ (λ i. imageHere (table-is i) (head-is i) ++ drop (6 + 8 * head-is i .used) out)
-          ∙ sym (new-is (load-then-write (k .table) (k .journal) image out (k .head) bytes load-check room)
-          (imageHere T H ++ drop (6 + 8 * H .used) out) out)
+      wrote (handed s) noState words out s′ serves write-check .bytes
+          ∙ (λ i. imageOver (table-is i) (journal-is i) (head-is i) (head-is i .tip) out)
           ∙ load-then-write-bytes (k .table) (k .journal) image out (k .head) bytes load-check room,
     )
 
--- A restart: its grounds are those of writing the image.
-module _ (k : Carried) (words out : List ℕ) (s : Seen) (serves : CallOfServe k (lending (Reset Restart) words out) s)
-    (y : acceptedB (s .reply .answer) ≡ true) (small : k .head .checkpoint < 2 ^ 32) where
-  restart-check : writeCheck (k .table) (k .journal) (k .head) (length out) ≡ Passed
-  restart-check = passed k (lending (Reset Restart) words out) s serves y
+-- A restart: its grounds are those of writing the checkpoint's image.
+module _ (k : Carried) (words out : List ℕ) (s : Seen) (serves : CallOfServe k (lending (Reset Restart) words out) s) where
+  abbrev named : Check
+  named = checkAt k (k .head .checkpoint) (length out)
 
-  restarted : Done (meant k (lending (Reset Restart) words out) .accepted) s
-  restarted = done k (lending (Reset Restart) words out) s serves restart-check
+  ground-alike : (c : Check) (a b : Answer) → groundIn (saidBy a) ≡ 0 → groundIn (saidBy b) ≡ 0
+      → groundIn (saidBy (answered c a)) ≡ groundIn (saidBy (answered c b))
+  ground-alike Passed a b e f = e ∙ sym f
+  ground-alike (Refused g) a b e f = refl
 
-  restart-ok : WriteOk (k .table) (k .journal) (k .head) (length out)
-  restart-ok = write-ok (k .table) (k .journal) (k .head) (length out) restart-check
+  pub restart-alike : (words′ : List ℕ) (w : Seen) → CallOfServe k (writing (state (k .head .checkpoint)) words′ out) w
+      → groundIn (saidBy (s .reply .answer)) ≡ groundIn (saidBy (w .reply .answer))
+  restart-alike words′ w writes =
+      let size = imageSize (k .table) (k .journal) (k .head) (k .head .checkpoint) in
+      ap (λ (r : Reply). groundIn (saidBy (r .answer))) (serves .0 .0)
+      ∙ ap (λ (c : Check). groundIn (saidBy (answered c Accepted))) (sym (names-checkpoint (k .table) (k .journal) (k .head) (length out)))
+      ∙ ground-alike named Accepted (Count size) refl refl
+      ∙ sym (ap (λ (a : Answer). groundIn (saidBy a)) (answer-by k (state (k .head .checkpoint)) words′ out w writes))
 
-  same-bytes : (words′ : List ℕ) (w : Seen) → CallOfServe k (writing words′ out) w → (acceptedB (w .reply .answer) ≡ true)
-      × (s .bytes ≡ w .bytes)
-  same-bytes words′ w writes =
-      let d = done k (writing words′ out) w writes restart-check in
-      (ap acceptedB (d .answer), restarted .bytes ∙ sym (d .bytes))
+  module _ (y : acceptedB (s .reply .answer) ≡ true) (small : k .head .checkpoint < 2 ^ 32) where
+    restart-check : restartCheck (k .table) (k .journal) (k .head) (length out) ≡ Passed
+    restart-check = passed k (lending (Reset Restart) words out) s serves y
 
-  pub restart-as-written : ((words′ : List ℕ) (w : Seen) → CallOfServe k (writing words′ out) w
-      → (acceptedB (w .reply .answer) ≡ true) × (s .bytes ≡ w .bytes))
-      × IsLoaded k (handed s) (mapIn k) (k .head .checkpoint)
-  restart-as-written =
-      let read = written-same (k .table) (k .journal) (k .head) (length out) restart-check small in (
-        same-bytes,
-        record {
-          table = restarted .table ∙ ap (padded (length (k .table))) (read .1);
-          journal = restarted .journal;
-          head = restarted .head ∙ ap₂ freshHead (count-back restart-ok small ∙ sym (used-long restart-ok)) (read .0);
-        },
-      )
+    restarted : Done (meant k (lending (Reset Restart) words out) .accepted) s
+    restarted = done k (lending (Reset Restart) words out) s serves restart-check
+
+    same-bytes : (words′ : List ℕ) (w : Seen) → CallOfServe k (writing (state (k .head .checkpoint)) words′ out) w
+        → (acceptedB (w .reply .answer) ≡ true) × (s .bytes ≡ w .bytes)
+    same-bytes words′ w writes =
+        let d = wrote k (state (k .head .checkpoint)) words′ out w writes
+        (names-checkpoint (k .table) (k .journal) (k .head) (length out) ∙ restart-check) in
+        (ap acceptedB (d .answer), restarted .bytes ∙ sym (d .bytes))
+
+    pub restart-as-written : ((words′ : List ℕ) (w : Seen) → CallOfServe k (writing (state (k .head .checkpoint)) words′ out) w
+        → (acceptedB (w .reply .answer) ≡ true) × (s .bytes ≡ w .bytes))
+        × (s .words ≡ words)
+        × IsLoaded k (handed s) (mapIn k) (k .head .checkpoint)
+    restart-as-written =
+        let back = words-back (k .table) (k .journal) (k .head) (length out) restart-check small in
+        let number = number-back (k .table) (k .journal) (k .head) (length out) restart-check small in
+        let count = restart-count (k .table) (k .journal) (k .head) (length out) restart-check small in (
+          same-bytes,
+          restarted .words,
+          record {
+            table = restarted .table ∙ ap (padded (length (k .table))) back;
+            journal = restarted .journal;
+            head = restarted .head ∙ ap₂ freshHead count number;
+          },
+        )
 
 -- The same of the C functions.
-module _ (m : Memory) (words out : List ℕ) (r : Result) (c : CallOfC m (writing words out) r) (e : r .code ≡ 0) where
+module _ (m : Memory) (naming : Naming) (words out : List ℕ) (r : Result) (c : CallOfC m (writing naming words out) r)
+    (e : r .code ≡ 0) where
   abbrev k : Carried
   k = carriedIn m
 
   abbrev s : Seen
-  s = seenOf k (writing words out)
+  s = seenOf k (writing naming words out)
 
   fit : headB (m .head) ≡ true
   fit = unfit-code m words out r (headB (m .head)) _ (sym (c .promise .0 .0) ∙ e)
 
   accepted-c : acceptedB (s .reply .answer) ≡ true
-  accepted-c = code-accepted (s .reply .answer) (sym (code-asked m words out r WriteImage (c .promise) fit) ∙ e)
+  accepted-c = code-accepted (s .reply .answer) (sym (code-asked m words out r (queryFor naming) (c .promise) fit) ∙ e)
 
-  small-c : k .head .checkpoint < 2 ^ 32
-  small-c = words-fits (m .head) (c .head-words) .checkpoint-low
+  fits : Fits (k .head)
+  fits = words-fits (m .head) (c .head-words)
+
+  shape : Shaped (k .head)
+  shape = shaped (k .head) (fits .eight-taken) (fits .eight-issued) (fits .all-ends)
+
+  check-c : checkAt k (namedAt k naming) (length out) ≡ Passed
+  check-c = was-passed k naming words out s (serves-seen k (writing naming words out)) accepted-c
+
+  -- a state that is kept is at most the tip, which has 32 bits
+  small-c : namedAt k naming < 2 ^ 32
+  small-c =
+      omega (
+        arith,
+        write-ok (k .table) (k .journal) (k .head) (namedAt k naming) (length out) check-c .held .high,
+        fits .tip-low,
+      )
 
   count-c : r .value ≡ valueIn (saidBy (s .reply .answer))
   count-c =
-      let d = done k (writing words out) s (serves-seen k (writing words out))
-      (passed k (writing words out) s (serves-seen k (writing words out)) accepted-c) in
-      value-asked m words out r WriteImage (c .promise) fit
-      ∙ ap (λ (a : Answer). valueOf (saidBy a) (r .before)) (d .answer)
-      ∙ sym (ap (λ (a : Answer). valueIn (saidBy a)) (d .answer))
+      let w = wrote k naming words out s (serves-seen k (writing naming words out)) check-c in
+      value-asked m words out r (queryFor naming) (c .promise) fit
+      ∙ ap (λ (a : Answer). valueOf (saidBy a) (r .before)) (w .answer)
+      ∙ sym (ap (λ (a : Answer). valueIn (saidBy a)) (w .answer))
 
   bytes-c : take (r .value) (r .bytes) ≡ imageLeft s
-  bytes-c = ap₂ (λ (n : ℕ) (b : List ℕ). take n b) count-c (bytes-asked m words out r WriteImage (c .promise) fit)
+  bytes-c = ap₂ (λ (n : ℕ) (b : List ℕ). take n b) count-c (bytes-asked m words out r (queryFor naming) (c .promise) fit)
 
-  module _ (m′ : Memory) (words′ : List ℕ) (r′ : Result) (h : Holds (carriedIn m′) (mapIn k))
-      (loads : CallOfC m′ (loading words′ (take (r .value) (r .bytes))) r′) where
+  module _ (m′ : Memory) (words′ : List ℕ) (r′ : Result) (loads : CallOfC m′ (loading words′ (take (r .value) (r .bytes))) r′) where
     abbrev s′ : Seen
     s′ = seenOf (carriedIn m′) (loading words′ (imageLeft s))
 
     same-c : CallOfC m′ (loading words′ (imageLeft s)) r′
     same-c = subst (λ (b : List ℕ). CallOfC m′ (loading words′ b) r′) bytes-c loads
 
-    loaded-c : (acceptedB (s′ .reply .answer) ≡ true) × IsLoaded (carriedIn m′) (handed s′) (mapIn k) (k .head .checkpoint)
-    loaded-c =
-        as-written k words out s (serves-seen k (writing words out)) accepted-c small-c (carriedIn m′) words′ s′ h
-        (serves-seen (carriedIn m′) (loading words′ (imageLeft s)))
+    code-s : r′ .code ≡ codeOf (saidBy (s′ .reply .answer))
+    code-s = code-is m′ words′ (imageLeft s) r′ (Reset Load) (same-c .promise) refl
 
-    code-c : r′ .code ≡ 0
-    code-c =
-        let a = loading words′ (imageLeft s) in
-        let d = done (carriedIn m′) a s′ (serves-seen (carriedIn m′) a)
-        (passed (carriedIn m′) a s′ (serves-seen (carriedIn m′) a) (loaded-c .0)) in
-        code-is m′ words′ (imageLeft s) r′ (Reset Load) (same-c .promise) refl
-        ∙ ap (λ (x : Answer). codeOf (saidBy x)) (d .answer)
+    pub too-large-c : TooSmall (carriedIn m′) (mapAt k (namedAt k naming)) → r′ .code ≡ 16
+    too-large-c t =
+        code-s
+        ∙ ap codeOf
+        (too-large k naming words out s (serves-seen k (writing naming words out)) accepted-c shape small-c (carriedIn m′) words′ s′
+        (serves-seen (carriedIn m′) (loading words′ (imageLeft s))) t)
 
-    pub as-written-c : (r′ .code ≡ 0) × IsLoaded (carriedIn m′) (carriedIn (r′ .memory)) (mapIn k) (k .head .checkpoint)
-    as-written-c =
-        let stands = stands-anew m′ Load words′ (imageLeft s) r′ same-c code-c in (
-          code-c,
-          subst (λ (x : Carried). IsLoaded (carriedIn m′) x (mapIn k) (k .head .checkpoint))
-              (next-is (carriedIn m′) (loading words′ (imageLeft s)) ∙ sym (carried-is (r′ .memory) _ stands)) (loaded-c .1),
-        )
+    module _ (h : Holds (carriedIn m′) (mapAt k (namedAt k naming))) where
+      loaded-c : (acceptedB (s′ .reply .answer) ≡ true)
+          × IsLoaded (carriedIn m′) (handed s′) (mapAt k (namedAt k naming)) (namedAt k naming)
+      loaded-c =
+          as-written k naming words out s (serves-seen k (writing naming words out)) accepted-c shape small-c (carriedIn m′) words′ s′
+          (serves-seen (carriedIn m′) (loading words′ (imageLeft s))) h
+
+      code-c : r′ .code ≡ 0
+      code-c =
+          let a = loading words′ (imageLeft s) in
+          let d = done (carriedIn m′) a s′ (serves-seen (carriedIn m′) a)
+          (passed (carriedIn m′) a s′ (serves-seen (carriedIn m′) a) (loaded-c .0)) in
+          code-s ∙ ap (λ (x : Answer). codeOf (saidBy x)) (d .answer)
+
+      pub as-written-c : (r′ .code ≡ 0)
+          × IsLoaded (carriedIn m′) (carriedIn (r′ .memory)) (mapAt k (namedAt k naming)) (namedAt k naming)
+      as-written-c =
+          let stands = stands-anew m′ Load words′ (imageLeft s) r′ same-c code-c in (
+            code-c,
+            subst (λ (x : Carried). IsLoaded (carriedIn m′) x (mapAt k (namedAt k naming)) (namedAt k naming))
+                (next-is (carriedIn m′) (loading words′ (imageLeft s)) ∙ sym (carried-is (r′ .memory) _ stands)) (loaded-c .1),
+          )
 
 module _ (m : Memory) (image : List ℕ) (r : Result) (l : CLoads m image r) where
   abbrev start : Carried
@@ -234,9 +402,10 @@ module _ (m : Memory) (image : List ℕ) (r : Result) (l : CLoads m image r) whe
   stands-c : StandsFor (r .memory) (next start (loading (l .words) image))
   stands-c = stands-anew m Load (l .words) image r (l .serves) (l .accepted)
 
-  module _ (words out : List ℕ) (r′ : Result) (room : length image ≤ length out) (c : CallOfC (r .memory) (writing words out) r′) where
+  module _ (words out : List ℕ) (r′ : Result) (room : length image ≤ length out)
+      (c : CallOfC (r .memory) (writing noState words out) r′) where
     abbrev next-seen : Carried → Seen
-    next-seen x = seenOf x (writing words out)
+    next-seen x = seenOf x (writing noState words out)
 
     fit-back : headB (r .memory .head) ≡ true
     fit-back = head-fits (r .memory) (next start (loading (l .words) image)) stands-c
@@ -248,23 +417,32 @@ module _ (m : Memory) (image : List ℕ) (r : Result) (l : CLoads m image r) whe
         × (next-seen (handed loaded-seen) .bytes ≡ image ++ drop (length image) out)
     said-back =
         written-back start image loaded-seen (l .serves .all-bytes) loads-c words out (next-seen (handed loaded-seen)) room
-        (serves-seen (handed loaded-seen) (writing words out))
+        (serves-seen (handed loaded-seen) (writing noState words out))
 
     pub written-back-c : (r′ .code ≡ 0) × (r′ .value ≡ length image) × (r′ .bytes ≡ image ++ drop (length image) out)
     written-back-c =
         let said = ap (λ (x : Carried). saidBy (next-seen x .reply .answer)) same-store ∙ said-back .0 in (
-          code-asked (r .memory) words out r′ WriteImage (c .promise) fit-back ∙ ap codeOf said,
-          value-asked (r .memory) words out r′ WriteImage (c .promise) fit-back ∙ ap (λ (x : Said). valueOf x (r′ .before)) said,
-          bytes-asked (r .memory) words out r′ WriteImage (c .promise) fit-back
+          code-asked (r .memory) words out r′ (queryFor noState) (c .promise) fit-back ∙ ap codeOf said,
+          value-asked (r .memory) words out r′ (queryFor noState) (c .promise) fit-back ∙ ap (λ (x : Said). valueOf x (r′ .before)) said,
+          bytes-asked (r .memory) words out r′ (queryFor noState) (c .promise) fit-back
               ∙ ap (λ (x : Carried). next-seen x .bytes) same-store
               ∙ said-back .1,
         )
 
 pub images : Images
 images = record {
-  written-loads = as-written;
+  writes-every-kept-state = λ k n words out s sound low high room serves. writes-kept k n words out s sound serves low high room;
+  refuses-other-states = λ k n words out s sound other serves. refuses-other k n words out s sound serves other;
+  refuses-short-bytes = λ k n words out s sound low high short serves. refuses-short k n words out s sound serves low high short;
+  no-state-is-the-tip = unnamed;
+  written-loads = λ k naming words out s serves y p small k′ words′ s′ h loads.
+      as-written k naming words out s serves y p small k′ words′ s′ loads h;
+  written-too-large = λ k naming words out s serves y p small k′ words′ s′ t loads.
+      too-large k naming words out s serves y p small k′ words′ s′ loads t;
   loaded-writes-back = written-back;
+  restart-refused-alike = λ k words words′ out s w serves writes. restart-alike k words out s serves words′ w writes;
   restart-writes-and-loads = restart-as-written;
-  c-written-loads = as-written-c;
+  c-written-loads = λ m naming words out r c e m′ words′ r′ h loads. as-written-c m naming words out r c e m′ words′ r′ loads h;
+  c-written-too-large = λ m naming words out r c e m′ words′ r′ t loads. too-large-c m naming words out r c e m′ words′ r′ loads t;
   c-loaded-writes-back = written-back-c;
 }

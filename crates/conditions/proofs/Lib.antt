@@ -18,4 +18,5 @@ pub mod Ranges
 pub mod Refusals
 pub mod Serves
 pub mod ServeRuns
+pub mod StoreTests
 pub mod Tallies

@@ -1,17 +1,18 @@
 -- A call by its grounds: where one is met it gives the number of the first and leaves all as it came, and where none is it is accepted.
 -- Assumes nothing.
 use mathlib.Core.Path.{_≡_, refl, sym, ap, _∙_}
-use mathlib.Core.Bool.{Bool, true, false}
-use mathlib.Core.List.{List, [], _∷_}
+use mathlib.Core.Bool.{Bool, true, false, cond}
+use mathlib.Core.List.{List, [], _∷_, _++_}
 use Prim.Native.Nat.{ℕ, _≤_}
 use native.Mathlib.Omega.{arith}
+use lib.ListN.{length}
 use Rattle.answers.specs.declared.answer.Answer.{Answer}
 use Rattle.answers.specs.declared.answer.Answer.the-variants.{Done, Price, NoPrice, Count, Refused as Away}
 use Rattle.answers.specs.declared.answer.Check.{Check}
 use Rattle.answers.specs.declared.answer.Check.the-variants.{Passed, Refused}
 use Rattle.answers.specs.declared.call.Call.{Call}
 use Rattle.answers.specs.declared.call.Call.the-variants.{Reset, Step, Read, Ask}
-use Rattle.answers.specs.declared.call.Query.the-variants.{LookUp, WriteImage}
+use Rattle.answers.specs.declared.call.Query.the-variants.{LookUp, WriteImage, WriteStateImage}
 use Rattle.answers.specs.declared.call.Read.the-variants.{Issue, Forward, Release}
 use Rattle.answers.specs.declared.call.Reset.the-variants.{Clear, Load, Restart}
 use Rattle.answers.specs.declared.call.Step.the-variants.{Commit, RollBack, Flush}
@@ -30,6 +31,8 @@ use Rattle.changes.specs.declared.search.Found.the-variants.{Word, Nothing}
 use Rattle.changes.specs.Calculus.{find}
 use Rattle.layout.specs.States.{mapHere}
 use Rattle.lookups.specs.LookUp.{quoteOf}
+use Rattle.soundness.specs.Checks.{lengthGrounds, storeGrounds}
+use Rattle.lent.specs.Lent.{testsStore}
 use Rattle.unit.specs.Carried.{Carried, Asked, lentTo}
 use Rattle.unit.proofs.Theorems.{refused-keeps}
 use Rattle.conditions.specs.Grounds.{highest, groundsOf, numbers, once, firstNumber, noneMet}
@@ -69,28 +72,40 @@ quote-granted : (found : Found) → acceptedB (quoteOf found) ≡ true
 quote-granted (Word w) = refl
 quote-granted Nothing = refl
 
--- each call: where it is accepted it answers what is no refusal, and its tests are those of the table
+-- grounds 1 and 2 stand before all others at a call that tests the store, and 1 at any
+pub record Begins (l : Lent) (both : Bool) (tests : List Test) : Type 0 where
+  pub rest : List Test
+  pub is : tests
+      ≡ cond both (storeGrounds (l .table) (l .journal) (l .head)) (lengthGrounds (length (l .table)) (length (l .journal))) ++ rest
+
+-- each call: where it is accepted it answers what is no refusal, its tests are those of the table, and they begin with those of the store
 by-table : (l : Lent) (call : Call)
-    → (acceptedB (meaning l call .accepted .answer) ≡ true) × (once (numbers (meaning l call .grounds)) ≡ groundsOf call)
+    → (acceptedB (meaning l call .accepted .answer) ≡ true)
+    × (once (numbers (meaning l call .grounds)) ≡ groundsOf call)
+    × Begins l (testsStore call) (meaning l call .grounds)
 unfolding once numbers
-by-table l (Reset Clear) = (refl, refl)
-by-table l (Reset Load) = (refl, refl)
-by-table l (Reset Restart) = (refl, refl)
-by-table l (Step Commit) = (refl, refl)
-by-table l (Step (RollBack state)) = (refl, refl)
-by-table l (Step (Flush state)) = (refl, refl)
-by-table l (Read (Issue reader)) = (refl, refl)
-by-table l (Read (Forward reader state)) = (refl, refl)
-by-table l (Read (Release reader)) = (refl, refl)
+by-table l (Reset Clear) = (refl, refl, record { rest = _; is = refl })
+by-table l (Reset Load) = (refl, refl, record { rest = _; is = refl })
+by-table l (Reset Restart) = (refl, refl, record { rest = _; is = refl })
+by-table l (Step Commit) = (refl, refl, record { rest = _; is = refl })
+by-table l (Step (RollBack state)) = (refl, refl, record { rest = _; is = refl })
+by-table l (Step (Flush state)) = (refl, refl, record { rest = _; is = refl })
+by-table l (Read (Issue reader)) = (refl, refl, record { rest = _; is = refl })
+by-table l (Read (Forward reader state)) = (refl, refl, record { rest = _; is = refl })
+by-table l (Read (Release reader)) = (refl, refl, record { rest = _; is = refl })
 by-table l (Ask (LookUp asked)) =
-    (quote-granted (find (asked .offer) (mapHere (l .table) (l .journal) (l .head) (asked .state))), refl)
-by-table l (Ask WriteImage) = (refl, refl)
+    (quote-granted (find (asked .offer) (mapHere (l .table) (l .journal) (l .head) (asked .state))), refl, record { rest = _; is = refl })
+by-table l (Ask WriteImage) = (refl, refl, record { rest = _; is = refl })
+by-table l (Ask (WriteStateImage state)) = (refl, refl, record { rest = _; is = refl })
 
 pub granted : (l : Lent) (call : Call) → acceptedB (meaning l call .accepted .answer) ≡ true
 granted l call = by-table l call .0
 
 pub tests-are : (l : Lent) (call : Call) → once (numbers (meaning l call .grounds)) ≡ groundsOf call
 tests-are l call = by-table l call .1
+
+pub begins : (l : Lent) (call : Call) → Begins l (testsStore call) (meaning l call .grounds)
+begins l call = by-table l call .2
 
 -- a call by its tests
 module _ (made : Left) (l : Lent) where

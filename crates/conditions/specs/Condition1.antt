@@ -26,9 +26,10 @@ use Rattle.execution.specs.Executing.{done, priced}
 use Rattle.batch.specs.Batches.{batchGrounds}
 use Rattle.changes.specs.Lists.{listB, noPutB}
 use Rattle.layout.specs.Clauses.{lengthsB}
+use Rattle.soundness.specs.Sound.{soundB}
 use Rattle.slots.specs.Callers.{readerOf}
 use Rattle.lent.specs.Codes.{noPrice}
-use Rattle.lent.specs.Lent.{fitB}
+use Rattle.lent.specs.Lent.{testsStore, fitB}
 use Rattle.unit.specs.Carried.{Carried, Asked, lentTo}
 use Rattle.conditions.specs.CCalls.{Memory, carriedIn, Result, CallOfC, UntouchedC, acceptedCode, groundCode, PricesC}
 use Rattle.conditions.specs.Grounds.{highest, groundsOf, numbers, once, firstNumber, noneMet}
@@ -69,6 +70,12 @@ pub record Condition1 : Type 0 where
       → CallOfServe k a s → groundIn (saidBy (s .reply .answer)) ≡ firstNumber (testsOf k a)
   -- the grounds that concern the call are those of the table, in its order
   pub tests-are-the-table : (k : Carried) (a : Asked) → once (numbers (testsOf k a)) ≡ groundsOf (a .call)
+  -- 1 at every call whose lengths are "outside its range", and then 2, "The store isn't sound (clear and load don't test this)."
+  pub lengths-first : (k : Carried) (a : Asked)
+      → lengthsB (length (k .table)) (length (k .journal)) ≡ false → firstNumber (testsOf k a) ≡ 1
+  pub soundness-second : (k : Carried) (a : Asked)
+      → testsStore (a .call) ≡ true → lengthsB (length (k .table)) (length (k .journal)) ≡ true
+      → soundB (k .table) (k .journal) (k .head) ≡ false → firstNumber (testsOf k a) ≡ 2
   -- the ends of the ranges, at both sides
   pub ranges : Ranges
   -- what an accepted call was lent: "A list breaks its rules" goes by the list of an issue and by the read set of a forward,

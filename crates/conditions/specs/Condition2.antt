@@ -15,6 +15,7 @@ use Rattle.views.specs.View.{Shaped}
 use Rattle.unit.specs.Carried.{Carried, Asked}
 use Rattle.lent.specs.Lent.{fitB}
 use Rattle.moments.specs.Callers.{deskAndFoyer}
+use Rattle.moments.specs.Images.{imagesOfStates}
 use Rattle.moments.specs.Moments.{computed, expected}
 use Rattle.moments.specs.Table.{twelve}
 use Rattle.conditions.specs.Batches.{Batches}
@@ -47,5 +48,6 @@ pub record Condition2 : Type 0 where
   pub c-layout : CLayout
   -- document 01's "Twelve moments at the counter", by the definitions and by the table
   pub moments : map computed twelve ≡ map expected twelve
-  -- and what document 02 says of desk and foyer
+  -- and what document 02 says of desk and foyer, and of the images of states
   pub desk-and-foyer : map computed deskAndFoyer ≡ map expected deskAndFoyer
+  pub images-of-states : map computed imagesOfStates ≡ map expected imagesOfStates

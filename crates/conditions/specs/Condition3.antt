@@ -11,7 +11,7 @@
 -- the lengths, the image and the calls' arguments, except a forward's read set, and nothing of the unit's memory or head.
 -- Assumes nothing.
 use mathlib.Core.Path.{_≡_}
-use mathlib.Core.List.{List}
+use mathlib.Core.List.{List, []}
 use Prim.Native.Nat.{ℕ}
 use lib.ListN.{length}
 use mathlib.Core.Bool.{true}
@@ -20,7 +20,8 @@ use Rattle.layout.specs.Clauses.{lengthsB}
 use Rattle.lent.specs.Codes.{codeOf}
 use Rattle.views.specs.View.{Limits}
 use Rattle.unit.specs.Carried.{Carried, Asked}
-use Rattle.history.specs.Named.{Named, Response, acceptedCalls, quotes}
+use Rattle.answers.specs.declared.call.Caller.{Caller}
+use Rattle.history.specs.Named.{Named, Response, calling, lookUp, issue, forward, release, flush, compared, acceptedCalls, quotes}
 use Rattle.history.specs.Plain.{loadChecked, loadedPlain}
 use Rattle.history.specs.Traces.{Asked as AskedIn3, plainResponses}
 use Rattle.conditions.specs.CCalls.{Memory, Result, CallOfC, CallOnStoreC, memoryAfter, tellsC, CLoads, lengthsC}
@@ -49,6 +50,14 @@ module _ {M S : Type 0} (Does : M → Asked → S → Type 0) (left : S → M) (
       → quotes (responsesIn tells turns₁) ≡ quotes (responsesIn tells turns₂)
 
 pub record Condition3 : Type 0 where
+  -- "the same calls": "an image's bytes aren't compared", nor is who calls, and "flushes apart"
+  pub bytes-not-compared : (named : Named) (list a b : List ℕ) → compared (calling named list a) ≡ compared (calling named list b)
+  pub caller-not-compared : (a b : Caller) (slot offer n : ℕ) (list : List ℕ)
+      → (compared (lookUp a offer n) ≡ compared (lookUp b offer n))
+      × (compared (issue a slot list) ≡ compared (issue b slot list))
+      × (compared (forward a slot n) ≡ compared (forward b slot n))
+      × (compared (release a slot) ≡ compared (release b slot))
+  pub flushes-apart : (n : ℕ) → compared (flush n) ≡ []
   -- a load into memory of lengths in range is accepted exactly when the plain list accepts it, and else refused by the same number
   pub serve-loads-as-plain : (k : Carried) (words image : List ℕ) (s : Seen)
       → lengthsB (length (k .table)) (length (k .journal)) ≡ true → CallOfServe k (loading words image) s

@@ -1,28 +1,42 @@
 -- Images, of condition 2: "every image written loads, into a book that holds it, as the same map and state number, and every image
--- accepted is written back byte for byte." The bytes are those that the calls leave and are lent.
+-- accepted is written back byte for byte."; and of document 02, Q-2. The bytes are those that the calls leave and are lent.
 -- Assumes nothing.
 use mathlib.Core.Path.{_≡_}
 use mathlib.Core.Bool.{true}
 use mathlib.Core.List.{List, _++_}
-use Prim.Native.Nat.{ℕ, _^_, _≤_, _<_}
+use Prim.Native.Nat.{ℕ, _+_, _*_, _^_, _≤_, _<_}
 use lib.ListN.{length, take, drop, replicate}
-use Rattle.answers.specs.Answers.{accepted, saidBy, valueIn, acceptedB}
+use Rattle.answers.specs.Answers.{accepted, refused, saidBy, valueIn, groundIn, acceptedB}
 use Rattle.changes.specs.Lists.{All}
 use Rattle.answers.specs.declared.call.Call.the-variants.{Reset, Ask}
 use Rattle.answers.specs.declared.call.Reset.the-variants.{Restart}
-use Rattle.answers.specs.declared.call.Query.the-variants.{WriteImage}
+use Rattle.answers.specs.declared.call.Query.{Query}
+use Rattle.answers.specs.declared.call.Query.the-variants.{WriteImage, WriteStateImage}
 use Rattle.image.specs.Bytes.{Byte}
+use Rattle.image.specs.Image.{imageOf}
 use Rattle.layout.specs.Clauses.{lengthsB}
+use Rattle.layout.specs.States.{mapHere}
+use Rattle.soundness.specs.Sound.{soundB}
 use Rattle.views.specs.Laid.{padded}
+use Rattle.views.specs.View.{Shaped}
 use Rattle.snapshot.specs.Fresh.{freshHead}
 use Rattle.unit.specs.Carried.{Carried, Asked}
 use Rattle.conditions.specs.CCalls.{Memory, carriedIn, Result, CallOfC, CLoads}
 use Rattle.conditions.specs.Runs.{lending}
 use Rattle.conditions.specs.Serving.{Seen, CallOfServe, handed, loading, Loads}
 
+-- the state that a call names, if it names one, and the query that it makes
+pub data Naming : Type 0 where
+  noState : Naming
+  state : ℕ → Naming
+
+abbrev pub queryFor : Naming → Query
+queryFor noState = WriteImage
+queryFor (state n) = WriteStateImage n
+
 -- an image that is written into bytes, with words that it has no use for
-abbrev pub writing : List ℕ → List ℕ → Asked
-writing words out = lending (Ask WriteImage) words out
+abbrev pub writing : Naming → List ℕ → List ℕ → Asked
+writing naming words out = lending (Ask (queryFor naming)) words out
 
 -- the bytes that an accepted writing of an image wrote, by its count
 abbrev pub imageLeft : Seen → List ℕ
@@ -32,10 +46,28 @@ imageLeft s = take (valueIn (saidBy (s .reply .answer))) (s .bytes)
 abbrev pub mapIn : Carried → List ℕ
 mapIn k = take (k .head .used) (k .table)
 
+-- the map at a state, and the state that is meant: "With no state named, the tip is now written"
+abbrev pub mapAt : Carried → ℕ → List ℕ
+mapAt k n = mapHere (k .table) (k .journal) (k .head) n
+
+abbrev pub namedAt : Carried → Naming → ℕ
+namedAt k noState = k .head .tip
+namedAt k (state n) = n
+
+-- a sound store in memory of lengths in range
+pub record IsSound (k : Carried) : Type 0 where
+  pub lengths : lengthsB (length (k .table)) (length (k .journal)) ≡ true
+  pub sound : soundB (k .table) (k .journal) (k .head) ≡ true
+
 -- "into a book that holds it": lengths in range, and a word for each offer
 pub record Holds (k : Carried) (map : List ℕ) : Type 0 where
   pub range : lengthsB (length (k .table)) (length (k .journal)) ≡ true
   pub room : length map ≤ length (k .table)
+
+-- a book that does not
+pub record TooSmall (k : Carried) (map : List ℕ) : Type 0 where
+  pub range : lengthsB (length (k .table)) (length (k .journal)) ≡ true
+  pub short : length (k .table) < length map
 
 -- the store that a load of this map and number leaves in memory of these lengths
 pub record IsLoaded (before after : Carried) (map : List ℕ) (number : ℕ) : Type 0 where
@@ -44,28 +76,71 @@ pub record IsLoaded (before after : Carried) (map : List ℕ) (number : ℕ) : T
   pub head : after .head ≡ freshHead (length map) number
 
 pub record Images : Type 0 where
-  -- what is written loads, "as the same map and state number"; a state number has 32 bits
-  pub written-loads : (k : Carried) (words out : List ℕ) (s : Seen)
-      → CallOfServe k (writing words out) s → acceptedB (s .reply .answer) ≡ true → k .head .checkpoint < 2 ^ 32
-      → (k′ : Carried) (words′ : List ℕ) (s′ : Seen) → Holds k′ (mapIn k) → CallOfServe k′ (loading words′ (imageLeft s)) s′
-      → (acceptedB (s′ .reply .answer) ≡ true) × IsLoaded k′ (handed s′) (mapIn k) (k .head .checkpoint)
+  -- "Writing an image may now name any state from anchor to tip.", and "A state may hold more offers than the book; its image is still
+  -- written": of every kept state, into bytes that have room for it, and "bytes past it are unchanged"
+  pub writes-every-kept-state : (k : Carried) (n : ℕ) (words out : List ℕ) (s : Seen)
+      → IsSound k → k .head .checkpoint ≤ n → n ≤ k .head .tip → 6 + 8 * length (mapAt k n) ≤ length out
+      → CallOfServe k (writing (state n) words out) s
+      → (saidBy (s .reply .answer) ≡ accepted (6 + 8 * length (mapAt k n)))
+      × (s .bytes ≡ imageOf n (mapAt k n) ++ drop (6 + 8 * length (mapAt k n)) out)
+      × (s .words ≡ words)
+  -- any other state is 11, whatever bytes are lent, and bytes too short for a kept one are 17
+  pub refuses-other-states : (k : Carried) (n : ℕ) (words out : List ℕ) (s : Seen)
+      → IsSound k → (k .head .checkpoint ≤ n → n ≤ k .head .tip → ⊥) → CallOfServe k (writing (state n) words out) s
+      → saidBy (s .reply .answer) ≡ refused 11
+  pub refuses-short-bytes : (k : Carried) (n : ℕ) (words out : List ℕ) (s : Seen)
+      → IsSound k → k .head .checkpoint ≤ n → n ≤ k .head .tip → length out < 6 + 8 * length (mapAt k n)
+      → CallOfServe k (writing (state n) words out) s
+      → saidBy (s .reply .answer) ≡ refused 17
+  -- "With no state named, the tip is now written": the answer and all that is left are those of the tip named
+  pub no-state-is-the-tip : (k : Carried) (words out : List ℕ) (s t : Seen)
+      → CallOfServe k (writing noState words out) s → CallOfServe k (writing (state (k .head .tip)) words out) t → s ≡ t
+  -- what an accepted call writes loads, "as the same map and state number": "An image that names a state loads as that state's map."
+  pub written-loads : (k : Carried) (naming : Naming) (words out : List ℕ) (s : Seen)
+      → CallOfServe k (writing naming words out) s → acceptedB (s .reply .answer) ≡ true
+      → Shaped (k .head) → namedAt k naming < 2 ^ 32
+      → (k′ : Carried) (words′ : List ℕ) (s′ : Seen)
+      → Holds k′ (mapAt k (namedAt k naming)) → CallOfServe k′ (loading words′ (imageLeft s)) s′
+      → (acceptedB (s′ .reply .answer) ≡ true) × IsLoaded k′ (handed s′) (mapAt k (namedAt k naming)) (namedAt k naming)
+  -- "loading it elsewhere follows 16"
+  pub written-too-large : (k : Carried) (naming : Naming) (words out : List ℕ) (s : Seen)
+      → CallOfServe k (writing naming words out) s → acceptedB (s .reply .answer) ≡ true
+      → Shaped (k .head) → namedAt k naming < 2 ^ 32
+      → (k′ : Carried) (words′ : List ℕ) (s′ : Seen)
+      → TooSmall k′ (mapAt k (namedAt k naming)) → CallOfServe k′ (loading words′ (imageLeft s)) s′
+      → saidBy (s′ .reply .answer) ≡ refused 16
   -- what was loaded, from bytes below 256, is written back "byte for byte" into bytes that have room for it, and "bytes past it are
   -- unchanged"
   pub loaded-writes-back : (k : Carried) (image : List ℕ) (s : Seen) → All Byte image → Loads k image s
-      → (words out : List ℕ) (s′ : Seen) → length image ≤ length out → CallOfServe (handed s) (writing words out) s′
+      → (words out : List ℕ) (s′ : Seen) → length image ≤ length out → CallOfServe (handed s) (writing noState words out) s′
       → (saidBy (s′ .reply .answer) ≡ accepted (length image)) × (s′ .bytes ≡ image ++ drop (length image) out)
-  -- "Restart writes the image into lent bytes and loads it back": the bytes are those that writing the image leaves, and the store is
-  -- the one that a load of it leaves
+  -- "Restart writes the image into lent bytes and loads it back", and "must now name the anchor": it is turned away where the writing of
+  -- the checkpoint's image is, and by the same number;
+  pub restart-refused-alike : (k : Carried) (words words′ out : List ℕ) (s w : Seen)
+      → CallOfServe k (lending (Reset Restart) words out) s → CallOfServe k (writing (state (k .head .checkpoint)) words′ out) w
+      → groundIn (saidBy (s .reply .answer)) ≡ groundIn (saidBy (w .reply .answer))
+  -- and where it is accepted, the bytes are those that this writing leaves, and the store is the one that a load of them leaves: the
+  -- table's own map, under the checkpoint's number
   pub restart-writes-and-loads : (k : Carried) (words out : List ℕ) (s : Seen)
       → CallOfServe k (lending (Reset Restart) words out) s → acceptedB (s .reply .answer) ≡ true → k .head .checkpoint < 2 ^ 32
-      → ((words′ : List ℕ) (w : Seen) → CallOfServe k (writing words′ out) w → (acceptedB (w .reply .answer) ≡ true)
-      × (s .bytes ≡ w .bytes))
+      → ((words′ : List ℕ) (w : Seen) → CallOfServe k (writing (state (k .head .checkpoint)) words′ out) w
+      → (acceptedB (w .reply .answer) ≡ true) × (s .bytes ≡ w .bytes))
+      × (s .words ≡ words)
       × IsLoaded k (handed s) (mapIn k) (k .head .checkpoint)
-  -- the first two of the C functions, of the bytes that the one leaves and the other is lent; restart is as `serve` has it
-  pub c-written-loads : (m : Memory) (words out : List ℕ) (r : Result) → CallOfC m (writing words out) r → r .code ≡ 0
+  -- those on loading and writing back of the C functions, of the bytes that the one leaves and the other is lent; the others are as
+  -- `serve` has them
+  pub c-written-loads : (m : Memory) (naming : Naming) (words out : List ℕ) (r : Result)
+      → CallOfC m (writing naming words out) r → r .code ≡ 0
       → (m′ : Memory) (words′ : List ℕ) (r′ : Result)
-      → Holds (carriedIn m′) (mapIn (carriedIn m)) → CallOfC m′ (loading words′ (take (r .value) (r .bytes))) r′
-      → (r′ .code ≡ 0) × IsLoaded (carriedIn m′) (carriedIn (r′ .memory)) (mapIn (carriedIn m)) (carriedIn m .head .checkpoint)
+      → Holds (carriedIn m′) (mapAt (carriedIn m) (namedAt (carriedIn m) naming))
+      → CallOfC m′ (loading words′ (take (r .value) (r .bytes))) r′
+      → (r′ .code ≡ 0)
+      × IsLoaded (carriedIn m′) (carriedIn (r′ .memory)) (mapAt (carriedIn m) (namedAt (carriedIn m) naming)) (namedAt (carriedIn m) naming)
+  pub c-written-too-large : (m : Memory) (naming : Naming) (words out : List ℕ) (r : Result)
+      → CallOfC m (writing naming words out) r → r .code ≡ 0
+      → (m′ : Memory) (words′ : List ℕ) (r′ : Result)
+      → TooSmall (carriedIn m′) (mapAt (carriedIn m) (namedAt (carriedIn m) naming))
+      → CallOfC m′ (loading words′ (take (r .value) (r .bytes))) r′ → r′ .code ≡ 16
   pub c-loaded-writes-back : (m : Memory) (image : List ℕ) (r : Result) → CLoads m image r
-      → (words out : List ℕ) (r′ : Result) → length image ≤ length out → CallOfC (r .memory) (writing words out) r′
+      → (words out : List ℕ) (r′ : Result) → length image ≤ length out → CallOfC (r .memory) (writing noState words out) r′
       → (r′ .code ≡ 0) × (r′ .value ≡ length image) × (r′ .bytes ≡ image ++ drop (length image) out)

@@ -1,19 +1,15 @@
 -- What a flush knows of its memory when the map is worked out and when it is accepted, and what it leaves.
 -- Assumes nothing.
-use mathlib.Core.Path.{_≡_, refl, sym, ap, subst, _∙_}
+use mathlib.Core.Path.{_≡_, refl, sym, ap, _∙_}
 use mathlib.Core.Bool.{Bool, true, not, cond}
 use mathlib.Core.List.{List, [], _∷_, _++_, append-assoc}
 use Prim.Native.Nat.{ℕ, _+_, _-_, _≤_, _<_, max}
 use native.Mathlib.Decide.{decLt}
 use native.Mathlib.Omega.{arith}
-use borrow.Author.Tests.{ltb-false, lt-ltb, le-ltb, not-false}
+use borrow.Author.Tests.{ltb-false, lt-ltb, le-ltb}
 use lib.Dec.{ltb}
-use lib.ListN.{length, take, drop, replicate, length-drop, length-take, replicate-append-replicate, take-append-drop}
+use lib.ListN.{length, take, drop, replicate, length-drop, replicate-append-replicate, take-append-drop}
 use lib.Seq.{drop-drop}
-use Rattle.changes.specs.Calculus.{composeAll, apply}
-use Rattle.changes.specs.Runs.{startOf}
-use Rattle.changes.proofs.Laws.{apply-zero}
-use Rattle.changes.proofs.Running.{marked-fewer}
 use Rattle.words.proofs.Parts.{zeros-from}
 use Rattle.answers.specs.declared.answer.Check.{Check}
 use Rattle.answers.specs.declared.answer.Check.the-variants.{Passed, Refused}
@@ -24,13 +20,13 @@ use Rattle.answers.specs.declared.ground.Ground.the-variants.{TableFull}
 use Rattle.answers.specs.First.{met, first}
 use Rattle.answers.specs.Answers.{Gives, answered}
 use Rattle.answers.proofs.Firsts.{passed-not, first-met, first-not, none-met, first-stops}
-use Rattle.answers.proofs.Telling.{Unlike, not-count}
+use Rattle.answers.proofs.Counted.{TurnedAway}
 use Rattle.answers.proofs.Firsts.{gives, gives-passed, if-refused, if-passed}
 use Rattle.layout.specs.declared.head.Head.{Head}
 use Rattle.layout.specs.Tests.{zerosB}
 use Rattle.layout.proofs.HeadTests.{InRange}
 use Rattle.layout.proofs.WordTests.{zeros-fact}
-use Rattle.layout.specs.States.{stepIndex, stepsBetween, mapHere}
+use Rattle.layout.specs.States.{mapHere}
 use Rattle.views.specs.Trim.{Trimmable, trimmedHead, trimmedJournal}
 use Rattle.views.specs.View.{padded, Shaped}
 use Rattle.views.proofs.SlotLists.{least-up-to, least-later}
@@ -38,25 +34,10 @@ use Rattle.views.proofs.SoundFacts.{used-long, sound-marked}
 use Rattle.soundness.specs.Checks.{storeGrounds, stateGrounds}
 use Rattle.soundness.proofs.Passed.{store-passed, state-passed}
 use Rattle.soundness.proofs.Sounds.{Sound}
-use Rattle.state_maps.specs.Held.{HeldState, MapRoom, wordsTo}
-use Rattle.state_maps.proofs.Working.{StateFacts, run-few}
+use Rattle.state_maps.specs.Held.{HeldState, wordsTo}
+use Rattle.state_maps.proofs.MapSizes.{map-here, size-here}
+use Rattle.state_maps.proofs.Working.{StateFacts}
 use Rattle.flushes.specs.Flush.{flushCheck, flushSize, tableAt, flushHead, flushTable, flushJournal, flushedHead}
-
--- a check that found a ground, and the answer that names it
-pub record TurnedAway (check : Check) (answer : Answer) : Type 0 where
-  pub ground : Ground
-  pub found : check ≡ Refused ground
-  pub told : answer ≡ Away ground
-
--- a count or a ground, told from the check
-pub refused-of : {answer : Answer} (check : Check) (n : ℕ) → answer ≡ answered check (Count n) → Unlike (Count n) answer
-    → TurnedAway check answer
-refused-of Passed n e h = absurd (not-count n (subst (Unlike (Count n)) e h))
-refused-of (Refused g) n e h = record { ground = g; found = refl; told = e }
-
-pub counted-of : {k : ℕ} (check : Check) (n : ℕ) → Count k ≡ answered check (Count n) → (check ≡ Passed) × (k ≡ n)
-counted-of Passed n e = (refl, cc)
-counted-of (Refused g) n e = absurd (let z : _≡_ {A = ℕ} 0 1 = cc in omega arith)
 
 module _ (table journal : List ℕ) (head : Head) (state : ℕ) where
   -- the map at the state has no room in the table, or has it
@@ -79,13 +60,6 @@ module _ (table journal : List ℕ) (head : Head) (state : ℕ) where
   module _ {check : Check} (e : check ≡ first (storeGrounds table journal head ++ stateGrounds head state)) where
     pub held-not : {g : Ground} → check ≡ Refused g → Moves (Away g) table
     held-not d = turned-away (first-stops (storeGrounds table journal head ++ stateGrounds head state) _ (sym e ∙ d))
-
-    pub held-known : check ≡ Passed → HeldState table journal head state
-    held-known d =
-        let a = passed-not _ _ _ (sym e ∙ d) in
-        let b = passed-not _ _ _ (a .1) in
-        let s = state-passed head state [] (b .1) in
-        record { lengths = not-false _ (a .0); sound = not-false _ (b .0); low = s .0 .0; high = s .0 .1 }
 
   -- and where none is met but perhaps ground 16
   module _ (h : HeldState table journal head state) {size : ℕ} {made : List ℕ} (es : size ≡ length (mapHere table journal head state))
@@ -184,21 +158,10 @@ zeros-join l used m n e h z =
     ∙ append-assoc m (replicate (used - n) 0) (replicate (length l - max used n) 0)
     ∙ ap (λ (r : List ℕ). m ++ r) (replicate-append-replicate (used - n) (length l - max used n) 0 ∙ ap (λ (k : ℕ). replicate k 0) zeros)
 
--- a list with no word
-nothing-in : (l : List ℕ) → length l ≤ 0 → l ≡ []
-nothing-in [] h = refl
-nothing-in (x ∷ l) h = absurd (omega arith)
-
 module _ {table journal : List ℕ} {head : Head} {state : ℕ} (ok : StateFacts table journal head state) where
   -- the map at the state, written to the table
   module _ {size : ℕ} (map : List ℕ) (es : size ≡ length (mapHere table journal head state))
       (em : take size map ≡ mapHere table journal head state) where
-    pub map-long : size ≡ length (take size map)
-    map-long = es ∙ ap length (sym em)
-
-    pub map-in : size ≤ length map
-    map-in = omega (arith, map-long, length-take size map)
-
     pub table-is : size ≤ length table → {last : List ℕ}
         → last
         ≡ take size map ++ replicate (head .used - length (take size map)) 0 ++ drop (max (head .used) (length (take size map))) table
@@ -211,39 +174,17 @@ module _ {table journal : List ℕ} {head : Head} {state : ℕ} (ok : StateFacts
         (ok .sound .used-in, fits) (ok .sound .table-zeros)
         ∙ sym (table-moves table journal head state fits)
 
-  -- what the steps to the state have of words
-  module _ (p : Shaped head) where
-    pub starts-rise : startOf (head .ends) (stepIndex head (head .checkpoint)) ≤ startOf (head .ends) (stepIndex head state)
-    starts-rise =
-        let m = sound-marked table journal head p (ok .sound) in
-        m .rises (stepIndex head (head .checkpoint)) (stepIndex head state) (omega (arith, ok .low)) (omega (arith, ok .high))
-
-    pub most-room : MapRoom head state 4096 12096
-    most-room =
-        let m = marked-fewer (sound-marked table journal head p (ok .sound)) (stepIndex head state) (omega (arith, ok .high)) in
-        let few : wordsTo head state ≤ 4096 = omega (arith, m .inside, ok .range .journal-most) in
-        record { changes-room = few; map-room = omega (arith, few, ok .sound .used-in, ok .range .table-most) }
-
   -- where the steps to the state have no words, the table has that map already
   module _ (p : Shaped head) (e : wordsTo head state ≡ 0) where
-    no-changes : composeAll (stepsBetween journal head (head .checkpoint) state) ≡ []
-    no-changes = nothing-in (composeAll (stepsBetween journal head (head .checkpoint) state)) (omega (arith, run-few p ok, e))
-
-    map-here : mapHere table journal head state ≡ take (head .used) table
-    map-here = ap (apply (take (head .used) table)) no-changes ∙ apply-zero (take (head .used) table) (ok .sound .map)
-
-    pub size-here : head .used ≡ length (mapHere table journal head state)
-    size-here = sym (ap length map-here ∙ used-long (ok .sound))
-
     pub table-here : table ≡ tableAt table journal head state
     table-here =
-        let fits : length (mapHere table journal head state) ≤ length table = omega (arith, size-here, ok .sound .used-in) in
+        let fits : length (mapHere table journal head state) ≤ length table = omega (arith, size-here ok p e, ok .sound .used-in) in
         let zeros : replicate (length table - head .used) 0 ≡ drop (head .used) table =
         sym (zeros-on table (head .used) (head .used) (omega arith) (ok .sound .table-zeros)) in
         sym (take-append-drop (head .used) table)
         ∙ ap (λ (l : List ℕ). take (head .used) table ++ l) (sym zeros)
         ∙ ap (λ (n : ℕ). take (head .used) table ++ replicate (length table - n) 0) (sym (used-long (ok .sound)))
-        ∙ ap (padded (length table)) (sym map-here)
+        ∙ ap (padded (length table)) (sym (map-here ok p e))
         ∙ sym (table-moves table journal head state fits)
 
 module _ {table journal : List ℕ} {head : Head} {state : ℕ} (p : Shaped head) (ok : FlushOk table journal head state) where
@@ -257,9 +198,3 @@ module _ {table journal : List ℕ} {head : Head} {state : ℕ} (p : Shaped head
         few = ok .sound .few;
         marked = sound-marked table journal head p (ok .sound);
       }
-
--- the steps to the checkpoint have no words
-pub no-words : (head : Head) (state : ℕ) → state ≡ head .checkpoint → wordsTo head state ≡ 0
-no-words head state e =
-    let same : wordsTo head (head .checkpoint) ≡ 0 = omega arith in
-    ap (wordsTo head) e ∙ same

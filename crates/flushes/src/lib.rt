@@ -7,43 +7,26 @@ use layout::head::Head;
 use layout::head::JOURNAL_WORDS;
 use layout::head::MAP_WORDS;
 use layout::head::Reply;
-use layout::states::end_of;
-use layout::states::step_index;
 use soundness::state_check;
 use soundness::store_check;
 use state_maps::map_at;
+use state_maps::sizes::FEW_USED;
+use state_maps::sizes::FEW_WORDS;
+use state_maps::sizes::are_few;
+use state_maps::sizes::words_to;
 use table::replace;
 use views::trim::trim;
-ghost use mathlib.Core.Bool.{cond, _&&_};
+ghost use mathlib.Core.Bool.{cond};
 ghost use mathlib.Core.Path.{_≡_};
-ghost use Prim.Native.Nat.{_+_, _≤_};
-ghost use lib.Dec.{leb, ltb};
+ghost use Prim.Native.Nat.{_≤_};
+ghost use lib.Dec.{ltb};
 ghost use lib.ListN.{length};
-ghost use Rattle.changes.specs.Runs.{startOf};
 ghost use Rattle.answers.specs.declared.ground.Ground.the-variants.{TableFull};
 ghost use Rattle.answers.specs.declared.answer.Answer.the-variants.{Done, Count, Refused};
 ghost use Rattle.answers.specs.Answers.{Gives, answered};
-ghost use Rattle.layout.specs.States.{stepIndex, mapHere};
+ghost use Rattle.layout.specs.States.{mapHere};
 ghost use Rattle.state_maps.specs.Held.{HeldState, MapRoom, wordsTo};
 ghost use Rattle.flushes.specs.Flush.{flushCheck, flushSize, flushedHead, tableAt, flushTable, flushHead, flushJournal};
-
-// The words of the table and of the steps up to which a flush has smaller buffers.
-const FEW_USED: usize = 512;
-
-const FEW_WORDS: usize = 512;
-
-// How many words the steps from the checkpoint to a state have.
-fn words_to(head: Head, state: u32) -> usize
-    requires { ⌜ (head .oldest ≤ head .checkpoint)
-        × (head .checkpoint ≤ state)
-        × (state ≤ head .oldest + 64)
-        × (startOf (head .ends) (stepIndex head (head .checkpoint)) ≤ startOf (head .ends) (stepIndex head state)) ⌝ }
-    ensures { λ r. ⌜ r ≡ wordsTo head state ⌝ }
-{
-    let from = step_index(head, head.checkpoint);
-    let to = step_index(head, state);
-    end_of(&head.ends, to) - end_of(&head.ends, from)
-}
 
 // Makes the table the map at a state, if it has room for it, and gives the size of that map. The map is worked out in the
 // buffer before any store, and each word of the table is stored once.
@@ -87,16 +70,6 @@ fn move_many(table: &mut [u64], journal: &[u64], head: Head, state: u32) -> usiz
     let mut changes = [0u64; JOURNAL_WORDS];
     let mut map = [0u64; MAP_WORDS];
     move_table(table, journal, head, state, &mut changes, &mut map)
-}
-
-// Whether table and steps have few words.
-fn are_few(used: usize, words: usize) -> bool
-    ensures { λ r. ⌜ r ≡ leb used 512 && leb words 512 ⌝ }
-{
-    if FEW_USED < used {
-        return false;
-    }
-    words <= FEW_WORDS
 }
 
 // The size of a map, or ground 16 where a table of so many words has no room for it.

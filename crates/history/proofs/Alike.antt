@@ -11,7 +11,7 @@ use Rattle.changes.specs.declared.search.Found.the-variants.{Word, Nothing}
 use Rattle.changes.specs.Calculus.{find}
 use Rattle.views.specs.View.{Limits}
 use Rattle.answers.specs.declared.call.LookUp.{LookUp as Asked}
-use Rattle.answers.specs.declared.call.Query.the-variants.{LookUp, WriteImage}
+use Rattle.answers.specs.declared.call.Query.the-variants.{LookUp, WriteImage, WriteStateImage}
 use Rattle.answers.specs.declared.call.Read.the-variants.{Issue, Forward, Release}
 use Rattle.answers.specs.declared.call.Step.the-variants.{Commit, RollBack, Flush}
 use Rattle.history.specs.Named.{Named, step, read, ask, Call, calling, Response, done, forwarded, acceptedCalls, quotes}
@@ -106,6 +106,7 @@ module _ (calls : List Call) (rest : (q : Plain) → Told q calls (plainResponse
   accepted p (read (Release reader)) list bytes = after-set p (reader .slot) closed
   accepted p (ask (LookUp asked)) list bytes = looked p asked list bytes (find (asked .offer) (mapAt (p .line) (asked .state))) refl
   accepted p (ask WriteImage) list bytes = rest p
+  accepted p (ask (WriteStateImage state)) list bytes = rest p
 
   -- a call by its verdict: a refused one changes nothing and has no name
   transition : (p : Plain) (c : Call) (v : Verdict)

@@ -6,7 +6,7 @@ use Prim.Native.Nat.{ℕ, _≤_}
 use native.Mathlib.Omega.{arith}
 use lib.ListN.{getD}
 use Rattle.entry.specs.Word.{offerOf}
-use Rattle.answers.specs.declared.call.Query.the-variants.{LookUp, WriteImage}
+use Rattle.answers.specs.declared.call.Query.the-variants.{LookUp, WriteImage, WriteStateImage}
 use Rattle.answers.specs.declared.call.Read.the-variants.{Issue, Forward, Release}
 use Rattle.answers.specs.declared.call.Step.the-variants.{Commit, RollBack, Flush}
 use Rattle.history.specs.Named.{Named, step, read, ask, Call, calling, refused}
@@ -15,9 +15,10 @@ use Rattle.history.specs.Plain.{grown, cutAbove, tests, checked, givenBy
 use Rattle.history.specs.Traces.{ReadSet, nothing, holds, holdsOr, wordsLent, readSetsAfter}
 use Rattle.history.specs.Traces.{storeTransition}
 use Rattle.history.proofs.FlushCall.{flush-agrees, flush-fit, flush-range}
+use Rattle.history.proofs.ImageCall.{write-agrees, write-state-agrees}
 use Rattle.history.proofs.Lines.{grown-map, grown-between, cut-map, cut-between}
 use Rattle.history.proofs.ReadCalls.{ShowsAt, look-up-agrees, issue-agrees, issue-fit, issue-set, forward-agrees}
-use Rattle.history.proofs.ReadCalls.{forward-fit, release-agrees, release-fit, write-agrees}
+use Rattle.history.proofs.ReadCalls.{forward-fit, release-agrees, release-fit}
 use Rattle.history.proofs.StepCalls.{commit-agrees, commit-fit, roll-agrees, roll-fit, roll-range}
 use Rattle.history.proofs.Stored.{storeOf, transitionBy}
 use Rattle.history.proofs.Outstanding.{Kept, Outstanding, from-set, in-slots, sets-line}
@@ -45,6 +46,7 @@ module _ (p : Plain) (f : Fit p) (sets : List ReadSet) (t : Outstanding p sets) 
   agrees (read (Release reader)) list bytes words = release-agrees p f reader list bytes
   agrees (ask (LookUp asked)) list bytes words = look-up-agrees p f asked list bytes
   agrees (ask WriteImage) list bytes words = write-agrees p f bytes list
+  agrees (ask (WriteStateImage state)) list bytes words = write-state-agrees p f state bytes list
 
   -- a store can follow what it leaves,
   fits : (named : Named) (list bytes : List ℕ) → firstOf (tests p named list bytes) ≡ accept → Fit (changedBy p named list)

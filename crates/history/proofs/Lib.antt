@@ -1,6 +1,8 @@
 pub mod Alike
 pub mod FlushCall
+pub mod ImageCall
 pub mod Lines
+pub mod NamedStates
 pub mod Loads
 pub mod StepCalls
 pub mod ReadCalls

@@ -1,14 +1,13 @@
--- Lookup, issue, forward, release and the writing of an image: the unit's transition is the plain list's, and a store can follow the plain
--- list that it leaves.
+-- Lookup, issue, forward and release: the unit's transition is the plain list's, and a store can follow the plain list that it leaves.
 -- Assumes nothing.
 use mathlib.Core.Path.{_≡_, refl, sym, ap, ap₂, subst, _∙_}
 use mathlib.Core.Bool.{Bool, true, false, not, _&&_}
 use mathlib.Core.List.{List, [], _∷_, _++_, map}
-use Prim.Native.Nat.{ℕ, _+_, _*_, _^_, _≤_}
+use Prim.Native.Nat.{ℕ, _+_, _^_, _≤_}
 use native.Mathlib.Omega.{arith}
 use borrow.Author.Tests.{le-leb}
 use lib.Dec.{ltb, leb}
-use lib.ListN.{length, getD, take, drop, length-map, List·getD-map}
+use lib.ListN.{length, getD, take, length-map, List·getD-map}
 use Rattle.entry.specs.Word.{offerOf, noneOf}
 use Rattle.changes.specs.declared.search.Found.{Found}
 use Rattle.changes.specs.declared.search.Found.the-variants.{Word, Nothing}
@@ -20,13 +19,11 @@ use Rattle.changes.proofs.Reading.{read-length, over-length}
 use Rattle.changes.proofs.Laws.{read-changed, over-twice, over-zero, read-changes, run-split, changes-test}
 use Rattle.changes.proofs.ListTest.{list-facts}
 use Rattle.answers.specs.declared.call.LookUp.{LookUp as Asked}
-use Rattle.answers.specs.declared.call.Query.the-variants.{LookUp, WriteImage}
+use Rattle.answers.specs.declared.call.Query.the-variants.{LookUp}
 use Rattle.answers.specs.declared.call.Read.the-variants.{Issue, Forward, Release}
 use Rattle.answers.specs.declared.call.Reader.{Reader}
 use Rattle.answers.specs.Answers.{saidBy}
 use Rattle.answers.specs.declared.answer.Check.the-variants.{Passed}
-use Rattle.image.specs.Image.{imageOf}
-use Rattle.image.proofs.RoundTrip.{image-length}
 use Rattle.layout.specs.States.{mapHere}
 use Rattle.views.specs.Trim.{trimmed}
 use Rattle.views.specs.View.{Store, View, closed as closedSlot, holding, issuedOf, encode, decode, Good, mapAt as viewMapAt}
@@ -41,12 +38,11 @@ use Rattle.forwards.proofs.ForwardAccepted.{ForwardOk, forward-ok}
 use Rattle.read_views.proofs.ClosingViews.{release-leaves, forward-leaves, forward-shows}
 use Rattle.read_views.proofs.OnViews.{look-up-shows, issue-leaves, issue-shows}
 use Rattle.slots.specs.Callers.{mostWords}
-use Rattle.snapshot.specs.Snapshots.{writeCheck, imageHere}
-use Rattle.history.specs.Named.{read, ask, calling, Response, responseTo, Transition, done, filled, forwarded, written}
+use Rattle.history.specs.Named.{read, ask, calling, Response, responseTo, Transition, done, filled, forwarded}
 use Rattle.history.specs.Traces.{storeTransition}
 use Rattle.history.specs.Plain.{Test, met, accept, firstOf, Line, Place, closed, reading, Plain, tipOf}
 use Rattle.history.specs.Plain.{mapAt, floorOf, listsBetween, shown, quoted, openB, openAt, offersIn}
-use Rattle.history.specs.Plain.{offersAt, imageAt, slotTests, longTests, stateTests, readTests, queryTests, checked, withPlace}
+use Rattle.history.specs.Plain.{offersAt, slotTests, longTests, stateTests, readTests, queryTests, checked, withPlace}
 use Rattle.history.proofs.Lines.{Whole, map-at, carried, between-changes, between-same, between-join}
 use Rattle.history.proofs.Views.{viewOf, Fit, slotOf, place-range, view-map, view-between, issue-view, close-view}
 use Rattle.history.proofs.Views.{floor-same, floor-up}
@@ -365,22 +361,3 @@ module _ (p : Plain) (f : Fit p) where
     forward-fit e =
         closed-fits (reader .slot)
         (forward-leaves T J (s .head) (store-shaped p f) reader state words (accepted-done _ (forward-checks ∙ e)) .good)
-
-  -- the writing of an image
-  module _ (out : List ℕ) where
-    size-is : 6 + 8 * s .head .used ≡ length (imageAt p)
-    unfolding encode viewOf
-    size-is = sym (image-length (p .checkpoint) (mapAt (p .line) (p .checkpoint)))
-
-    image-is : imageHere T (s .head) ≡ imageAt p
-    unfolding decode viewOf
-    image-is = ap (λ (v : View). imageOf (v .checkpoint) (v .base)) (view-back p f)
-
-    write-checks : verdictOf (writeCheck T J (s .head) (length out)) ≡ firstOf (queryTests p WriteImage out)
-    write-checks = ap verdictOf (past-two p f _) ∙ verdict-of _ ∙ ap (λ (n : ℕ). firstOf (met (ltb (length out) n) 17 ∷ [])) size-is
-
-    pub write-agrees : (list : List ℕ) → let call = calling (ask WriteImage) list out in storeTransition s call list
-        ≡ transitionBy p call (checked p call)
-    write-agrees list =
-        settle p (calling (ask WriteImage) list out) list write-checks
-        (λ e i. record { response = written (size-is i) (image-is i ++ drop (size-is i) out); next = s })

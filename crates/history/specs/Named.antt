@@ -9,7 +9,7 @@ use Rattle.answers.specs.declared.call.Caller.{Caller}
 use Rattle.answers.specs.declared.call.Caller.the-variants.{Desk}
 use Rattle.answers.specs.declared.call.Call.the-variants.{Step, Read, Ask}
 use Rattle.answers.specs.declared.call.Query.{Query}
-use Rattle.answers.specs.declared.call.Query.the-variants.{LookUp, WriteImage}
+use Rattle.answers.specs.declared.call.Query.the-variants.{LookUp, WriteImage, WriteStateImage}
 use Rattle.answers.specs.declared.call.Read.{Read as ReadCall}
 use Rattle.answers.specs.declared.call.Read.the-variants.{Issue, Forward, Release}
 use Rattle.answers.specs.declared.call.Step.{Step as StepCall}
@@ -64,9 +64,13 @@ forward caller slot state = calling (read (Forward (readerOf caller slot) state)
 abbrev pub release : Caller → ℕ → Call
 release caller slot = calling (read (Release (readerOf caller slot))) [] []
 
--- the bytes lent
+-- the bytes lent, with no state named
 abbrev pub writeImage : List ℕ → Call
 writeImage out = calling (ask WriteImage) [] out
+
+-- a state, and the bytes lent
+abbrev pub writeStateImage : ℕ → List ℕ → Call
+writeStateImage state out = calling (ask (WriteStateImage state)) [] out
 
 -- what two stores that accept the same calls must answer alike
 pub data Quote : Type 0 where
@@ -114,6 +118,7 @@ acceptedAs (read (Forward reader state)) value words bytes = forwarded words
 acceptedAs (read (Release reader)) value words bytes = done
 acceptedAs (ask (LookUp asked)) value words bytes = price value
 acceptedAs (ask WriteImage) value words bytes = written value bytes
+acceptedAs (ask (WriteStateImage state)) value words bytes = written value bytes
 
 abbrev pub responseTo : Named → Said → List ℕ → List ℕ → Response
 responseTo named (accepted value) words bytes = acceptedAs named value words bytes
@@ -151,6 +156,7 @@ readByAny (Release reader) = Release (readerOf Desk (reader .slot))
 abbrev pub askedByAny : Query → Query
 askedByAny (LookUp asked) = LookUp (record { caller = Desk; offer = asked .offer; state = asked .state })
 askedByAny WriteImage = WriteImage
+askedByAny (WriteStateImage state) = WriteStateImage state
 
 abbrev pub byAny : Named → Named
 byAny (step call) = step call
@@ -158,7 +164,8 @@ byAny (read call) = read (readByAny call)
 byAny (ask query) = ask (askedByAny query)
 
 -- "Two calls are the same when kind, offer, state, place and list agree; a forward's read set and an image's bytes aren't compared".
--- The caller is not among what must agree, so it is not compared either; and flushes are left apart. What of a call is compared:
+-- The caller is not among what must agree, so it is not compared either; a state that is named is, and so is that none is; and flushes
+-- are left apart. What of a call is compared:
 abbrev pub nameOf : Call → Call
 nameOf call = calling (byAny (call .named)) (listIn (call .named) (call .list)) []
 

@@ -18,7 +18,7 @@ use Rattle.image.specs.Image.{imageB, numberIn, wordsIn, imageOf}
 use Rattle.views.specs.View.{Limits, flat}
 use Rattle.slots.specs.Callers.{hasB, mostWords}
 use Rattle.answers.specs.declared.call.Query.{Query}
-use Rattle.answers.specs.declared.call.Query.the-variants.{LookUp, WriteImage}
+use Rattle.answers.specs.declared.call.Query.the-variants.{LookUp, WriteImage, WriteStateImage}
 use Rattle.answers.specs.declared.call.Read.{Read as ReadCall}
 use Rattle.answers.specs.declared.call.Read.the-variants.{Issue, Forward, Release}
 use Rattle.answers.specs.declared.call.Reader.{Reader}
@@ -124,9 +124,13 @@ openAt p slot = openB (getD (p .places) slot closed)
 abbrev pub offersAt : Plain → ℕ → List ℕ
 offersAt p slot = offersIn (getD (p .places) slot closed)
 
--- the image of the checkpoint's map
-abbrev pub imageAt : Plain → List ℕ
-imageAt p = imageOf (p .checkpoint) (mapAt (p .line) (p .checkpoint))
+-- the image of a state's number and map
+abbrev pub imageAt : Plain → ℕ → List ℕ
+imageAt p state = imageOf state (mapAt (p .line) state)
+
+-- ground 17: "Output is shorter than what is to be written."
+abbrev pub roomTests : List ℕ → List ℕ → List Test
+roomTests written out = met (ltb (length out) (length written)) 17 ∷ []
 
 -- ground 3: "The place is above 7."; and 19: "a place that isn't the caller's, tested after 3"
 abbrev pub slotTests : Reader → List Test
@@ -169,6 +173,13 @@ module _ (p : Plain) where
       ++ stateTests p state
   readTests (Release reader) list = slotTests reader ++ (met (not (openAt p (reader .slot))) 5 ∷ [])
 
+  -- "bytes past it are unchanged"
+  abbrev pub writing : List Test → ℕ → List ℕ → Asking
+  writing tests state bytes = record {
+    tests = tests ++ roomTests (imageAt p state) bytes;
+    gives = written (length (imageAt p state)) (imageAt p state ++ drop (length (imageAt p state)) bytes);
+  }
+
   -- a query changes nothing: its grounds, and what it gives where it is accepted
   abbrev pub asking : Query → List ℕ → Asking
   -- "A lookup reads the map of the state named."
@@ -176,11 +187,10 @@ module _ (p : Plain) where
     tests = met (leb (2 ^ 31) (asked .offer)) 6 ∷ stateTests p (asked .state);
     gives = quoted (find (asked .offer) (mapAt (p .line) (asked .state)));
   }
-  -- "bytes past it are unchanged"
-  asking WriteImage bytes = record {
-    tests = met (ltb (length bytes) (length (imageAt p))) 17 ∷ [];
-    gives = written (length (imageAt p)) (imageAt p ++ drop (length (imageAt p)) bytes);
-  }
+  -- "With no state named, the tip is now written instead of the anchor."
+  asking WriteImage bytes = writing [] (tipOf (p .line)) bytes
+  -- "Writing an image may now name any state from anchor to tip."
+  asking (WriteStateImage state) bytes = writing (stateTests p state) state bytes
 
   abbrev pub queryTests : Query → List ℕ → List Test
   queryTests query bytes = asking query bytes .tests

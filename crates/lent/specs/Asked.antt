@@ -4,7 +4,7 @@ use Prim.Native.Nat.{ℕ}
 use Rattle.answers.specs.declared.call.Call.{Call}
 use Rattle.answers.specs.declared.call.Call.the-variants.{Reset, Step, Read}
 use Rattle.answers.specs.declared.call.Query.{Query}
-use Rattle.answers.specs.declared.call.Query.the-variants.{LookUp, WriteImage}
+use Rattle.answers.specs.declared.call.Query.the-variants.{LookUp, WriteImage, WriteStateImage}
 use Rattle.answers.specs.declared.call.Read.the-variants.{Issue, Forward, Release}
 use Rattle.answers.specs.declared.call.Reset.the-variants.{Clear, Load, Restart}
 use Rattle.answers.specs.declared.call.Step.the-variants.{Commit, RollBack, Flush}
@@ -42,3 +42,6 @@ lookUp caller offer state = LookUp (record { caller = callerOf caller; offer = o
 
 abbrev pub writeImage : Query
 writeImage = WriteImage
+
+abbrev pub writeStateImage : ℕ → Query
+writeStateImage state = WriteStateImage state

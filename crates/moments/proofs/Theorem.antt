@@ -19,12 +19,14 @@ use Rattle.soundness.specs.Sound.{soundB}
 use Rattle.layout.specs.Tests.{allB, allOf, zerosB, least}
 use Rattle.views.specs.Trim.{trimmedHead, trimmedJournal}
 use Rattle.snapshot.specs.Fresh.{freshHead}
+use Rattle.exports.specs.Export.{imageHere, imageSize}
 use Rattle.commits.specs.Commit.{withStep}
 use Rattle.flushes.specs.Flush.{flushedHead}
 use Rattle.rollbacks.specs.RollBack.{cutTo}
 use Rattle.slots.specs.Slots.{opened, closedAt}
 use Rattle.history.specs.Traces.{storeResponses}
 use Rattle.moments.specs.Callers.{asking, putting, deskAndFoyer}
+use Rattle.moments.specs.Images.{imagesOfStates}
 use Rattle.moments.specs.Moments.{computed, expected}
 use Rattle.moments.specs.Table.{twelve}
 
@@ -32,7 +34,7 @@ pub moments-follow : map computed twelve ≡ map expected twelve
 unfolding find compose puts apply composeAll risingB mapB readOf over runOf first sixteenths putAt withPrice effect
     kindNamed allowedB checked batch execute priced readB allOrdersB bytesOf valueOf wordBytes imageOf wordsOf numberIn
     countIn wordsIn imageB soundB allB allOf zerosB least trimmedHead trimmedJournal freshHead withStep flushedHead cutTo
-    noPutB opened closedAt storeResponses twelve
+    noPutB opened closedAt storeResponses imageHere imageSize twelve
 moments-follow = refl
 
 -- and what document 02 says of desk and foyer
@@ -41,3 +43,10 @@ unfolding find compose puts apply composeAll risingB mapB readOf over runOf firs
     numberIn countIn wordsIn imageB soundB allB allOf zerosB least trimmedHead trimmedJournal freshHead noPutB opened closedAt
     storeResponses asking putting deskAndFoyer
 callers-follow = refl
+
+-- and of images and restarts
+pub images-follow : map computed imagesOfStates ≡ map expected imagesOfStates
+unfolding find compose puts apply composeAll risingB mapB runOf first bytesOf valueOf wordBytes imageOf wordsOf numberIn countIn
+    wordsIn imageB soundB allB allOf zerosB least trimmedHead trimmedJournal freshHead withStep flushedHead imageHere imageSize
+    storeResponses imagesOfStates
+images-follow = refl

@@ -1,3 +1,4 @@
 pub mod Callers
 pub mod Moments
 pub mod Table
+pub mod Images

@@ -6,8 +6,9 @@ use mathlib.Core.List.{List, [], map}
 use Prim.Native.Nat.{ℕ, _+_, _*_, _^_}
 use lib.ListN.{length, replicate}
 use Rattle.entry.specs.Word.{putOf}
-use Rattle.answers.specs.declared.call.Call.the-variants.{Reset}
-use Rattle.answers.specs.declared.call.Reset.the-variants.{Clear}
+use Rattle.answers.specs.declared.call.Call.the-variants.{Reset, Step}
+use Rattle.answers.specs.declared.call.Reset.the-variants.{Clear, Load, Restart}
+use Rattle.answers.specs.declared.call.Step.the-variants.{Commit}
 use Rattle.answers.specs.Answers.{Said, saidBy}
 use Rattle.views.specs.View.{Store}
 use Rattle.batch.specs.Batches.{batch, answer, output}
@@ -33,6 +34,9 @@ pub data Moment : Type 0 where
   calls : Start → List Exchange → Moment
   -- a read set, orders and output memory; the answer, and the output memory then
   priced : List ℕ → List ℕ → List ℕ → Said → List ℕ → Moment
+  -- a start, which is accepted, a list that is committed, and a restart that is lent bytes; its answer, the bytes then, and the calls
+  -- after it in turn
+  restarted : Start → List ℕ → List ℕ → Said → List ℕ → List Exchange → Moment
 
 -- "An order is 64 bits, most significant first: kind 8 bits, amount 25 bits, offer 31 bits."
 abbrev pub orderOf : ℕ → ℕ → ℕ → ℕ
@@ -47,6 +51,14 @@ abbrev pub clearTrace : Store → List Asked → Answers
 clearTrace s asked =
     let left = performed (lentWith s [] []) (Reset Clear) in
     afterLoad (saidBy (left .answer)) (storeResponses (storeIn (left .lent)) (replicate 8 nothing) asked)
+
+-- the store that a start leaves, and the same with a list committed
+abbrev pub startedAt : Start → Store
+startedAt (cleared table journal) = storeIn (performed (lentWith (lentOf table journal) [] []) (Reset Clear) .lent)
+startedAt (loaded table journal image) = storeIn (performed (lentWith (lentOf table journal) [] image) (Reset Load) .lent)
+
+abbrev pub committedOn : Store → List ℕ → Store
+committedOn s list = storeIn (performed (lentWith s list []) (Step Commit) .lent)
 
 abbrev pub traceFrom : Start → List Asked → Answers
 traceFrom (cleared table journal) asked = clearTrace (lentOf table journal) asked
@@ -63,7 +75,8 @@ responseIn (c ⇒ r) = r
 pub data Result : Type 0 where
   asWord : ℕ → Result
   asAnswers : Answers → Result
-  asBatch : Said → List ℕ → Result
+  asOutput : Said → List ℕ → Result
+  asRestart : Said → List ℕ → List Response → Result
 
 -- by the definitions,
 abbrev pub computed : Moment → Result
@@ -71,10 +84,15 @@ computed (word offer price w) = asWord (putOf offer price)
 computed (calls start exchanges) = asAnswers (traceFrom start (map askedIn exchanges))
 computed (priced reads orders out a after) =
     let executed = batch reads orders (length out) in
-    asBatch (answer executed) (output executed out)
+    asOutput (answer executed) (output executed out)
+computed (restarted start list bytes a after exchanges) =
+    let left = performed (lentWith (committedOn (startedAt start) list) [] bytes) (Reset Restart) in
+    asRestart (saidBy (left .answer)) (left .lent .bytes)
+    (storeResponses (storeIn (left .lent)) (replicate 8 nothing) (map askedIn exchanges))
 
 -- and by the table
 abbrev pub expected : Moment → Result
 expected (word offer price w) = asWord w
 expected (calls start exchanges) = asAnswers (record { load = done; responses = map responseIn exchanges })
-expected (priced reads orders out a after) = asBatch a after
+expected (priced reads orders out a after) = asOutput a after
+expected (restarted start list bytes a after exchanges) = asRestart a after (map responseIn exchanges)

@@ -1,4 +1,3 @@
 pub mod ImagesAccepted
 mod Filled
 pub mod OnViews
-pub mod Theorems

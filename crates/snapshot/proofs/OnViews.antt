@@ -1,26 +1,24 @@
--- The calls of a store at rest, on views: what an accepted call leaves is the encoding of a view with one state, which is sound.
+-- Clear and load, on views: what an accepted call leaves is the encoding of a view with one state, which is sound.
 -- Assumes nothing.
-use mathlib.Core.Path.{_≡_, refl, sym, ap, ap₂, subst, _∙_}
+use mathlib.Core.Path.{_≡_, refl, sym, ap, subst, _∙_}
 use mathlib.Core.List.{List, []}
-use Prim.Native.Nat.{ℕ, _^_, _≤_, _<_}
+use Prim.Native.Nat.{ℕ, _≤_}
 use native.Mathlib.Nat.{sub-zero, add-zero}
 use native.Mathlib.Omega.{arith}
-use lib.ListN.{length, take, replicate}
+use lib.ListN.{length, replicate}
 use Rattle.changes.specs.Lists.{From, All, Map}
 use Rattle.answers.specs.declared.answer.Check.the-variants.{Passed}
-use Rattle.image.specs.Image.{imageOf, countIn, numberIn, wordsIn}
+use Rattle.image.specs.Image.{countIn, numberIn, wordsIn}
 use Rattle.image.proofs.Words.{words-in-length}
-use Rattle.layout.specs.declared.head.Head.{Head}
 use Rattle.layout.specs.Heads.{withSteps, withFloor}
 use Rattle.views.specs.View.{Store, Limits, leastSlot, flat, marksFrom, padded, encode, decode, Good}
 use Rattle.soundness.proofs.Sounds.{Sound}
 use Rattle.views.proofs.Encodes.{Encodes}
 use Rattle.views.proofs.Views.{encoded-sound, decoded}
 use Rattle.snapshot.specs.Snapshots.{loadCheck}
-use Rattle.snapshot.specs.Snapshots.{writeCheck, imageHere}
 use Rattle.snapshot.specs.Fresh.{freshHead}
 use Rattle.snapshot.specs.FreshView.{freshView}
-use Rattle.snapshot.proofs.ImagesAccepted.{LoadOk, load-ok, WriteOk, write-ok, used-long, reads-back, count-back}
+use Rattle.snapshot.proofs.ImagesAccepted.{LoadOk, load-ok}
 
 -- the memory of a store with one state
 abbrev pub freshStore : List ℕ → ℕ → Limits → Store
@@ -68,7 +66,7 @@ module _ (words : List ℕ) (number : ℕ) (limits : Limits) (m : Map words) (h 
       ∙ decoded (freshHead 0 0) (freshView words number limits) (fresh-good words number limits m h)
 
 -- what lies in memory after each accepted call, and that it is sound
-abbrev limitsOf : List ℕ → List ℕ → Limits
+abbrev pub limitsOf : List ℕ → List ℕ → Limits
 limitsOf table journal = record { table = length table; journal = length journal }
 
 module _ (table journal : List ℕ) where
@@ -112,46 +110,3 @@ module _ (table journal : List ℕ) where
       where
         count : freshHead (countIn image) (numberIn image) ≡ freshHead (length (wordsIn image)) (numberIn image)
         count = ap (λ (n : ℕ). freshHead n (numberIn image)) (sym (words-in-length image))
-
-module _ (table journal : List ℕ) (head : Head) where
-  module _ (room : ℕ) (e : writeCheck table journal head room ≡ Passed) where
-    w : WriteOk table journal head room
-    w = write-ok table journal head room e
-
-    -- the image that is written is that of the checkpoint's map and number
-    pub write-shows : imageHere table head
-        ≡ imageOf (decode (record { table = table; journal = journal; head = head }) .checkpoint)
-        (decode (record { table = table; journal = journal; head = head }) .base)
-    unfolding decode
-    write-shows = refl
-
-    module _ (small : head .checkpoint < 2 ^ 32) where
-      abbrev restarted : Store
-      restarted = record {
-        table = padded (length table) (wordsIn (imageHere table head));
-        journal = replicate (length journal) 0;
-        head = freshHead (countIn (imageHere table head)) (numberIn (imageHere table head));
-      }
-
-      -- "tip becomes anchor and all places close": the checkpoint's map under its number is left, and nothing else
-      pub restart-leaves : Encodes restarted (freshHead 0 0)
-          (freshView (take (head .used) table) (head .checkpoint) (limitsOf table journal))
-      restart-leaves =
-          record {
-            is =
-                (λ i. record { table = words i; journal = restarted .journal; head = numbers i })
-                ∙ sym (fresh-encoded (take (head .used) table) (head .checkpoint) (limitsOf table journal));
-            good =
-                fresh-good (take (head .used) table) (head .checkpoint) (limitsOf table journal) (w .sound .map)
-                (omega (arith, used-long w, w .sound .used-in));
-          }
-        where
-          count : countIn (imageHere table head) ≡ length (take (head .used) table)
-          count = count-back w small ∙ sym (used-long w)
-
-          words : padded (length table) (wordsIn (imageHere table head)) ≡ padded (length table) (take (head .used) table)
-          words = ap (padded (length table)) (reads-back w small .2)
-
-          numbers : freshHead (countIn (imageHere table head)) (numberIn (imageHere table head))
-              ≡ freshHead (length (take (head .used) table)) (head .checkpoint)
-          numbers = ap₂ freshHead count (reads-back w small .1)

@@ -1,6 +1,4 @@
-// The calls of a store at rest (document 01, "Image and listing"): clear, load, write an image, restart.
+// The calls that make a store of nothing or of an image (document 01, "Image and listing"): clear and load.
 pub mod clear;
 pub mod fresh;
 pub mod load;
-pub mod restart;
-pub mod write;

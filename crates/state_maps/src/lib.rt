@@ -1,4 +1,6 @@
 // The map at a state that a store holds, worked out in lent memory.
+pub mod sizes;
+
 use layout::head::Head;
 use layout::states::step_index;
 use runs::compose_run;

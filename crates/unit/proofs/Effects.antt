@@ -27,11 +27,11 @@ use Rattle.layout.specs.declared.head.Head.{Head}
 use Rattle.layout.specs.States.{heldOf, mapHere}
 use Rattle.views.specs.Trim.{trimmedHead}
 use Rattle.slots.specs.Slots.{opened, closedAt}
-use Rattle.snapshot.specs.Snapshots.{imageHere}
 use Rattle.snapshot.specs.Fresh.{freshHead}
 use Rattle.commits.specs.Commit.{usedOf, withStep}
 use Rattle.flushes.specs.Flush.{flushedHead}
 use Rattle.flushes.proofs.Flushing.{flush-ok}
+use Rattle.restarts.specs.Restart.{restartImage}
 use Rattle.rollbacks.specs.RollBack.{keptOf, cutTo}
 use Rattle.rollbacks.proofs.RollBackAccepted.{roll-ok}
 use Rattle.calls.specs.Lent.{Lent, withWords, withBytes, Left, Meaning, checkOf, settledBy, settled}
@@ -113,7 +113,7 @@ resets : (l : Lent) (call : ResetCall) (count : Tally)
 resets l Clear count = begins l count (resetOf l Clear) refl (fresh-one 0 0)
 resets l Load count = begins l count (resetOf l Load) refl (fresh-one (countIn (l .bytes)) (numberIn (l .bytes)))
 resets l Restart count =
-    let image = imageHere (l .table) (l .head) in
+    let image = restartImage (l .table) (l .journal) (l .head) in
     begins l count (resetOf l Restart) refl (fresh-one (countIn image) (numberIn image))
 
 steps : (l : Lent) (call : StepCall)

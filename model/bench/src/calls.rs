@@ -44,11 +44,20 @@ fn steps_of<S: Subject>(scene: &Scene) -> impl Fn(&mut S, &mut Vec<u64>, usize) 
     }
 }
 
+/// Restores the table too.
+fn all_of<S: Subject>(scene: &Scene) -> impl Fn(&mut S, &mut Vec<u64>, usize) + '_ {
+    let steps = steps_of(scene);
+    move |store: &mut S, words, turn| {
+        store.table().copy_from_slice(&scene.table);
+        steps(store, words, turn);
+    }
+}
+
 pub fn clear<S: Subject>(scene: &Scene) -> Side<'_> {
     steady(scene, 0, |store: &mut S, _| store.clear())
 }
 
-/// Images of a scene's table, which lie differently to the pages of memory: how table and image lie to each other is chance else.
+/// Images, or room for them, which lie differently to the pages of memory: how table and image lie to each other is chance else.
 struct Images {
     bytes: Vec<u8>,
     length: usize,
@@ -58,12 +67,21 @@ struct Images {
 impl Images {
     const COUNT: usize = 4;
 
+    /// Of a scene's table.
     fn of(scene: &Scene) -> Images {
+        Images::copies(&scene.image())
+    }
+
+    /// Room for the image of any state of a scene.
+    fn room(scene: &Scene) -> Images {
+        Images::copies(&vec![0; scene.image_bytes()])
+    }
+
+    fn copies(image: &[u8]) -> Images {
         const PAGE: usize = 4096;
-        let image = scene.image();
         let stride = image.len().next_multiple_of(PAGE) + PAGE / Images::COUNT;
         let mut bytes = vec![0; Images::COUNT * stride];
-        bytes.chunks_mut(stride).for_each(|chunk| chunk[..image.len()].copy_from_slice(&image));
+        bytes.chunks_mut(stride).for_each(|chunk| chunk[..image.len()].copy_from_slice(image));
         Images { bytes, length: image.len(), stride }
     }
 
@@ -78,9 +96,28 @@ pub fn load<S: Subject>(scene: &Scene) -> Side<'_> {
     steady(scene, 0, move |store: &mut S, turn| store.load(images.turn(turn)))
 }
 
-pub fn write_image<S: Subject>(scene: &Scene) -> Side<'_> {
-    let mut images = Images::of(scene);
-    steady(scene, 0, move |store: &mut S, turn| store.write_image(images.turn(turn)))
+/// The image of the checkpoint.
+pub fn write_checkpoint<S: Subject>(scene: &Scene) -> Side<'_> {
+    let (mut images, state) = (Images::of(scene), scene.variant(0).head.checkpoint);
+    steady(scene, 0, move |store: &mut S, turn| store.write_state_image(state, images.turn(turn)))
+}
+
+/// The image of the tip, over all steps.
+pub fn write_tip<S: Subject>(scene: &Scene) -> Side<'_> {
+    let (mut images, state) = (Images::room(scene), scene.variant(0).head.tip);
+    moving(scene, steps_of(scene), move |store: &mut S, _, turn| {
+        store.write_state_image(state, images.turn(turn))
+    })
+}
+
+/// The same image by a flush to the tip and the image of the checkpoint that it then is: on a copy of the store, which is made
+/// before each and not timed.
+pub fn flush_and_write<S: Subject>(scene: &Scene) -> Side<'_> {
+    let (mut images, state) = (Images::room(scene), scene.variant(0).head.tip);
+    moving(scene, all_of(scene), move |store: &mut S, _, turn| match store.flush(state) {
+        0 => store.write_state_image(state, images.turn(turn)),
+        refusal => refusal,
+    })
 }
 
 pub fn restart<S: Subject>(scene: &Scene) -> Side<'_> {
@@ -129,12 +166,7 @@ pub fn roll_back<S: Subject>(scene: &Scene) -> Side<'_> {
 /// All steps flushed.
 pub fn flush<S: Subject>(scene: &Scene) -> Side<'_> {
     let state = scene.variant(0).head.tip;
-    let steps = steps_of(scene);
-    let restore = move |store: &mut S, words: &mut Vec<u64>, turn: usize| {
-        store.table().copy_from_slice(&scene.table);
-        steps(store, words, turn);
-    };
-    moving(scene, restore, move |store, _, _| store.flush(state))
+    moving(scene, all_of(scene), move |store: &mut S, _, _| store.flush(state))
 }
 
 /// An offer that has a price at the tip.

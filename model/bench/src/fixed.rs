@@ -39,10 +39,11 @@ macro_rules! call {
     };
 }
 
-const CALLS: [Call; 12] = [
+const CALLS: [Call; 13] = [
     call!("clear", Steps, clear),
     call!("load", Steps, load),
-    call!("write_image", Steps, write_image),
+    call!("write_image, checkpoint", Steps, write_checkpoint),
+    call!("write_image, tip", Steps, write_tip),
     call!("restart", Steps, restart),
     call!("commit of 1", Steps, commit_1),
     call!("roll_back of all steps", Steps, roll_back),

@@ -34,6 +34,10 @@ impl Subject for LentWords {
         code(self.query(|store| store.write_image(bytes)))
     }
 
+    fn write_state_image(&mut self, state: u32, bytes: &mut [u8]) -> u64 {
+        code(self.query(|store| store.write_state_image(state, bytes)))
+    }
+
     fn restart(&mut self, bytes: &mut [u8]) -> u64 {
         code(self.call(|store| store.restart(bytes)))
     }

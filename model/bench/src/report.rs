@@ -2,7 +2,8 @@
 
 use crate::fixed::{Fixed, WORDS};
 use crate::peer::KINDS;
-use crate::results::{half_full, Beside, Figure, Line, Results, Row, Soundness, JOURNAL, OFFERS, TABLE};
+use crate::results::{half_full, Beside, Figure, Line, Results, Row, Soundness};
+use crate::results::{JOURNAL, OFFERS, TABLE, TIP_BY_FLUSH};
 use crate::scene::Shape;
 use crate::timing::{Spread, ROUNDS, TURNS};
 use std::fmt::Write;
@@ -29,10 +30,11 @@ pub fn report(results: &Results, setting: &Setting) -> String {
     text += &targets(results);
     text += "\n## Calls at full size\n\n";
     text += &format!(
-        "{} table words and {} journal words are lent, whatever they hold; times in microseconds. A step has 64 entries.\n\n",
+        "{} table words and {} journal words are lent, whatever they hold; times in microseconds. A step has 64 entries.\n",
         grouped(TABLE),
         grouped(JOURNAL)
     );
+    text += IMAGES;
     text += &calls(&results.rows);
     text += "\nA batch on a read set of 64 offers, in nanoseconds:\n\n";
     text += &batches(&results.batches);
@@ -70,6 +72,13 @@ Each call of the C interface is measured beside
 All buffers are warm: each side has made the same calls on the same memory just before. Calls that change the store are
 timed one by one, what they change is restored before each, and the clock's own time is subtracted. Offers, lists and
 stores take turns.
+
+";
+
+const IMAGES: &str = "\
+All steps held lie between the checkpoint and the tip whose images are written. The tip's is measured beside (a) in the
+same one call, and beside a flush of (a) to the tip and the image of the checkpoint that it then is; the store is copied
+before the flush, which is not timed.
 
 ";
 
@@ -139,6 +148,10 @@ fn targets(results: &Results) -> String {
     let mut text = String::from("\n## Targets\n\n| target | reached | |\n|---|---|---|\n");
     for (target, (reached, remark)) in [
         ("every call at full size at most 1.1 times (a)", to_rust(results)),
+        (
+            "the image of a state above the checkpoint at most 1.1 times a flush and an image of (a)",
+            tip_to_flush(results),
+        ),
         ("the fixed cost of every call, at 64 words, at most 1.2 times (w)", fixed_to_words(&results.fixed)),
         (
             "the same at most 1.2 times (a), which has no words of a head to unpack",
@@ -168,6 +181,12 @@ fn to_rust(results: &Results) -> (Option<bool>, String) {
         results.rows.iter().flat_map(|row| row.figures.iter().map(|figure| (row.call, &figure.ratio)));
     let batches = results.batches.iter().map(|(_, figure)| ("price_batch", &figure.ratio));
     at_most(TO_RUST, calls.chain(batches).collect())
+}
+
+/// Without a step held the tip is the checkpoint.
+fn tip_to_flush(results: &Results) -> (Option<bool>, String) {
+    let above = results.rows.iter().filter(|row| row.call == TIP_BY_FLUSH && row.held > 0);
+    at_most(TO_RUST, above.flat_map(|row| row.figures.iter().map(|it| (row.call, &it.ratio))).collect())
 }
 
 fn fixed_to_words(rows: &[Fixed]) -> (Option<bool>, String) {
@@ -374,7 +393,7 @@ pub fn grouped(number: usize) -> String {
 mod tests {
     use super::{grouped, micro, report, Setting};
     use crate::fixed::Fixed;
-    use crate::results::{Beside, Figure, Line, Point, Results, Row, Soundness};
+    use crate::results::{Beside, Figure, Line, Point, Results, Row, Soundness, TIP_BY_FLUSH};
     use crate::timing::Spread;
 
     fn about(median: f64) -> Spread {
@@ -389,7 +408,11 @@ mod tests {
         let lmdb = lmdb.map(about);
         let to_words = if ratio > 1.2 { 1.22 } else { 0.75 };
         Results {
-            rows: vec![Row { call: "load", held: 0, figures: vec![figure; 3] }],
+            rows: vec![
+                Row { call: "load", held: 0, figures: vec![figure; 3] },
+                Row { call: TIP_BY_FLUSH, held: 0, figures: vec![figure; 3] },
+                Row { call: TIP_BY_FLUSH, held: 8, figures: vec![figure; 3] },
+            ],
             batches: vec![(64, figure)],
             fixed: vec![Fixed { call: "release", figure, words: about(1200.0), to_words: about(to_words) }],
             soundness: vec![Soundness {
@@ -423,7 +446,8 @@ mod tests {
     fn targets_that_are_reached() {
         let lines = lines_of(results(1.104, 2.504, Some(1500.0), 130.0));
         assert!(lines.contains(&String::from("- a machine")));
-        assert!(target(&lines, "every call at full size").ends_with("| yes | 4 of 4 figures |"));
+        assert!(target(&lines, "every call at full size").ends_with("| yes | 10 of 10 figures |"));
+        assert!(target(&lines, "the image of a state").ends_with("| yes | 3 of 3 figures |"));
         assert!(target(&lines, "the fixed cost").ends_with("| yes | 1 of 1 figures |"));
         assert!(target(&lines, "the same at most 1.2 times (a)").ends_with("| yes | 1 of 1 figures |"));
         assert!(target(&lines, "the test").ends_with("| yes | 2.50 to 2.50 |"));
@@ -435,9 +459,13 @@ mod tests {
     #[test]
     fn targets_that_are_not_reached() {
         let lines = lines_of(results(1.21, 2.6, None, 140.0));
-        assert!(target(&lines, "every call").ends_with(
-            "| no | 0 of 4 figures; above the limit, by the highest figure of each call: load (1.21), price_batch (1.21) |"
-        ));
+        assert!(target(&lines, "every call").ends_with(&format!(
+            "| no | 0 of 10 figures; above the limit, by the highest figure of each call: load (1.21), {TIP_BY_FLUSH} (1.21), \
+             price_batch (1.21) |"
+        )));
+        assert!(target(&lines, "the image of a state").ends_with(&format!(
+            "| no | 0 of 3 figures; above the limit, by the highest figure of each call: {TIP_BY_FLUSH} (1.21) |"
+        )));
         assert!(target(&lines, "the fixed cost").ends_with(
             "| no | 0 of 1 figures; above the limit, by the highest figure of each call: release (1.22) |"
         ));

@@ -126,19 +126,27 @@ struct Call {
 }
 
 macro_rules! call {
-    ($name:literal, $stage:ident, $call:ident) => {
+    ($name:expr, $stage:ident, $call:ident) => {
+        call!($name, $stage, $call, $call)
+    };
+    ($name:expr, $stage:ident, $unit:ident, $rust:ident) => {
         Call {
             name: $name,
             stage: Stage::$stage,
-            sides: [calls::$call::<Lent> as Make, calls::$call::<Memory> as Make],
+            sides: [calls::$unit::<Lent> as Make, calls::$rust::<Memory> as Make],
         }
     };
 }
 
-const CALLS: [Call; 15] = [
+/// The image of the tip beside what makes the same one in two calls.
+pub const TIP_BY_FLUSH: &str = "write_image, tip, (a) flushes and writes";
+
+const CALLS: [Call; 17] = [
     call!("clear", Any, clear),
     call!("load", Any, load),
-    call!("write_image", Steps, write_image),
+    call!("write_image, checkpoint", Steps, write_checkpoint),
+    call!("write_image, tip", Steps, write_tip),
+    call!(TIP_BY_FLUSH, Steps, write_tip, flush_and_write),
     call!("restart", Steps, restart),
     call!("commit of 64", Room, commit_64),
     call!("commit of 1", Room, commit_1),
@@ -276,4 +284,20 @@ pub fn half_full(words: usize) -> Shape {
     let step = (journal / 64).max(1);
     let held = (journal / step / 2).min(32);
     Shape { table, journal, offers: table, held, step, read: step }
+}
+
+#[cfg(test)]
+mod tests {
+    use super::{shape, CALLS, HELD, OFFERS};
+
+    /// A side tests its answer where it is made. No time is asserted.
+    #[test]
+    fn every_call_is_accepted() {
+        for (offers, held) in OFFERS.iter().flat_map(|&offers| HELD.map(|held| (offers, held))) {
+            for (call, held) in CALLS.iter().filter_map(|call| Some((call, call.held(held)?))) {
+                let scene = call.stage.scene(shape(offers, held));
+                call.sides.iter().for_each(|side| assert!(side(&scene)(2).is_finite(), "{}", call.name));
+            }
+        }
+    }
 }

@@ -2,7 +2,7 @@
 
 use crate::baseline::{word, Head};
 use cechnuol::raw::DESK;
-use cechnuol::HEAD_WORDS;
+use cechnuol::{image_bytes_of, HEAD_WORDS};
 use ffi::Lent;
 use model::rng::Rng;
 use std::collections::BTreeSet;
@@ -98,6 +98,11 @@ impl Scene {
     /// The image of the table.
     pub fn image(&self) -> Vec<u8> {
         image_of(&self.table[..self.shape.offers])
+    }
+
+    /// The bytes of the longest image that a state of these stores may have.
+    pub fn image_bytes(&self) -> usize {
+        image_bytes_of(self.shape.offers + self.shape.held * self.shape.step)
     }
 
     /// The words lent.

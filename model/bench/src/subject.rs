@@ -17,6 +17,7 @@ pub trait Subject: 'static {
     fn clear(&mut self) -> u64;
     fn load(&mut self, bytes: &[u8]) -> u64;
     fn write_image(&mut self, bytes: &mut [u8]) -> u64;
+    fn write_state_image(&mut self, state: u32, bytes: &mut [u8]) -> u64;
     fn restart(&mut self, bytes: &mut [u8]) -> u64;
     fn commit(&mut self, list: &[u64]) -> u64;
     fn roll_back(&mut self, state: u32) -> u64;
@@ -56,6 +57,10 @@ impl Subject for Lent {
 
     fn write_image(&mut self, bytes: &mut [u8]) -> u64 {
         self.to_read().write_image(bytes, &mut 0)
+    }
+
+    fn write_state_image(&mut self, state: u32, bytes: &mut [u8]) -> u64 {
+        self.to_read().write_state_image(state, bytes, &mut 0)
     }
 
     fn restart(&mut self, bytes: &mut [u8]) -> u64 {
@@ -137,6 +142,10 @@ impl Subject for Memory {
 
     fn write_image(&mut self, bytes: &mut [u8]) -> u64 {
         code(self.lend().write_image(bytes))
+    }
+
+    fn write_state_image(&mut self, state: u32, bytes: &mut [u8]) -> u64 {
+        code(self.lend().write_state_image(state, bytes))
     }
 
     fn restart(&mut self, bytes: &mut [u8]) -> u64 {

@@ -38,7 +38,8 @@ fn say(memory: &mut Memory, bytes: &mut [u8], caller: u32, call: &Call, filled: 
     let (code, value) = match call {
         Call::Clear => done(store.clear()),
         Call::Load => done(store.load(bytes)),
-        Call::WriteImage => counted(store.write_image(bytes)),
+        Call::WriteImage { state: None } => counted(store.write_image(bytes)),
+        Call::WriteImage { state: Some(state) } => counted(store.write_state_image(*state, bytes)),
         Call::Restart => done(store.restart(bytes)),
         Call::Commit { list } => done(store.commit(list)),
         Call::RollBack { state } => done(store.roll_back(*state)),
@@ -116,7 +117,8 @@ fn code_of<S: Subject>(
     let code = match call {
         Call::Clear => store.clear(),
         Call::Load => store.load(bytes),
-        Call::WriteImage => store.write_image(bytes),
+        Call::WriteImage { state: None } => store.write_image(bytes),
+        Call::WriteImage { state: Some(state) } => store.write_state_image(*state, bytes),
         Call::Restart => store.restart(bytes),
         Call::Commit { .. } => store.commit(&words),
         Call::RollBack { state } => store.roll_back(*state),

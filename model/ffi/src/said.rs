@@ -36,7 +36,7 @@ impl fmt::Display for Said {
 
 /// Whether the call is a query: it takes the store to read only, and no tally.
 pub fn is_query(call: &Call) -> bool {
-    matches!(call, Call::WriteImage | Call::LookUp { .. })
+    matches!(call, Call::WriteImage { .. } | Call::LookUp { .. })
 }
 
 /// Makes a call on the library, with the number of whoever calls. A forward without words of its own is given those filled for
@@ -47,7 +47,10 @@ pub fn say(lent: &mut Lent, bytes: &mut [u8], caller: u32, call: &Call, filled: 
     let code = match call {
         Call::Clear => lent.lend().clear(),
         Call::Load => lent.lend().load(bytes),
-        Call::WriteImage => lent.to_read().write_image(bytes, &mut value),
+        Call::WriteImage { state: None } => lent.to_read().write_image(bytes, &mut value),
+        Call::WriteImage { state: Some(state) } => {
+            lent.to_read().write_state_image(*state, bytes, &mut value)
+        }
         Call::Restart => lent.lend().restart(bytes),
         Call::Commit { list } => lent.lend().commit(list),
         Call::RollBack { state } => lent.lend().roll_back(*state),

@@ -15,14 +15,17 @@ const TABLES: [usize; 8] = [0, 1, 2, 3, 7999, 8000, 8001, 8192];
 const JOURNALS: [usize; 8] = [0, 1, 2, 3, 4095, 4096, 4097, 4608];
 const WORDS: [u64; 6] = [0, 1, 2, 7, 1 << 32, u64::MAX];
 
-/// A call of each kind, with lists, read sets and outputs of a length; from both callers where they are named.
+/// A call of each kind, with lists, read sets and outputs of a length; from both callers where they are named, and of each state
+/// of an image.
 fn calls(words: usize) -> Vec<Call> {
     let puts: Vec<u64> = (0..words as u32).map(|offer| entry(offer, Some(offer))).collect();
     let asks: Vec<u64> = (0..words as u32).map(|offer| entry(offer, None)).collect();
     vec![
         Call::Clear,
         Call::Load,
-        Call::WriteImage,
+        Call::WriteImage { state: None },
+        Call::WriteImage { state: Some(0) },
+        Call::WriteImage { state: Some(1) },
         Call::Restart,
         Call::Commit { list: puts.clone() },
         Call::RollBack { state: 0 },
@@ -149,6 +152,33 @@ fn every_length_of_what_a_call_is_lent() {
                     step(Command::Call(call));
                 }
             }
+        }
+    }
+}
+
+/// A table of two words that is full, a step that adds two offers and one that removes all: every number of bytes for the image of
+/// each state, of none, and for a restart, as in the model.
+#[test]
+fn every_length_of_the_bytes_for_an_image() {
+    let mut pair = Pair::default();
+    let mut step = |command: Command| pair.step(&command).unwrap_or_else(|it| panic!("{command:?}: {it}"));
+    step(Command::Lend { memory: Memory::Table, length: 2 });
+    step(Command::Lend { memory: Memory::Journal, length: 8 });
+    let image = [0, 0, 0, 7, 0, 2, 0x80, 0, 0, 5, 0, 0, 0x04, 0xB0, 0x80, 0, 0, 9, 0, 0, 0x02, 0xBC];
+    let adds = vec![entry(1, Some(0)), entry(7, Some(u32::MAX))];
+    let removes = [1, 5, 7, 9].map(|offer| entry(offer, None)).to_vec();
+    for length in 0..=40 {
+        step(Command::Lend { memory: Memory::Bytes, length: 22 });
+        step(Command::Poke { at: 0, poke: Poke::Bytes(image.to_vec()) });
+        step(Command::Call(Call::Load));
+        for list in [&adds, &removes] {
+            step(Command::Call(Call::Commit { list: list.clone() }));
+        }
+        let states = (6..=10).map(Some).chain([None]);
+        for call in states.map(|state| Call::WriteImage { state }).chain([Call::Restart]) {
+            step(Command::Lend { memory: Memory::Bytes, length });
+            step(Command::Fill { memory: Memory::Bytes, at: 0, count: length / 8, word: u64::MAX, rise: 0 });
+            step(Command::Call(call));
         }
     }
 }

@@ -17,13 +17,17 @@ fn store() -> Lent {
     assert_eq!(lent.lend().commit(&[entry(5, Some(1200)), entry(9, Some(700))]), 0);
     assert_eq!(lent.lend().flush(1), 0);
     assert_eq!(lent.lend().issue(DESK, 3, &mut [entry(5, None)]), 0);
-    assert_eq!(lent.lend().commit(&[entry(5, Some(1100)), entry(9, None), entry(11, Some(0))]), 0);
+    let list = [entry(5, Some(1100)), entry(9, None), entry(11, Some(0)), entry(12, Some(1))];
+    assert_eq!(lent.lend().commit(&list), 0);
     assert_eq!(lent.tally, [2, 0, 1]);
     lent
 }
 
-/// The image of state 1 of that store.
+/// The images of states 1 and 2 of that store.
 const IMAGE: [u8; 22] = [0, 0, 0, 1, 0, 2, 0x80, 0, 0, 5, 0, 0, 0x04, 0xB0, 0x80, 0, 0, 9, 0, 0, 0x02, 0xBC];
+const TIP: [u8; 30] = [
+    0, 0, 0, 2, 0, 3, 0x80, 0, 0, 5, 0, 0, 0x04, 0x4C, 0x80, 0, 0, 11, 0, 0, 0, 0, 0x80, 0, 0, 12, 0, 0, 0, 1,
+];
 
 /// What a lookup answers, and what it leaves in a price word that held [`UNTOUCHED`].
 fn look_up(store: StoreRef, caller: u32, offer: u32, state: u32) -> (u64, u64) {
@@ -32,10 +36,14 @@ fn look_up(store: StoreRef, caller: u32, offer: u32, state: u32) -> (u64, u64) {
     (code, price)
 }
 
-/// What writing an image answers, what it leaves in a count that held [`UNTOUCHED`], and so many bytes that were 0xAA.
-fn write_image(store: StoreRef, length: usize) -> (u64, u64, Vec<u8>) {
+/// What writing the image of a state, or of none, answers, what it leaves in a count that held [`UNTOUCHED`], and so many bytes
+/// that were 0xAA.
+fn write_image(store: StoreRef, state: Option<u32>, length: usize) -> (u64, u64, Vec<u8>) {
     let (mut bytes, mut count) = (vec![0xAA; length], UNTOUCHED);
-    let code = store.write_image(&mut bytes, &mut count);
+    let code = match state {
+        None => store.write_image(&mut bytes, &mut count),
+        Some(state) => store.write_state_image(state, &mut bytes, &mut count),
+    };
     (code, count, bytes)
 }
 
@@ -61,18 +69,27 @@ fn ask(store: StoreRef) {
             );
         }
     }
-    assert_eq!(write_image(store, 22), (0, 22, IMAGE.to_vec()));
-    assert_eq!(write_image(store, 25), (0, 22, [&IMAGE[..], &[0xAA; 3]].concat()));
-    assert_eq!(write_image(store, 21), (17, UNTOUCHED, vec![0xAA; 21]));
-    assert_eq!(write_image(store, 0), (17, UNTOUCHED, vec![]));
+    for (state, image) in [(None, &TIP[..]), (Some(1), &IMAGE), (Some(2), &TIP)] {
+        let length = image.len();
+        assert_eq!(write_image(store, state, length), (0, length as u64, image.to_vec()));
+        assert_eq!(write_image(store, state, length + 3), (0, length as u64, [image, &[0xAA; 3]].concat()));
+        assert_eq!(write_image(store, state, length - 1), (17, UNTOUCHED, vec![0xAA; length - 1]));
+        assert_eq!(write_image(store, state, 0), (17, UNTOUCHED, vec![]));
+    }
+    for (state, length) in [(0, 30), (3, 30), (0, 0), (u32::MAX, 0)] {
+        assert_eq!(write_image(store, Some(state), length), (11, UNTOUCHED, vec![0xAA; length]));
+    }
 }
 
-/// Both queries turned away on a ground, their output as it came.
+/// All queries turned away on a ground, their output as it came.
 fn ask_in_vain(store: StoreRef, ground: u64) {
     for caller in [DESK].into_iter().chain(FOYERS) {
         assert_eq!(look_up(store, caller, 5, 1), (ground, UNTOUCHED));
     }
-    assert_eq!(write_image(store, 22), (ground, UNTOUCHED, vec![0xAA; 22]));
+    for state in [None, Some(0), Some(1), Some(2), Some(3)] {
+        assert_eq!(write_image(store, state, 30), (ground, UNTOUCHED, vec![0xAA; 30]));
+        assert_eq!(write_image(store, state, 0), (ground, UNTOUCHED, vec![]));
+    }
 }
 
 /// The ground on which queries are turned away after a change to a store, and that change.
@@ -210,7 +227,15 @@ fn a_full_store_in_read_only_memory() {
     assert_eq!(look_up(full, FOYER, 127, 1), (0, 63));
     assert_eq!(look_up(full, DESK, 127, 64), (0, 6363));
     assert_eq!(look_up(full, FOYER, 127, 0), (NO_PRICE, UNTOUCHED));
-    assert_eq!(write_image(full, 64_006), (0, 64_006, image));
+    assert_eq!(write_image(full, Some(0), 64_006), (0, 64_006, image));
+    // State 64 has the 64 odd offers up to 127 beside the even ones, at the prices of the last step.
+    let mut tip = vec![0, 0, 0, 64];
+    tip.extend(8064u16.to_be_bytes());
+    let price = |offer: u32| if offer.is_multiple_of(2) { offer / 2 } else { 6300 + offer / 2 };
+    let offers = (0..128).chain((128..16_000).step_by(2));
+    tip.extend(offers.flat_map(|offer| entry(offer, Some(price(offer))).to_be_bytes()));
+    assert_eq!(write_image(full, Some(64), 64_518), (0, 64_518, tip.clone()));
+    assert_eq!(write_image(full, None, 64_518), (0, 64_518, tip));
 }
 
 /// The list of a commit, the image of a load, and the read set and orders of a batch, whether they are accepted or not.

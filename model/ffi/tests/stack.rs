@@ -5,8 +5,9 @@ use ffi::Lent;
 use model::word::entry;
 use std::thread;
 
-/// What the header says that a flush and any other call need at most, and what a thread has beside it for itself and for the test.
-const FLUSH: usize = 160 << 10;
+/// What the header says that a flush and the image of a state above the checkpoint need at most, and any other call; and what a
+/// thread has beside it for itself and for the test.
+const MOST: usize = 160 << 10;
 const OTHERS: usize = 32 << 10;
 const REST: usize = 16 << 10;
 
@@ -32,12 +33,31 @@ fn with_stack(size: usize, calls: impl FnOnce() + Send + 'static) {
 #[test]
 fn a_flush_of_everything() {
     let mut lent = full(false);
-    with_stack(FLUSH, move || {
+    with_stack(MOST, move || {
         assert_eq!(lent.lend().flush(64), 0);
         assert_eq!(lent.head[0], 8000);
     });
     let mut lent = full(true);
-    with_stack(FLUSH, move || assert_eq!(lent.lend().flush(64), 16));
+    with_stack(MOST, move || assert_eq!(lent.lend().flush(64), 16));
+}
+
+/// The tip's image, by its number and without one, and that of a state below it: with 12,096 offers at the most, and with the
+/// table's 8,000.
+#[test]
+fn the_image_of_a_state_above_the_checkpoint() {
+    for (new, length) in [(true, 96_774), (false, 64_006)] {
+        let lent = full(new);
+        let mut bytes = vec![0; length];
+        with_stack(MOST, move || {
+            let mut value = 0;
+            assert_eq!((lent.to_read().write_image(&mut bytes, &mut value), value), (0, length as u64));
+            assert_eq!(lent.to_read().write_state_image(64, &mut bytes, &mut value), 0);
+            assert_eq!(lent.to_read().write_state_image(63, &mut bytes, &mut value), 0);
+            assert_eq!(lent.to_read().write_state_image(1, &mut bytes, &mut value), 0);
+            assert_eq!(lent.to_read().write_state_image(64, &mut bytes[1..], &mut value), 17);
+            assert_eq!(lent.to_read().write_image(&mut [], &mut value), 17);
+        });
+    }
 }
 
 #[test]
@@ -59,9 +79,25 @@ fn every_other_call() {
         assert_eq!(lent.lend().release(DESK, 5), 5);
         assert_eq!(lent.lend().release(FOYER, 7), 5);
         assert_eq!(lent.lend().roll_back(32), 0);
-        assert_eq!(lent.to_read().write_image(&mut bytes, &mut value), 0);
+        assert_eq!(lent.to_read().write_state_image(0, &mut bytes, &mut value), 0);
+        assert_eq!(lent.to_read().write_state_image(0, &mut bytes[1..], &mut value), 17);
+        assert_eq!(lent.to_read().write_state_image(33, &mut bytes, &mut value), 11);
         assert_eq!(lent.lend().restart(&mut bytes), 0);
+        assert_eq!(lent.to_read().write_image(&mut bytes, &mut value), 0);
         assert_eq!(lent.lend().load(&bytes), 0);
         assert_eq!(lent.lend().clear(), 0);
+    });
+}
+
+/// The checkpoint's image is no larger for a tip that the table has no room for.
+#[test]
+fn the_checkpoint_below_a_large_tip() {
+    let mut lent = full(true);
+    let mut bytes = vec![0; 64_006];
+    with_stack(OTHERS, move || {
+        let mut value = 0;
+        assert_eq!((lent.to_read().write_state_image(0, &mut bytes, &mut value), value), (0, 64_006));
+        assert_eq!(lent.lend().restart(&mut bytes), 0);
+        assert_eq!((lent.to_read().write_image(&mut bytes, &mut value), value), (0, 64_006));
     });
 }

@@ -58,7 +58,8 @@ fn request(library: &Library, call: &Call) -> String {
     match call {
         Call::Clear => "clear".to_string(),
         Call::Load => format!("load an image of {}", count(library.bytes.len() as u64, "byte")),
-        Call::WriteImage => "write the image".to_string(),
+        Call::WriteImage { state: None } => "write the image of the tip".to_string(),
+        Call::WriteImage { state: Some(state) } => format!("write the image of state {state}"),
         Call::Restart => "restart".to_string(),
         Call::Commit { list } => format!("commit {}", words(list, entry)),
         Call::RollBack { state } => format!("roll back to state {state}"),
@@ -99,7 +100,7 @@ fn accepted(call: &Call, said: &Said) -> String {
             "ok".to_string()
         }
         Call::LookUp { .. } => format!("price {}", said.value),
-        Call::WriteImage => format!("ok, {}", count(said.value, "byte")),
+        Call::WriteImage { .. } => format!("ok, {}", count(said.value, "byte")),
         Call::Issue { .. } | Call::Forward { .. } => format!("ok: {}", words(&said.words, entry)),
         Call::PriceBatch { .. } => format!("ok: {}", words(written(said), entry)),
         _ => format!("ok {}", said.value),

@@ -37,9 +37,29 @@ forward 4 2 with 0000000700000000 # -> forward slot 4 to state 2 with offer 7 no
 release 4 # -> release slot 4: refused 5 SLOT_CLOSED: the slot named for a forward or release is closed
 roll_back 2 # -> roll back to state 2: ok
 lend bytes 14 # -> lend bytes 14
-write_image # -> write the image: ok, 14 bytes
+write_image # -> write the image of the tip: ok, 14 bytes
 load # -> load an image of 14 bytes: ok
 restart # -> restart: ok
+",
+    );
+}
+
+#[test]
+fn images() {
+    explains(
+        "lend table 1 # -> lend table 1
+lend journal 2 # -> lend journal 2
+clear # -> clear: ok
+commit 80000005000004B0 80000009000002BC # -> commit offer 5 price 1200, offer 9 price 700: ok
+lend bytes 21 # -> lend bytes 21
+write_image # -> write the image of the tip: refused 17 OUTPUT_SHORT: the output is shorter than what is to be written
+write_image 0 # -> write the image of state 0: ok, 6 bytes
+write_image 1 # -> write the image of state 1: refused 17 OUTPUT_SHORT: the output is shorter than what is to be written
+write_image 2 # -> write the image of state 2: refused 11 STATE_RANGE: the state is below the checkpoint or above the tip
+write_image 1 2 # -> no call: too many arguments: write_image STATE
+lend bytes 22 # -> lend bytes 22
+write_image 1 # -> write the image of state 1: ok, 22 bytes
+load # -> load an image of 22 bytes: refused 16 TABLE_FULL: the state has more prices than the table has words
 ",
     );
 }

@@ -43,6 +43,20 @@ fn callers() {
     assert_eq!(printed(script), expected);
 }
 
+/// The image of each state, of one that the table has no room for too; a restart writes the checkpoint's.
+#[test]
+fn images() {
+    let script = b"lend table 1\nlend journal 2\nclear\ncommit 80000005000004B0 80000009000002BC\nlend bytes 24\n\
+        write_image\nshow bytes 0 24\nwrite_image 0\nshow bytes 0 8\nwrite_image 1\nwrite_image 2\nlend bytes 21\n\
+        write_image\nwrite_image 1\nrestart\nshow bytes 0 6\nshow head\n";
+    let expected = "line 3: ok\nline 4: ok\nline 6: ok 22\n\
+        line 7: bytes from 0 00 00 00 01 00 02 80 00 00 05 00 00 04 B0 80 00 00 09 00 00 02 BC 00 00\nline 8: ok 6\n\
+        line 9: bytes from 0 00 00 00 00 00 00 80 00\nline 10: ok 22\nline 11: refused 11\nline 13: refused 17\n\
+        line 14: refused 17\nline 15: ok\nline 16: bytes from 0 00 00 00 00 00 00\n\
+        line 17: head used 0 oldest 0 checkpoint 0 tip 0 held 00000000 issued 0 0 0 0 0 0 0 0 ends\n";
+    assert_eq!(printed(script), expected);
+}
+
 #[test]
 fn lines_of_any_bytes() {
     assert_eq!(printed(b""), "");

@@ -6,15 +6,19 @@ use crate::caller::Caller;
 use crate::changes::{changes_of, words_of, Changes};
 use crate::image;
 use crate::script::LIST_WORDS;
+use crate::store::STATE_OFFERS;
 use crate::unit::Call;
 use crate::word;
 
 /// How often each call is drawn, in the order of [`Generator::one_call`]. What begins a store anew is rare, so that stores live
 /// long enough for open slots to fall behind the checkpoint and for steps to run out.
-pub(super) const WEIGHTS: [usize; 12] = [1, 6, 16, 3, 100, 24, 44, 56, 52, 40, 10, 40];
+pub(super) const WEIGHTS: [usize; 12] = [1, 6, 30, 3, 100, 24, 44, 56, 52, 40, 10, 40];
 
 /// The same on damaged memory and on memory of wrong lengths: each call, but seldom one that mends the store.
-pub(super) const EVEN: [usize; 12] = [1, 1, 4, 4, 4, 4, 4, 4, 4, 4, 4, 2];
+pub(super) const EVEN: [usize; 12] = [1, 1, 8, 4, 4, 4, 4, 4, 4, 4, 4, 2];
+
+/// The index of the call that writes an image.
+pub(super) const WRITE_IMAGE: usize = 2;
 
 impl Generator {
     /// One call, by its index in [`WEIGHTS`].
@@ -22,8 +26,8 @@ impl Generator {
         let call = match which {
             0 => Call::Clear,
             1 => self.load(),
-            2 => self.output_for(Call::WriteImage),
-            3 => self.output_for(Call::Restart),
+            WRITE_IMAGE => self.write_image(),
+            3 => self.restart(),
             4 => Call::Commit { list: self.list_for_commit() },
             5 => Call::RollBack { state: self.state() },
             6 => Call::Flush { state: self.state() },
@@ -92,23 +96,48 @@ impl Generator {
         Call::Release { caller, slot }
     }
 
-    /// Lends bytes for an image to be written: as many as it needs, some more, or too few.
-    fn output_for(&mut self, call: Call) -> Call {
-        let exact = image::length(self.unit.store.head.used.min(8192) as usize);
-        match self.draw.rng.weighted(&[40, 20, 20, 10, 10]) {
-            0 => self.lend_output(exact),
-            1 => {
-                let more = self.draw.rng.within(1, 20);
-                self.lend_output(exact + more);
+    /// An image of a state that is named, or of none.
+    fn write_image(&mut self) -> Call {
+        let state = if self.draw.rng.percent(65) { Some(self.state()) } else { None };
+        self.output_for(state.unwrap_or(self.unit.store.head.tip));
+        Call::WriteImage { state }
+    }
+
+    fn restart(&mut self) -> Call {
+        self.output_for(self.unit.store.head.checkpoint);
+        Call::Restart
+    }
+
+    /// Lends bytes for the image of a state: as many as it needs, some more, too few, fewer than any image has, or as many as
+    /// another state's needs.
+    fn output_for(&mut self, state: u32) {
+        let exact = self.image_length(state);
+        let length = match self.draw.rng.weighted(&[36, 18, 18, 8, 5, 10, 5]) {
+            0 => exact,
+            1 => exact + self.draw.rng.within(1, 20),
+            2 => exact - 1,
+            3 => self.draw.rng.below(exact),
+            4 => self.draw.rng.below(image::HEADER),
+            5 => {
+                let head = &self.unit.store.head;
+                let other = self.draw.rng.pick(&[head.checkpoint, head.tip]);
+                self.image_length(other)
             }
-            2 => self.lend_output(exact - 1),
-            3 => {
-                let less = self.draw.rng.below(exact);
-                self.lend_output(less);
-            }
-            _ => {}
-        }
-        call
+            _ => return,
+        };
+        self.lend_output(length);
+    }
+
+    /// The length of a state's image. A state that is not kept has none, nor has any of a store that is not sound; then it is
+    /// what the head's count gives.
+    fn image_length(&self, state: u32) -> usize {
+        let store = &self.unit.store;
+        let offers = if store.is_sound() && store.keeps(state) {
+            store.map_at(state).len()
+        } else {
+            store.head.used.min(STATE_OFFERS as u64) as usize
+        };
+        image::length(offers)
     }
 
     /// Lends an image, often a broken one, to be loaded.
@@ -125,8 +154,9 @@ impl Generator {
                 self.lend_bytes(&bytes);
             }
             _ => {
-                let count = self.draw.rng.pick(&[table + 1, table + 1, table, 8192]);
-                self.lend_series(count.min(8192));
+                let count =
+                    self.draw.rng.pick(&[table + 1, table + 1, table + 1, table, table, STATE_OFFERS]);
+                self.lend_series(count);
             }
         }
         Call::Load

@@ -2,18 +2,37 @@
 
 use crate::caller::Caller;
 use crate::head::STEPS;
+use crate::image;
 use crate::sound::Clause;
 use crate::store::Store;
-use crate::unit::{Answer, Call};
+use crate::unit::{Answer, Call, Unit};
 use std::collections::BTreeSet;
+
+/// An image that a sound store is asked for.
+#[derive(Clone, Copy, Debug, PartialEq, Eq, PartialOrd, Ord)]
+pub struct Asked {
+    /// The call's form.
+    pub form: &'static str,
+    /// Whether its state is above the checkpoint.
+    pub above: bool,
+    /// Whether it has more offers than the table has words.
+    pub large: bool,
+    /// How many bytes more are lent than the image has: one or more as 1, two or more too few as -2.
+    pub more: i64,
+    /// Whether the bytes lent would do for the image of the tip.
+    pub tip_fits: bool,
+}
 
 /// What some calls met.
 #[derive(Clone, Debug, Default)]
 pub struct Coverage {
-    /// A call's word, the foyer if it calls, and the answer without values: `commit ok`, `look_up foyer none`.
+    /// A call's form and the answer without values: `commit ok`, `look_up foyer none`.
     pub answers: BTreeSet<String>,
-    /// A call's word and the clause that refused it by ground 2.
+    /// A call's form and the clause that refused it by ground 2.
     pub broken: BTreeSet<(&'static str, Clause)>,
+    /// The images asked for, and the most offers of a state above the checkpoint among them.
+    pub images: BTreeSet<Asked>,
+    pub most_offers: usize,
     /// The lengths lent at calls.
     pub tables: BTreeSet<usize>,
     pub journals: BTreeSet<usize>,
@@ -25,6 +44,32 @@ pub struct Coverage {
 }
 
 impl Coverage {
+    /// Notes the image that a call is about to ask for, if it is one that there is.
+    pub fn note_image(&mut self, unit: &Unit, call: &Call) {
+        let Unit { store, bytes, .. } = unit;
+        let state = match call {
+            Call::WriteImage { state } => state.unwrap_or(store.head.tip),
+            Call::Restart => store.head.checkpoint,
+            _ => return,
+        };
+        if !store.is_sound() || !store.keeps(state) {
+            return;
+        }
+        let [offers, at_tip] = [state, store.head.tip].map(|state| store.map_at(state).len());
+        let above = state > store.head.checkpoint;
+        let more = bytes.len() as i64 - image::length(offers) as i64;
+        self.images.insert(Asked {
+            form: call.form(),
+            above,
+            large: offers > store.table.len(),
+            more: more.clamp(-2, 1),
+            tip_fits: image::length(at_tip) <= bytes.len(),
+        });
+        if above {
+            self.most_offers = self.most_offers.max(offers);
+        }
+    }
+
     /// Notes a call, its answer, the clause that was broken before it, and the store after it.
     pub fn note(&mut self, call: &Call, answer: Answer, broken: Option<Clause>, store: &Store) {
         let kind = match answer {
@@ -32,10 +77,9 @@ impl Coverage {
             Answer::NoPrice | Answer::Refused(_) => answer.to_string(),
         };
         let accepted = !matches!(answer, Answer::Refused(_));
-        let by = if call.caller() == Some(Caller::Foyer) { " foyer" } else { "" };
-        self.answers.insert(format!("{}{by} {kind}", call.name()));
+        self.answers.insert(format!("{} {kind}", call.form()));
         if let (Some(clause), "refused 2") = (broken, kind.as_str()) {
-            self.broken.insert((call.name(), clause));
+            self.broken.insert((call.form(), clause));
         }
         self.tables.insert(store.table.len());
         self.journals.insert(store.journal.len());
@@ -55,6 +99,8 @@ impl Coverage {
     pub fn add(&mut self, other: Coverage) {
         self.answers.extend(other.answers);
         self.broken.extend(other.broken);
+        self.images.extend(other.images);
+        self.most_offers = self.most_offers.max(other.most_offers);
         self.tables.extend(other.tables);
         self.journals.extend(other.journals);
         self.lists.extend(other.lists);

@@ -7,12 +7,12 @@ mod damage;
 mod noise;
 mod setup;
 
-pub use coverage::Coverage;
+pub use coverage::{Asked, Coverage};
 
 use crate::draw::Draw;
 use crate::script::{perform, Command, Show, TallyField};
-use crate::sound;
 use crate::unit::{Call, Unit};
+use crate::{sound, word};
 
 /// A line of a generated script.
 #[derive(Clone, Debug, PartialEq, Eq)]
@@ -84,6 +84,7 @@ impl Generator {
     fn call(&mut self, call: Call) {
         let broken =
             sound::first_broken(&self.unit.store.table, &self.unit.store.journal, &self.unit.store.head);
+        self.coverage.note_image(&self.unit, &call);
         let reply = self.unit.serve(&call);
         self.coverage.note(&call, reply.answer, broken, &self.unit.store);
         self.items.push(Item::Command(Command::Call(call)));
@@ -95,13 +96,14 @@ impl Generator {
 
     /// One thing after another: mostly a call, at times something that comes between calls.
     fn episode(&mut self) {
-        match self.draw.rng.weighted(&[10, 70, 40, 25, 8, 10, 837]) {
+        match self.draw.rng.weighted(&[10, 70, 40, 25, 8, 10, 3, 834]) {
             0 => self.set_up(),
             1 => self.break_a_clause(),
             2 => self.damage_at_random(),
             3 => self.noise(),
             4 => self.many_commits(),
             5 => self.poke_tally(),
+            6 => self.many_offers(),
             _ => {
                 let which = self.draw.rng.weighted(&calls::WEIGHTS);
                 self.one_call(which);
@@ -126,6 +128,26 @@ impl Generator {
         for _ in 0..self.draw.rng.within(2, 66) {
             let list = if wide { self.draw.changes() } else { self.draw.short_changes() };
             self.call(Call::Commit { list });
+        }
+    }
+
+    /// Long lists of offers that are mostly new, until they are refused, and images of the states that they lead to.
+    fn many_offers(&mut self) {
+        let mut offer = self.draw.rng.below(100) as u32;
+        for _ in 0..self.draw.rng.within(2, 64) {
+            let rise = self.draw.rng.within(1, 3) as u32;
+            let length = self.draw.rng.pick(&[1, 63, 64, 64]);
+            let offers = (0..length).map(|index| offer + rise * index);
+            let list = offers.map(|offer| word::entry(offer, self.draw.maybe_price())).collect();
+            let tip = self.unit.store.head.tip;
+            self.call(Call::Commit { list });
+            if self.unit.store.head.tip == tip {
+                break;
+            }
+            offer += rise * self.draw.rng.pick(&[32, length, length]);
+        }
+        for _ in 0..3 {
+            self.one_call(calls::WRITE_IMAGE);
         }
     }
 

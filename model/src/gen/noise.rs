@@ -4,7 +4,7 @@ use super::{Generator, Item};
 use crate::script::{respond, LINE_BYTES};
 
 /// Lines that are no call on any memory, for one reason each.
-const NO_CALLS: [&str; 49] = [
+const NO_CALLS: [&str; 52] = [
     "Clear",
     "clear 0",
     "drop 1",
@@ -17,7 +17,7 @@ const NO_CALLS: [&str; 49] = [
     "lend table",
     "lend table 8193",
     "lend journal 4609",
-    "lend bytes 65543",
+    "lend bytes 98305",
     "lend words 5",
     "lend table 1 2",
     "poke table 0",
@@ -45,6 +45,9 @@ const NO_CALLS: [&str; 49] = [
     "commit 80000005000004B0 /",
     "roll_back",
     "flush 000000000000000000001",
+    "write_image tip",
+    "write_image 0 0",
+    "write_image 4294967296",
     "look_up 5",
     "look_up foyer 5",
     "foyer issue 6",

@@ -12,7 +12,7 @@ impl Generator {
     pub(super) fn set_up(&mut self) {
         if self.draw.rng.percent(25) {
             self.lend_out_of_range();
-            let count = self.draw.rng.within(1, 6);
+            let count = self.draw.rng.within(1, 10);
             self.any_calls(count);
         }
         let (table, journal) = (self.table_length(), self.journal_length());

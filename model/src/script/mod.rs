@@ -29,7 +29,7 @@ pub const TABLE_WORDS: u64 = 8192;
 /// The longest journal that can be lent.
 pub const JOURNAL_WORDS: u64 = 4608;
 /// The most bytes that can be lent.
-pub const BYTES: u64 = 65_542;
+pub const BYTES: u64 = 98_304;
 
 /// A lent memory.
 #[derive(Clone, Copy, Debug, PartialEq, Eq)]

@@ -154,7 +154,7 @@ fn call(first: Token, rest: &[Token]) -> Result<Call, Reason> {
     match first {
         b"clear" => exactly("clear", rest).map(|[]| Call::Clear),
         b"load" => exactly("load", rest).map(|[]| Call::Load),
-        b"write_image" => exactly("write_image", rest).map(|[]| Call::WriteImage),
+        b"write_image" => write_image(rest),
         b"restart" => exactly("restart", rest).map(|[]| Call::Restart),
         b"commit" => Ok(Call::Commit { list: words(rest)? }),
         b"roll_back" => {
@@ -172,6 +172,15 @@ fn call(first: Token, rest: &[Token]) -> Result<Call, Reason> {
         b"release" => release(rest),
         _ => Err(Reason::UnknownWord(Quoted::new(first))),
     }
+}
+
+/// The state need not be named.
+fn write_image(tokens: &[Token]) -> Result<Call, Reason> {
+    if tokens.is_empty() {
+        return Ok(Call::WriteImage { state: None });
+    }
+    let [state] = exactly("write_image STATE", tokens)?;
+    Ok(Call::WriteImage { state: Some(number_32("STATE", state)?) })
 }
 
 /// Who calls, with what a form has there, and what follows. Where neither word stands, it is the desk.

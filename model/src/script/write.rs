@@ -94,9 +94,11 @@ impl fmt::Display for Call {
             write!(f, " {}", Caller::Foyer)?;
         }
         match self {
-            Call::Clear | Call::Load | Call::WriteImage | Call::Restart => Ok(()),
+            Call::Clear | Call::Load | Call::WriteImage { state: None } | Call::Restart => Ok(()),
             Call::Commit { list } => f.write_str(&words_text(list)),
-            Call::RollBack { state } | Call::Flush { state } => write!(f, " {state}"),
+            Call::WriteImage { state: Some(state) } | Call::RollBack { state } | Call::Flush { state } => {
+                write!(f, " {state}")
+            }
             Call::LookUp { offer, state, .. } => write!(f, " {offer} {state}"),
             Call::Issue { slot, list, .. } => write!(f, " {slot}{}", words_text(list)),
             Call::Forward { slot, state, with: None, .. } => write!(f, " {slot} {state}"),

@@ -6,12 +6,13 @@ use model::unit::Unit;
 use std::fs;
 use std::path::PathBuf;
 
-/// Every answer that each call can give, without values, as the grounds concern the call. What follows the call's word says
-/// that the foyer makes it.
-pub const ANSWERS: [(&str, &[&str]); 16] = [
+/// Every answer that each form of a call can give, without values, as the grounds concern it. What follows the call's word says
+/// that the foyer makes it, or that an image's state is named.
+pub const ANSWERS: [(&str, &[&str]); 17] = [
     ("clear", &["ok", "refused 1"]),
     ("load", &["ok", "refused 1", "refused 15", "refused 16"]),
     ("write_image", &["ok", "refused 1", "refused 2", "refused 17"]),
+    ("write_image STATE", &["ok", "refused 1", "refused 2", "refused 11", "refused 17"]),
     ("restart", &["ok", "refused 1", "refused 2", "refused 17"]),
     ("commit", &["ok", "refused 1", "refused 2", "refused 6", "refused 12", "refused 13", "refused 14"]),
     ("roll_back", &["ok", "refused 1", "refused 2", "refused 11"]),

@@ -19,6 +19,10 @@ pub fn store() -> Store {
 pub const IMAGE: [u8; 22] =
     [0, 0, 0, 1, 0, 2, 0x80, 0, 0, 5, 0, 0, 0x04, 0xB0, 0x80, 0, 0, 9, 0, 0, 0x02, 0xBC];
 
+/// The image of state 2, the tip.
+pub const TIP_IMAGE: [u8; 22] =
+    [0, 0, 0, 2, 0, 2, 0x80, 0, 0, 5, 0, 0, 0x04, 0x4C, 0x80, 0, 0, 11, 0, 0, 0, 0];
+
 /// A store of zeros, of any lengths.
 pub fn of_lengths(table: usize, journal: usize) -> Store {
     Store::from_parts(vec![0; table], vec![0; journal], Head::default(), Tally::default())
@@ -36,10 +40,12 @@ pub fn with_head(store: &Store, words: &[(usize, u64)]) -> Store {
 pub type Call = fn(&mut Store) -> Result<(), Refusal>;
 
 /// A call of each kind that the store of [`store`] accepts, from the foyer too where it has slots of its own.
-pub const CALLS: [(&str, Call); 13] = [
+pub const CALLS: [(&str, Call); 15] = [
     ("clear", |store| store.clear()),
     ("load", |store| store.load(&IMAGE)),
     ("write_image", |store| store.write_image(&mut [0; 64]).map(drop)),
+    ("write_state_image of the checkpoint", |store| store.write_state_image(1, &mut [0; 64]).map(drop)),
+    ("write_state_image of the tip", |store| store.write_state_image(2, &mut [0; 64]).map(drop)),
     ("restart", |store| store.restart(&mut [0; 64])),
     ("commit", |store| store.commit(&[Entry::put(7, 7)])),
     ("roll_back", |store| store.roll_back(1)),

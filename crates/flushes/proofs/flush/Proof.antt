@@ -5,7 +5,8 @@ use mathlib.Core.Bool.{Bool}
 use Prim.Native.Nat.{ℕ}
 use Rattle.views.specs.Trim.{Trimmable}
 use Rattle.views.proofs.SoundFacts.{shaped}
-use Rattle.flushes.proofs.Flushing.{refused-of, counted-of, flush-refused, flush-done, flush-ok, flushed-trimmable}
+use Rattle.answers.proofs.Counted.{refused-of, counted-of}
+use Rattle.flushes.proofs.Flushing.{flush-refused, flush-done, flush-ok, flushed-trimmable}
 use borrow.Author.Needs.{needs, length-unmapped}
 use Rattle.flushes.proofs.flush.Statement.{statement}
 use Rattle.flushes.proofs.flush.Tie as tie

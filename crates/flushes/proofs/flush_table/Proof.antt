@@ -11,8 +11,9 @@ use Rattle.answers.proofs.Firsts.{stops, goes-on}
 use Rattle.views.specs.View.{Shaped}
 use Rattle.views.proofs.SoundFacts.{shaped}
 use Rattle.state_maps.specs.Held.{HeldState}
+use Rattle.state_maps.proofs.MapSizes.{held-known, starts-rise, size-here, no-words}
 use Rattle.state_maps.proofs.Working.{state-facts}
-use Rattle.flushes.proofs.Flushing.{held-not, held-known, room, sized, starts-rise, size-here, table-here, no-words}
+use Rattle.flushes.proofs.Flushing.{held-not, room, sized, table-here}
 use borrow.Author.Needs.{needs}
 use Rattle.flushes.proofs.flush_table.Statement.{statement}
 use Rattle.flushes.proofs.flush_table.Tie as tie

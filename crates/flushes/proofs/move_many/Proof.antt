@@ -5,7 +5,7 @@ use Prim.Native.Nat.{ℕ}
 use borrow.Author.Needs.{needs, length-unmapped}
 use Rattle.views.proofs.SoundFacts.{shaped}
 use Rattle.state_maps.proofs.Working.{state-facts}
-use Rattle.flushes.proofs.Flushing.{most-room}
+use Rattle.state_maps.proofs.MapSizes.{most-room}
 use Rattle.flushes.proofs.move_many.Statement.{statement}
 use Rattle.flushes.proofs.move_many.Tie as tie
 

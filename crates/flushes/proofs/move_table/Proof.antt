@@ -3,7 +3,8 @@
 use native.Mathlib.Omega.{arith}
 use borrow.Author.Needs.{needs}
 use Rattle.state_maps.proofs.Working.{state-facts}
-use Rattle.flushes.proofs.Flushing.{table-stays, map-long, map-in, table-is}
+use Rattle.state_maps.proofs.MapSizes.{map-long, map-in}
+use Rattle.flushes.proofs.Flushing.{table-stays, table-is}
 use Rattle.flushes.proofs.move_table.Statement.{statement}
 use Rattle.flushes.proofs.move_table.Tie as tie
 

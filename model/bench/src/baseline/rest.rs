@@ -1,5 +1,6 @@
 //! The calls of a store at rest: clear, load, write an image, restart.
 
+use super::changes::applied;
 use super::head::{Head, Tally};
 use super::image::{self, Image};
 use super::refusal::Refusal;
@@ -23,18 +24,33 @@ impl Store<'_> {
         Ok(())
     }
 
-    /// Writes the image of the checkpoint to the start of the bytes, and gives its length.
+    /// Writes the image of the tip to the start of the bytes, and gives its length.
     pub fn write_image(&self, bytes: &mut [u8]) -> Result<usize, Refusal> {
         self.test_store()?;
-        let length = image::length(self.head.used);
-        let bytes = bytes.get_mut(..length).ok_or(Refusal::OutputShort)?;
-        image::write(self.head.checkpoint, &self.table[..self.head.used], bytes);
-        Ok(length)
+        self.put_image(self.head.tip, bytes)
+    }
+
+    /// Writes the image of a state to the start of the bytes, and gives its length.
+    pub fn write_state_image(&self, state: u32, bytes: &mut [u8]) -> Result<usize, Refusal> {
+        self.test_store()?;
+        self.test_state(state)?;
+        self.put_image(state, bytes)
+    }
+
+    /// The image of a state that is kept. The table need not have room for its map.
+    fn put_image(&self, state: u32, bytes: &mut [u8]) -> Result<usize, Refusal> {
+        let table = &self.table[..self.head.used];
+        let changes = self.changes_to(state);
+        match &changes[..] {
+            [] => put_image(state, table, bytes),
+            changes => put_image(state, &applied(table, changes), bytes),
+        }
     }
 
     /// Writes the image of the checkpoint and loads it back; it needs no test.
     pub fn restart(&mut self, bytes: &mut [u8]) -> Result<(), Refusal> {
-        let length = self.write_image(bytes)?;
+        self.test_store()?;
+        let length = put_image(self.head.checkpoint, &self.table[..self.head.used], bytes)?;
         self.fill(&Image::written(self.head.checkpoint, &bytes[..length]));
         Ok(())
     }
@@ -52,4 +68,12 @@ impl Store<'_> {
         *self.head = Head::at_rest(state, used);
         *self.tally = Tally::default();
     }
+}
+
+/// Writes the image of a state's map, given as its words, and gives its length.
+fn put_image(state: u32, map: &[u64], bytes: &mut [u8]) -> Result<usize, Refusal> {
+    let length = image::length(map.len());
+    let bytes = bytes.get_mut(..length).ok_or(Refusal::OutputShort)?;
+    image::write(state, map, bytes);
+    Ok(length)
 }

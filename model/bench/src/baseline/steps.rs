@@ -40,9 +40,7 @@ impl Store<'_> {
     pub fn flush(&mut self, state: u32) -> Result<(), Refusal> {
         self.test_store()?;
         self.test_state(state)?;
-        let from = self.head.steps_to(self.head.checkpoint);
-        let ends = &self.head.ends[from..self.head.steps_to(state)];
-        let changes = composed(self.journal, self.head.end_of(from), ends);
+        let changes = self.changes_to(state);
         if !changes.is_empty() {
             self.apply(&changes)?;
         }
@@ -50,6 +48,13 @@ impl Store<'_> {
         self.head.checkpoint = state;
         self.trim();
         Ok(())
+    }
+
+    /// The composition of the steps from the checkpoint to a state.
+    pub(super) fn changes_to(&self, state: u32) -> Vec<u64> {
+        let from = self.head.steps_to(self.head.checkpoint);
+        let ends = &self.head.ends[from..self.head.steps_to(state)];
+        composed(self.journal, self.head.end_of(from), ends)
     }
 
     /// Applies changes to the table.

@@ -1,0 +1,99 @@
+-- `restart` meets its contract: what was written is what is loaded back.
+-- Assumes nothing.
+use mathlib.Core.Path.{_∙_, sym}
+use Prim.Native.Nat.{_^_, _<_}
+use lib.Seq.{length-take-le}
+use Rattle.answers.proofs.Counted.{refused-of, counted-of}
+use Rattle.restarts.proofs.Restarting.{restart-refused, image-inside, load-room, restart-done}
+use borrow.Author.Needs.{needs}
+use Rattle.restarts.proofs.restart.Statement.{statement}
+use Rattle.restarts.proofs.restart.Tie as tie
+
+-- a state number has 32 bits
+small : (d : tie.Start) → d .args .head .checkpoint < 2 ^ 32
+small d = search needs
+
+write-state-requires : tie.Need-write-state-requires
+write-state-requires c κs = search needs
+
+enum-known-answer : tie.Need-enum-known-answer
+enum-known-answer c = search needs
+
+same-length : tie.Need-same-length
+same-length c = search needs
+
+same-length-2 : tie.Need-same-length-2
+same-length-2 c = search needs
+
+same-length-3 : tie.Need-same-length-3
+same-length-3 c = search needs
+
+returns : tie.Need-returns
+returns c =
+    let c3 = c .before .before .before in
+    let args = c3 .before .before .before .before .before .before .before .args in
+    restart-refused (args .table .now) (args .journal .now) (args .head) (args .bytes .now)
+    (refused-of _ _ ((c3 .write-state) .ensures .0 .0) ((c .match) .keys2)) ((c3 .write-state) .ensures .1)
+
+slice-reshare-prefix-fill : tie.Need-slice-reshare-prefix-fill
+slice-reshare-prefix-fill c =
+    let c3 = c .before .before .before in
+    let c7 = c3 .before .before .before .before in
+    let args = c7 .before .before .before .before .before .before .before .args in
+    let k = counted-of _ _ (sym ((c3 .answer) .given .1) ∙ ((c7 .write-state) .ensures .0 .0)) in
+    image-inside (args .table .now) (args .journal .now) (args .head) (args .bytes .now) (k .0) (k .1) ((c7 .write-state) .ensures .1)
+
+slice-aggregate-fill : tie.Need-slice-aggregate-fill
+slice-aggregate-fill c =
+    let c4 = c .before .before .before .before in
+    let c8 = c4 .before .before .before .before in
+    let args = c8 .before .before .before .before .before .before .before .args in
+    let k = counted-of _ _ (sym ((c4 .answer) .given .1) ∙ ((c8 .write-state) .ensures .0 .0)) in
+    sym (length-take-le _ _
+    (image-inside (args .table .now) (args .journal .now) (args .head) (args .bytes .now) (k .0) (k .1) ((c8 .write-state) .ensures .1)))
+
+fill-requires : tie.Need-fill-requires
+fill-requires c κs =
+    let c4 = c .before .before .before .before in
+    let c8 = c4 .before .before .before .before in
+    let args = c8 .before .before .before .before .before .before .before .args in
+    let k = counted-of _ _ (sym ((c4 .answer) .given .1) ∙ ((c8 .write-state) .ensures .0 .0)) in
+    load-room (args .table .now) (args .journal .now) (args .head) (args .bytes .now) (k .0) (k .1) ((c8 .write-state) .ensures .1)
+    (small (c8 .before .before .before .before .before .before .before))
+
+same-length-4 : tie.Need-same-length-4
+same-length-4 c = search needs
+
+same-length-5 : tie.Need-same-length-5
+same-length-5 c = search needs
+
+same-length-6 : tie.Need-same-length-6
+same-length-6 c = search needs
+
+returns-2 : tie.Need-returns-2
+returns-2 c =
+    let c4 = c .before .before .before .before in
+    let c9 = c4 .before .before .before .before .before in
+    let c13 = c9 .before .before .before .before in
+    let args = c13 .before .before .before .before .before .before .before .args in
+    let k = counted-of _ _ (sym ((c9 .answer) .given .1) ∙ ((c13 .write-state) .ensures .0 .0)) in
+    restart-done (args .table .now) (args .journal .now) (args .head) (args .bytes .now) (k .0) (k .1) ((c13 .write-state) .ensures .1)
+    ((c4 .fill) .ensures .0) ((c4 .fill) .ensures .1) ((c4 .fill) .ensures .2)
+
+pub restart-spec : {M : Type 1} → statement M
+restart-spec =
+    tie.close
+    (tie.spec
+    write-state-requires
+    enum-known-answer
+    same-length
+    same-length-2
+    same-length-3
+    returns
+    slice-reshare-prefix-fill
+    slice-aggregate-fill
+    fill-requires
+    same-length-4
+    same-length-5
+    same-length-6
+    returns-2)

@@ -1,0 +1,114 @@
+//! The image of any kept state, and the restart that keeps the checkpoint's.
+
+use model::caller::Caller::Desk;
+use model::changes::map_of;
+use model::ground::Ground;
+use model::head::Head;
+use model::store::{Store, STATE_OFFERS};
+use model::word::entry;
+
+/// Offers 5 and 9 at state 7 in a table of two words, and a read open since then. The step to 8 adds offer 2, puts 5 at 0 and
+/// removes 9, and is flushed; that to 9 adds offers 3 and 4, and that to 10 removes all.
+fn store() -> Store {
+    let mut store = Store::of_lengths(2, 20);
+    let image = [0, 0, 0, 7, 0, 2, 0x80, 0, 0, 5, 0, 0, 0x04, 0xB0, 0x80, 0, 0, 9, 0, 0, 0x02, 0xBC];
+    assert_eq!(store.load(&image), Ok(()));
+    assert_eq!(store.issue(Desk, 0, &mut [entry(5, None)]), Ok(()));
+    assert_eq!(store.commit(&[entry(2, Some(1)), entry(5, Some(0)), entry(9, None)]), Ok(()));
+    assert_eq!(store.flush(8), Ok(()));
+    assert_eq!(store.commit(&[entry(3, Some(3)), entry(4, Some(4))]), Ok(()));
+    assert_eq!(store.commit(&[2, 3, 4, 5].map(|offer| entry(offer, None))), Ok(()));
+    assert_eq!((store.head.oldest, store.head.checkpoint, store.head.tip), (7, 8, 10));
+    store
+}
+
+const AT_8: [u8; 22] = [0, 0, 0, 8, 0, 2, 0x80, 0, 0, 2, 0, 0, 0, 1, 0x80, 0, 0, 5, 0, 0, 0, 0];
+const AT_9: [u8; 38] = [
+    0, 0, 0, 9, 0, 4, 0x80, 0, 0, 2, 0, 0, 0, 1, 0x80, 0, 0, 3, 0, 0, 0, 3, 0x80, 0, 0, 4, 0, 0, 0, 4, 0x80,
+    0, 0, 5, 0, 0, 0, 0,
+];
+const AT_10: [u8; 6] = [0, 0, 0, 10, 0, 0];
+
+#[test]
+fn the_image_of_each_kept_state() {
+    let store = store();
+    let images = [(Some(8), &AT_8[..]), (Some(9), &AT_9), (Some(10), &AT_10), (None, &AT_10)];
+    for (state, image) in images {
+        for more in [0, 1, 100] {
+            let mut bytes = vec![0xAA; image.len() + more];
+            assert_eq!(store.write_image(state, &mut bytes), Ok(image.len()), "{state:?}");
+            assert_eq!(bytes, [image, &vec![0xAA; more]].concat(), "{state:?}");
+        }
+        for room in 0..image.len() {
+            let mut bytes = vec![0xAA; room];
+            assert_eq!(store.write_image(state, &mut bytes), Err(Ground::Output), "{state:?} into {room}");
+            assert_eq!(bytes, vec![0xAA; room]);
+        }
+    }
+    for state in [0, 7, 11, u32::MAX] {
+        assert_eq!(store.write_image(Some(state), &mut [0; 100]), Err(Ground::State), "{state}");
+        assert_eq!(store.write_image(Some(state), &mut []), Err(Ground::State), "{state}");
+    }
+}
+
+/// The table has two words, and state 9 has four offers: no flush, but an image.
+#[test]
+fn a_state_that_the_table_has_no_room_for() {
+    let store = store();
+    assert_eq!(store.clone().flush(9), Err(Ground::TableFull));
+    for (words, outcome) in
+        [(2, Err(Ground::TableFull)), (3, Err(Ground::TableFull)), (4, Ok(())), (5, Ok(()))]
+    {
+        let mut elsewhere = Store::of_lengths(words, 1);
+        assert_eq!(elsewhere.load(&AT_9), outcome, "{words} words");
+        if outcome.is_ok() {
+            assert_eq!(elsewhere.head, Head::at_rest(9, 4));
+            assert_eq!(elsewhere.map_at(9), store.map_at(9));
+        }
+    }
+}
+
+/// A restart goes by the checkpoint's image, whether the tip's is shorter, as at state 10, or longer, as at state 9.
+#[test]
+fn a_restart_keeps_the_checkpoint() {
+    for tip in [8, 9, 10] {
+        let mut store = store();
+        assert_eq!(store.roll_back(tip), Ok(()));
+        for room in 0..AT_8.len() {
+            let (before, mut bytes) = (store.clone(), vec![0xAA; room]);
+            assert_eq!(store.restart(&mut bytes), Err(Ground::Output), "tip {tip}, {room} bytes");
+            assert_eq!((&store, bytes), (&before, vec![0xAA; room]));
+        }
+        let mut bytes = [0xAA; 24];
+        assert_eq!(store.restart(&mut bytes), Ok(()));
+        assert_eq!(bytes[..], [&AT_8[..], &[0xAA; 2]].concat());
+        assert_eq!((&store.head, store.map_at(8)), (&Head::at_rest(8, 2), map_of(&store.table)));
+        assert_eq!(store.journal, vec![0; 20]);
+    }
+}
+
+/// The longest image: 8,000 offers in the table, and 64 steps of 64 new ones.
+#[test]
+fn the_longest_image() {
+    let words: Vec<u64> = (0..8000).map(|offer| entry(2 * offer, Some(offer))).collect();
+    let mut store = Store::of_lengths(8000, 4096);
+    store.table.copy_from_slice(&words);
+    store.head = Head::at_rest(0, 8000);
+    for step in 0..64 {
+        let list: Vec<u64> = (0..64).map(|k| entry(2 * (64 * k + step) + 1, Some(step))).collect();
+        assert_eq!(store.commit(&list), Ok(()));
+    }
+    assert_eq!(STATE_OFFERS, 12_096);
+    let mut bytes = vec![0; 96_774];
+    for state in 0..=64 {
+        let length = 64_006 + 512 * state as usize;
+        assert_eq!(store.write_image(Some(state), &mut bytes[..length - 1]), Err(Ground::Output));
+        assert_eq!(store.write_image(Some(state), &mut bytes), Ok(length));
+    }
+    assert_eq!(bytes[..14], [0, 0, 0, 64, 0x2F, 0x40, 0x80, 0, 0, 0, 0, 0, 0, 0]);
+    assert_eq!(store.write_image(None, &mut bytes[..96_773]), Err(Ground::Output));
+    assert_eq!(Store::of_lengths(8000, 1).load(&bytes), Err(Ground::TableFull));
+    assert_eq!(store.restart(&mut bytes[..64_005]), Err(Ground::Output));
+    assert_eq!(store.restart(&mut bytes[..64_006]), Ok(()));
+    assert_eq!(store.table, words);
+}
