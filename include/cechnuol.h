@@ -271,6 +271,18 @@ static inline size_t cechnuol_oldest_slot(const uint64_t head[CECHNUOL_HEAD_WORD
     return oldest;
 }
 
+/* Images. */
+
+/* An image is the prices at one state as bytes: the state number in 32 bits, the count of offers in 16 bits, and then
+ * that many entry words of kind 1 with strictly rising offers, each number most significant byte first. Its length is
+ * exactly 6 + 8 * count bytes. What one store writes loads into any store whose table has count words or more.
+ *
+ * An image is written of the tip, or of any state from the checkpoint to the tip that is named: to save the newest
+ * prices, nothing is flushed first. A state above the checkpoint may have more prices than the table has words, up to
+ * one for each word of table and journal. Its image is written too, and loads into a table that has a word for each
+ * price; one of more than CECHNUOL_IMAGE_BYTES_OF(CECHNUOL_TABLE_WORDS) bytes, which has more than 8,000, loads into
+ * none. */
+
 /* How many bytes are enough for the image of any state from the checkpoint to the tip: as if each change above the
  * checkpoint were an offer of its own. Never above CECHNUOL_IMAGE_BYTES, whatever the words are. */
 static inline size_t cechnuol_image_bytes(const uint64_t head[CECHNUOL_HEAD_WORDS])
@@ -286,17 +298,6 @@ static inline size_t cechnuol_image_bytes(const uint64_t head[CECHNUOL_HEAD_WORD
         return CECHNUOL_IMAGE_BYTES;
     return CECHNUOL_IMAGE_BYTES_OF(used + words);
 }
-
-/* Images. */
-
-/* An image is the prices at one state as bytes: the state number in 32 bits, the count of offers in 16 bits, and then
- * that many entry words of kind 1 with strictly rising offers, each number most significant byte first. Its length is
- * exactly 6 + 8 * count bytes. What one store writes loads into any store whose table has count words or more.
- *
- * An image is written of the tip, or of any state from the checkpoint to the tip that is named: to save the newest
- * prices, nothing is flushed first. A state above the checkpoint may have more prices than the table has words, up to
- * one for each word of table and journal. Its image is written too; a table takes it that has a word for each, and of
- * more than 8,000 prices, or CECHNUOL_IMAGE_BYTES_OF(CECHNUOL_TABLE_WORDS) bytes, none does. */
 
 /* Answers. */
 
