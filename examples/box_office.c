@@ -159,7 +159,7 @@ static void price_orders(const uint64_t reads[2])
 /* The night: the image of the newest prices is kept, and loaded the next morning. */
 static void keep_overnight(void)
 {
-    uint8_t image[CECHNUOL_IMAGE_BYTES_OF(100)];
+    uint8_t image[CECHNUOL_IMAGE_BYTES_OF(100 + 200)]; /* an offer for each word of table and journal */
     uint64_t count = 0;
     must(cechnuol_store_write_image(&store, image, sizeof image, &count), "the image");
     printf("State 4 is written as an image of %" PRIu64 " bytes, from which a store is loaded.\n", count);

@@ -51,8 +51,8 @@
  *   memory of its own.
  *
  *   Stack. A flush, and the writing of the image of a state above the checkpoint, need up to 160 KiB of stack, and any
- *   other call less than 32 KiB. With few prices they take less than 40 KiB, so a test with a small store does not show
- *   that a stack is too small. Beware of small ones, as the 128 KiB that musl gives a thread, or those that
+ *   other call less than 32 KiB. With few prices in table and journal these two take less than 40 KiB, so a test with a
+ *   small store does not show that a stack is too small. Beware of small ones, as the 128 KiB that musl gives a thread, or those that
  *   pthread_attr_setstacksize made smaller. A stack that is too small ends the program where a guard page lies below
  *   it; one in memory of the program's own (pthread_attr_setstack, coroutines) has none, and what lies below is
  *   overwritten. The library has no unwind tables: where a program ends within a call, a debugger shows the innermost
@@ -283,8 +283,9 @@ static inline size_t cechnuol_oldest_slot(const uint64_t head[CECHNUOL_HEAD_WORD
  * price; one of more than CECHNUOL_IMAGE_BYTES_OF(CECHNUOL_TABLE_WORDS) bytes, which has more than 8,000, loads into
  * none. */
 
-/* How many bytes are enough for the image of any state from the checkpoint to the tip: as if each change above the
- * checkpoint were an offer of its own. Never above CECHNUOL_IMAGE_BYTES, whatever the words are. */
+/* How many bytes are enough for the image of any state from the checkpoint to the tip, and for a restart: as if each
+ * change above the checkpoint were an offer of its own. It is room and not the length, which the call gives. Never above
+ * CECHNUOL_IMAGE_BYTES, whatever the words are. */
 static inline size_t cechnuol_image_bytes(const uint64_t head[CECHNUOL_HEAD_WORDS])
 {
     const uint64_t *ends = head + CECHNUOL_ENDS;
@@ -414,7 +415,8 @@ uint64_t cechnuol_clear(CECHNUOL_STORE);
 uint64_t cechnuol_load(CECHNUOL_STORE, const uint8_t *bytes, size_t byte_count);
 
 /* A query. Writes the image of the tip to the start of the bytes and its length to *count; bytes past it stay. It has
- * the newest prices, whatever is flushed.
+ * the newest prices, whatever is flushed, and may have more of them than the table of this store has words: such a one
+ * loads into a longer table alone.
  * Changes: bytes, *count.
  * Refusals: LENGTHS, UNSOUND, OUTPUT_SHORT.
  * At OUTPUT_SHORT lend cechnuol_image_bytes(head) bytes; CECHNUOL_IMAGE_BYTES are always enough. */
@@ -447,10 +449,12 @@ uint64_t cechnuol_restart(CECHNUOL_STORE, uint8_t *bytes, size_t byte_count);
  * until the commit passes. Where oldest is the checkpoint, no slot holds a step back and to close one frees nothing:
  * what helps then is said at TABLE_FULL of cechnuol_flush.
  * At JOURNAL_FULL do the same, but first test the list: one of more than journal_words words never fits, whatever is
- * given up. Commit it in parts, each a state of its own, or move to a store with a longer journal (write the image, load
- * it there; open reads, the states below the tip and the tally stay behind).
+ * given up. Commit it in parts, each a state of its own, or move to a store with a longer journal and a table that has a
+ * word for each price of the tip (write the image, load it there; open reads, the states below the tip and the tally
+ * stay behind).
  * At LAST_STATE there is no further number: write the image, set its first four bytes to 0, and load it. The same prices
- * are then state 0. */
+ * are then state 0; open reads, the states below the tip and the tally are gone. Where the load is refused by
+ * TABLE_FULL, lend a longer table, or roll back a state, commit removals and write again. */
 uint64_t cechnuol_commit(CECHNUOL_STORE, const uint64_t *words, size_t word_count);
 
 /* Makes a state the tip: the steps above it are gone, and later commits use their numbers again. A rollback to the tip
@@ -467,11 +471,12 @@ uint64_t cechnuol_roll_back(CECHNUOL_STORE, uint32_t state);
  * Refusals: LENGTHS, UNSOUND, STATE_RANGE, TABLE_FULL.
  * At TABLE_FULL the state named has more prices than the table has words; the states on the way to it do not count.
  * Flush to another one: a lower one that fits, or commit removals (where there is no room for them, roll back first)
- * and flush to the new tip. Or move to a longer table: write the image and load it into a store that has one, where the
- * tip is then the checkpoint. To keep the states below the tip too, write the checkpoint's image by
- * cechnuol_write_state_image, load that, and commit again what was committed above the checkpoint. Those lists stand in
- * the journal: held step k, counted from 0, ends before word head[CECHNUOL_ENDS + k] and begins where the one before it
- * ends, and the first above the checkpoint is k = checkpoint - oldest. Open reads and the tally stay behind. */
+ * and flush to the new tip. Or move to a longer table, unless this one has 8,000 words: write the image and load it into
+ * a store that has one, where the tip is then the checkpoint. To keep the states below the tip too, write the
+ * checkpoint's image by cechnuol_write_state_image, load that into a store in memory of its own, and commit there again
+ * what was committed above the checkpoint. Those lists stand in the journal of the old one: held step k, counted from 0,
+ * ends before word head[CECHNUOL_ENDS + k] and begins where the one before it ends, step 0 at word 0, and the first above
+ * the checkpoint is k = checkpoint - oldest. Open reads and the tally stay behind. */
 uint64_t cechnuol_flush(CECHNUOL_STORE, uint32_t state);
 
 /* A query. Gives the price of an offer at a state, a number below 2^32, to *price, or answers CECHNUOL_NO_PRICE. It is

@@ -82,15 +82,16 @@ refusals! {
     StateRange = 11 "STATE_RANGE" "the state is below the checkpoint or above the tip",
         "States below the checkpoint are gone: the way back is an earlier image.";
     LastState = 12 "LAST_STATE" "the tip is the last state number, 2^32 - 1",
-        "Write the image of the tip, put a lower state number into its first four bytes, and load it.";
+        "Write the image of the tip, put a lower state number into its first four bytes, and load it. States below the tip, \
+         open reads and the tally are gone then.";
     StepsFull = 13 "STEPS_FULL" "64 steps are held",
         "That is, tip - oldest is 64. Flush; if it is still full and the oldest state is below the checkpoint, a slot that \
          was opened there holds the steps: forward or release it ([`Head::oldest_slot`](crate::Head::oldest_slot)). To \
          flush again and again does not help while that slot is open. [`Store::commit`](crate::Store::commit) has an \
          example.";
     JournalFull = 14 "JOURNAL_FULL" "the list has more words than the journal has unused",
-        "A list that is longer than the journal never fits: test that first. Flush; if it is still full, forward or \
-         release the slot that was opened at the oldest state, as for [`Refusal::StepsFull`].";
+        "A list that is longer than the journal never fits: test that first, and commit it in parts. Flush; if it is still \
+         full, forward or release the slot that was opened at the oldest state, as for [`Refusal::StepsFull`].";
     BadImage = 15 "BAD_IMAGE" "the length, the order of offers or a kind bit of the image is wrong";
     TableFull = 16 "TABLE_FULL" "the state has more prices than the table has words",
         "At a flush: flush to another state whose map fits, or commit removals first and flush to the state after them; \

@@ -413,9 +413,10 @@ impl<T: AsMut<[u64]>, J: AsMut<[u64]>> Store<T, J> {
     /// Refused: [`Refusal::Lengths`], [`Refusal::Unsound`], [`Refusal::StateRange`], [`Refusal::TableFull`]. At the last
     /// the map at the state has more offers than the table has words. Flush to another state whose map fits, or commit
     /// removals first and flush to the state after them (only the map at the state named has to fit; where there is no room
-    /// for a commit, roll back before); or write the image of the state ([`Store::write_state_image`]), which needs no room in
-    /// the table, and load it into a longer one. The lists above it are committed there again: [`Store::journal`] and
-    /// [`Head::ends`](crate::Head::ends) still have them. Open reads and the tally stay behind.
+    /// for a commit, roll back before); or write the image of the tip ([`Store::write_image`]), or of the checkpoint to keep
+    /// the states above it ([`Store::write_state_image`]), and load it into another store with a longer table. Lists that it
+    /// does not hold are committed there again: [`Store::journal`] and [`Head::ends`](crate::Head::ends) of this one have
+    /// them. Open reads and the tally stay behind.
     ///
     /// ```
     /// use cechnuol::{Entry, Refusal, Store};

@@ -8,6 +8,7 @@ use Rattle.conditions.proofs.CLayout.{c-layout}
 use Rattle.conditions.proofs.FlushToAnchor.{flush-to-the-anchor}
 use Rattle.conditions.proofs.Images.{images}
 use Rattle.conditions.proofs.Laws.{laws}
+use Rattle.conditions.proofs.QueriesKeep.{query-keeps}
 use Rattle.conditions.proofs.Tallies.{tallies}
 
 pub condition-2 : Condition2
@@ -17,6 +18,7 @@ condition-2 = record {
   batches = batches;
   images = images;
   flush-to-the-anchor = flush-to-the-anchor;
+  queries-change-nothing = query-keeps;
   c-as-served = as-served;
   c-layout = c-layout;
   moments = moments-follow;

@@ -1,6 +1,9 @@
 -- Condition 3, proved.
 -- Assumes nothing.
-use mathlib.Core.Path.{refl}
+use mathlib.Core.Path.{_≡_, refl}
+use mathlib.Core.Bool.{cond}
+use mathlib.Core.List.{List, [], _∷_, _++_}
+use Rattle.history.specs.Named.{Call, Response, Quote, quote, compared, acceptedB, acceptedCalls, quotes}
 use Rattle.conditions.specs.CCalls.{CallOnStoreC, memoryAfter, tellsC, CLoads, lengthsC}
 use Rattle.conditions.specs.Serving.{CallOnStore, handed, tells, lengthsIn, Loads}
 use Rattle.conditions.specs.Condition3.{Condition3}
@@ -8,11 +11,22 @@ use Rattle.conditions.proofs.CRuns.{FollowsC, store-steps-c, loads-c-as
 use Rattle.conditions.proofs.Followed.{answers, alike}
 use Rattle.conditions.proofs.ServeRuns.{Follows, store-steps, loads-as-plain, starts}
 
+accepted-one : (c : Call) (calls : List Call) (r : Response) (responses : List Response)
+    → acceptedCalls (c ∷ calls) (r ∷ responses) ≡ cond (acceptedB r) (compared c) [] ++ acceptedCalls calls responses
+unfolding acceptedCalls
+accepted-one c calls r responses = refl
+
+quoted-one : (q : Quote) (responses : List Response) → quotes (quote q ∷ responses) ≡ quote q ∷ quotes responses
+unfolding quotes
+quoted-one q responses = refl
+
 pub condition-3 : Condition3
 condition-3 = record {
   bytes-not-compared = λ named list a b. refl;
   caller-not-compared = λ a b slot offer n list. (refl, refl, refl, refl);
   flushes-apart = λ n. refl;
+  accepted-count = accepted-one;
+  quotes-count = quoted-one;
   serve-loads-as-plain = loads-as-plain;
   c-loads-as-plain = loads-c-as-plain;
   serve-answers-as-plain = answers CallOnStore handed tells Loads lengthsIn Follows store-steps starts;

@@ -13,6 +13,7 @@ pub mod Followed
 pub mod HeadsFit
 pub mod Images
 pub mod Laws
+pub mod QueriesKeep
 pub mod Lent
 pub mod Ranges
 pub mod Refusals

@@ -9,7 +9,8 @@ use mathlib.Core.Path.{_≡_}
 use mathlib.Core.Bool.{true}
 use mathlib.Core.List.{List, map}
 use Prim.Native.Nat.{ℕ}
-use Rattle.answers.specs.declared.call.Call.the-variants.{Step}
+use Rattle.answers.specs.declared.call.Call.the-variants.{Step, Ask}
+use Rattle.answers.specs.declared.call.Query.{Query}
 use Rattle.answers.specs.declared.call.Step.the-variants.{Flush}
 use Rattle.views.specs.View.{Shaped}
 use Rattle.unit.specs.Carried.{Carried, Asked}
@@ -24,7 +25,7 @@ use Rattle.conditions.specs.CLayout.{CLayout}
 use Rattle.conditions.specs.Images.{Images}
 use Rattle.conditions.specs.Laws.{Laws}
 use Rattle.conditions.specs.Runs.{lending}
-use Rattle.conditions.specs.Serving.{Seen, CallOfServe, Untouched, Of64Bits}
+use Rattle.conditions.specs.Serving.{Seen, CallOfServe, handed, Untouched, Of64Bits}
 use Rattle.conditions.specs.Tallies.{Tallies}
 
 pub record Condition2 : Type 0 where
@@ -41,6 +42,9 @@ pub record Condition2 : Type 0 where
   pub flush-to-the-anchor : (k : Carried) (words bytes : List ℕ) (s : Seen) → Shaped (k .head) → Of64Bits (k .tally)
       → let flush = lending (Step (Flush (k .head .checkpoint))) words bytes in
       CallOfServe k flush s → Untouched k flush s
+  -- "Writing an image changes nothing.", nor does a lookup, but for the words and bytes lent to it
+  pub queries-change-nothing : (k : Carried) (query : Query) (words bytes : List ℕ) (s : Seen)
+      → Of64Bits (k .tally) → CallOfServe k (lending (Ask query) words bytes) s → handed s ≡ k
   -- each C function on a store does what `serve` does, where the head's words fit or the call does not test the store
   pub c-as-served : (m : Memory) (a : Asked) (r : Result) (s : Seen)
       → CallOfC m a r → fitB (m .head) (a .call) ≡ true → CallOfServe (carriedIn m) a s → AsServed m a r s

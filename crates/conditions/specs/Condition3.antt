@@ -11,17 +11,18 @@
 -- the lengths, the image and the calls' arguments, except a forward's read set, and nothing of the unit's memory or head.
 -- Assumes nothing.
 use mathlib.Core.Path.{_≡_}
-use mathlib.Core.List.{List, []}
+use mathlib.Core.List.{List, [], _∷_, _++_}
 use Prim.Native.Nat.{ℕ}
 use lib.ListN.{length}
-use mathlib.Core.Bool.{true}
+use mathlib.Core.Bool.{true, cond}
 use Rattle.answers.specs.Answers.{saidBy}
 use Rattle.layout.specs.Clauses.{lengthsB}
 use Rattle.lent.specs.Codes.{codeOf}
 use Rattle.views.specs.View.{Limits}
 use Rattle.unit.specs.Carried.{Carried, Asked}
 use Rattle.answers.specs.declared.call.Caller.{Caller}
-use Rattle.history.specs.Named.{Named, Response, calling, lookUp, issue, forward, release, flush, compared, acceptedCalls, quotes}
+use Rattle.history.specs.Named.{Named, Call, Response, Quote, quote, calling, lookUp, issue, forward, release, flush}
+use Rattle.history.specs.Named.{compared, acceptedB, acceptedCalls, quotes}
 use Rattle.history.specs.Plain.{loadChecked, loadedPlain}
 use Rattle.history.specs.Traces.{Asked as AskedIn3, plainResponses}
 use Rattle.conditions.specs.CCalls.{Memory, Result, CallOfC, CallOnStoreC, memoryAfter, tellsC, CLoads, lengthsC}
@@ -58,6 +59,10 @@ pub record Condition3 : Type 0 where
       × (compared (forward a slot n) ≡ compared (forward b slot n))
       × (compared (release a slot) ≡ compared (release b slot))
   pub flushes-apart : (n : ℕ) → compared (flush n) ≡ []
+  -- of the calls of a run just those count that were accepted, and of its answers every price, or none, and every forwarded read
+  pub accepted-count : (c : Call) (calls : List Call) (r : Response) (responses : List Response)
+      → acceptedCalls (c ∷ calls) (r ∷ responses) ≡ cond (acceptedB r) (compared c) [] ++ acceptedCalls calls responses
+  pub quotes-count : (q : Quote) (responses : List Response) → quotes (quote q ∷ responses) ≡ quote q ∷ quotes responses
   -- a load into memory of lengths in range is accepted exactly when the plain list accepts it, and else refused by the same number
   pub serve-loads-as-plain : (k : Carried) (words image : List ℕ) (s : Seen)
       → lengthsB (length (k .table)) (length (k .journal)) ≡ true → CallOfServe k (loading words image) s

@@ -119,8 +119,8 @@ pub record Images : Type 0 where
   pub restart-refused-alike : (k : Carried) (words words′ out : List ℕ) (s w : Seen)
       → CallOfServe k (lending (Reset Restart) words out) s → CallOfServe k (writing (state (k .head .checkpoint)) words′ out) w
       → groundIn (saidBy (s .reply .answer)) ≡ groundIn (saidBy (w .reply .answer))
-  -- and where it is accepted, the bytes are those that this writing leaves, and the store is the one that a load of them leaves: the
-  -- table's own map, under the checkpoint's number
+  -- and where it is accepted, the bytes are those that this writing leaves, and the store is the one that a load of the image leaves:
+  -- the table's own map, under the checkpoint's number
   pub restart-writes-and-loads : (k : Carried) (words out : List ℕ) (s : Seen)
       → CallOfServe k (lending (Reset Restart) words out) s → acceptedB (s .reply .answer) ≡ true → k .head .checkpoint < 2 ^ 32
       → ((words′ : List ℕ) (w : Seen) → CallOfServe k (writing (state (k .head .checkpoint)) words′ out) w

@@ -50,8 +50,8 @@ abbrev pub writeBytes : List ℕ → List ℕ → Head → ℕ → List ℕ → 
 writeBytes table journal head state out =
     ifPassed (writeCheck table journal head state (length out)) (imageOver table journal head state out) out
 
--- Grounds 1, 2, 17 where none is named and the call takes a state for itself, the tip or the checkpoint: 11, "The state named is below
--- the anchor or above the tip.", does not concern it.
+-- Grounds 1, 2, 17 where the caller names none: with no state named the tip is meant, and at a restart the checkpoint. 11, "The state
+-- named is below the anchor or above the tip.", does not concern them.
 abbrev pub ownGrounds : List ℕ → List ℕ → Head → ℕ → ℕ → List Test
 ownGrounds table journal head state room = storeGrounds table journal head ++ roomGrounds table journal head state room
 

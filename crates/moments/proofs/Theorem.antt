@@ -46,7 +46,7 @@ callers-follow = refl
 
 -- and of images and restarts
 pub images-follow : map computed imagesOfStates ≡ map expected imagesOfStates
-unfolding find compose puts apply composeAll risingB mapB runOf first bytesOf valueOf wordBytes imageOf wordsOf numberIn countIn
-    wordsIn imageB soundB allB allOf zerosB least trimmedHead trimmedJournal freshHead withStep flushedHead imageHere imageSize
-    storeResponses imagesOfStates
+unfolding find compose puts apply composeAll risingB mapB noPutB readOf over runOf first bytesOf valueOf wordBytes imageOf wordsOf
+    numberIn countIn wordsIn imageB soundB allB allOf zerosB least trimmedHead trimmedJournal freshHead withStep flushedHead opened
+    closedAt imageHere imageSize storeResponses imagesOfStates
 images-follow = refl

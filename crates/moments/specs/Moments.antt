@@ -9,10 +9,11 @@ use Rattle.entry.specs.Word.{putOf}
 use Rattle.answers.specs.declared.call.Call.the-variants.{Reset, Step}
 use Rattle.answers.specs.declared.call.Reset.the-variants.{Clear, Load, Restart}
 use Rattle.answers.specs.declared.call.Step.the-variants.{Commit}
-use Rattle.answers.specs.Answers.{Said, saidBy}
+use Rattle.answers.specs.Answers.{Said, accepted, saidBy}
 use Rattle.views.specs.View.{Store}
 use Rattle.batch.specs.Batches.{batch, answer, output}
 use Rattle.snapshot.specs.Fresh.{freshHead}
+use Rattle.calls.specs.Lent.{Left}
 use Rattle.calls.specs.Meaning.{performed}
 use Rattle.history.specs.Named.{Call, Response, done}
 use Rattle.history.specs.Traces.{Asked, nothing, lentWith, storeIn, storeResponses, Answers, afterLoad, storeTrace}
@@ -34,7 +35,7 @@ pub data Moment : Type 0 where
   calls : Start → List Exchange → Moment
   -- a read set, orders and output memory; the answer, and the output memory then
   priced : List ℕ → List ℕ → List ℕ → Said → List ℕ → Moment
-  -- a start, which is accepted, a list that is committed, and a restart that is lent bytes; its answer, the bytes then, and the calls
+  -- a start and a list that is committed, both accepted, and a restart that is lent bytes; its answer, the bytes then, and the calls
   -- after it in turn
   restarted : Start → List ℕ → List ℕ → Said → List ℕ → List Exchange → Moment
 
@@ -52,13 +53,13 @@ clearTrace s asked =
     let left = performed (lentWith s [] []) (Reset Clear) in
     afterLoad (saidBy (left .answer)) (storeResponses (storeIn (left .lent)) (replicate 8 nothing) asked)
 
--- the store that a start leaves, and the same with a list committed
-abbrev pub startedAt : Start → Store
-startedAt (cleared table journal) = storeIn (performed (lentWith (lentOf table journal) [] []) (Reset Clear) .lent)
-startedAt (loaded table journal image) = storeIn (performed (lentWith (lentOf table journal) [] image) (Reset Load) .lent)
+-- what a start leaves, and a commit on it
+abbrev pub startedAt : Start → Left
+startedAt (cleared table journal) = performed (lentWith (lentOf table journal) [] []) (Reset Clear)
+startedAt (loaded table journal image) = performed (lentWith (lentOf table journal) [] image) (Reset Load)
 
-abbrev pub committedOn : Store → List ℕ → Store
-committedOn s list = storeIn (performed (lentWith s list []) (Step Commit) .lent)
+abbrev pub committedOn : Left → List ℕ → Left
+committedOn left list = performed (lentWith (storeIn (left .lent)) list []) (Step Commit)
 
 abbrev pub traceFrom : Start → List Asked → Answers
 traceFrom (cleared table journal) asked = clearTrace (lentOf table journal) asked
@@ -76,7 +77,8 @@ pub data Result : Type 0 where
   asWord : ℕ → Result
   asAnswers : Answers → Result
   asOutput : Said → List ℕ → Result
-  asRestart : Said → List ℕ → List Response → Result
+  -- what start, commit and restart answer, the bytes, and the responses after them
+  asRestart : Said → Said → Said → List ℕ → List Response → Result
 
 -- by the definitions,
 abbrev pub computed : Moment → Result
@@ -86,8 +88,10 @@ computed (priced reads orders out a after) =
     let executed = batch reads orders (length out) in
     asOutput (answer executed) (output executed out)
 computed (restarted start list bytes a after exchanges) =
-    let left = performed (lentWith (committedOn (startedAt start) list) [] bytes) (Reset Restart) in
-    asRestart (saidBy (left .answer)) (left .lent .bytes)
+    let started = startedAt start in
+    let committed = committedOn started list in
+    let left = performed (lentWith (storeIn (committed .lent)) [] bytes) (Reset Restart) in
+    asRestart (saidBy (started .answer)) (saidBy (committed .answer)) (saidBy (left .answer)) (left .lent .bytes)
     (storeResponses (storeIn (left .lent)) (replicate 8 nothing) (map askedIn exchanges))
 
 -- and by the table
@@ -95,4 +99,4 @@ abbrev pub expected : Moment → Result
 expected (word offer price w) = asWord w
 expected (calls start exchanges) = asAnswers (record { load = done; responses = map responseIn exchanges })
 expected (priced reads orders out a after) = asOutput a after
-expected (restarted start list bytes a after exchanges) = asRestart a after (map responseIn exchanges)
+expected (restarted start list bytes a after exchanges) = asRestart (accepted 0) (accepted 0) a after (map responseIn exchanges)
