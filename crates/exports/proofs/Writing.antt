@@ -1,7 +1,6 @@
 -- The image of a state as the calls leave it: put into bytes that have room or have none, and written by its grounds.
 -- Assumes nothing.
 use mathlib.Core.Path.{_≡_, refl, sym, ap, _∙_}
-use mathlib.Core.Bool.{not}
 use mathlib.Core.List.{List, [], _++_}
 use Prim.Native.Nat.{ℕ, _+_, _*_, _≤_, _<_}
 use native.Mathlib.Decide.{decLt}
@@ -25,6 +24,7 @@ use Rattle.soundness.specs.Checks.{storeGrounds, stateGrounds}
 use Rattle.soundness.proofs.Passed.{store-passed}
 use Rattle.soundness.proofs.Sounds.{Sound}
 use Rattle.state_maps.specs.Held.{HeldState}
+use Rattle.state_maps.proofs.MapSizes.{past-held}
 use Rattle.exports.specs.Export.{imageHere, imageSize, imageOver, roomGrounds, writeCheck, writeAnswer, writeBytes}
 use Rattle.exports.specs.Export.{ownCheck, tipAnswer, tipBytes}
 use Rattle.exports.specs.Put.{putAnswer, putBytes}
@@ -69,11 +69,7 @@ module _ (table journal : List ℕ) (head : Head) (state : ℕ) (out : List ℕ)
   -- or it finds none, and the image of the state's map is put into the bytes
   module _ (h : HeldState table journal head state) where
     pub but-room : (room : ℕ) → writeCheck table journal head state room ≡ first (roomGrounds table journal head state room)
-    but-room room =
-        first-not _ _ _ (ap not (h .lengths))
-        ∙ first-not _ _ _ (ap not (h .sound))
-        ∙ first-not _ _ _ (le-ltb state (head .checkpoint) (h .low))
-        ∙ first-not _ _ _ (le-ltb (head .tip) state (h .high))
+    but-room room = past-held h _
 
     pub held-passes : (room : ℕ) → imageSize table journal head state ≤ room → writeCheck table journal head state room ≡ Passed
     held-passes room l = but-room room ∙ first-not _ _ _ (le-ltb room (imageSize table journal head state) l) ∙ none-met

@@ -1,7 +1,7 @@
 -- What a flush knows of its memory when the map is worked out and when it is accepted, and what it leaves.
 -- Assumes nothing.
 use mathlib.Core.Path.{_≡_, refl, sym, ap, _∙_}
-use mathlib.Core.Bool.{Bool, true, not, cond}
+use mathlib.Core.Bool.{Bool, true, cond}
 use mathlib.Core.List.{List, [], _∷_, _++_, append-assoc}
 use Prim.Native.Nat.{ℕ, _+_, _-_, _≤_, _<_, max}
 use native.Mathlib.Decide.{decLt}
@@ -35,7 +35,7 @@ use Rattle.soundness.specs.Checks.{storeGrounds, stateGrounds}
 use Rattle.soundness.proofs.Passed.{store-passed, state-passed}
 use Rattle.soundness.proofs.Sounds.{Sound}
 use Rattle.state_maps.specs.Held.{HeldState, wordsTo}
-use Rattle.state_maps.proofs.MapSizes.{map-here, size-here}
+use Rattle.state_maps.proofs.MapSizes.{past-held, map-here, size-here}
 use Rattle.state_maps.proofs.Working.{StateFacts}
 use Rattle.flushes.specs.Flush.{flushCheck, flushSize, tableAt, flushHead, flushTable, flushJournal, flushedHead}
 
@@ -66,11 +66,7 @@ module _ (table journal : List ℕ) (head : Head) (state : ℕ) where
       (em : made ≡ tableAt table journal head state) where
     but-room : flushCheck table journal head state
         ≡ first (met (ltb (length table) (length (mapHere table journal head state))) TableFull ∷ [])
-    but-room =
-        first-not _ _ _ (ap not (h .lengths))
-        ∙ first-not _ _ _ (ap not (h .sound))
-        ∙ first-not _ _ _ (le-ltb state (head .checkpoint) (h .low))
-        ∙ first-not _ _ _ (le-ltb (head .tip) state (h .high))
+    but-room = past-held h _
 
     pub no-room : length table < size → Moves (Away TableFull) made
     no-room l =

@@ -41,7 +41,7 @@ module _ (table journal : List ℕ) (head : Head) where
     ok : StoreOk table journal head
     ok = store-passed table journal head _ e .0
 
-    pub image-here : restartImage table journal head ≡ imageOf (head .checkpoint) (take (head .used) table)
+    image-here : restartImage table journal head ≡ imageOf (head .checkpoint) (take (head .used) table)
     unfolding imageHere
     image-here = ap (imageOf (head .checkpoint)) (map-at-checkpoint table journal head (ok .sound))
 

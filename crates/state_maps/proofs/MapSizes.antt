@@ -1,10 +1,11 @@
 -- How large the map at a held state is, and that it is the table's where the steps to the state have no words.
 -- Assumes nothing.
 use mathlib.Core.Path.{_≡_, refl, sym, ap, subst, _∙_}
+use mathlib.Core.Bool.{not}
 use mathlib.Core.List.{List, [], _∷_, _++_}
 use Prim.Native.Nat.{ℕ, _-_, _≤_}
 use native.Mathlib.Omega.{arith}
-use borrow.Author.Tests.{not-false}
+use borrow.Author.Tests.{le-ltb, not-false}
 use lib.ListN.{length, take, length-take}
 use Rattle.changes.specs.Calculus.{composeAll, apply}
 use Rattle.changes.specs.Lists.{Map}
@@ -14,8 +15,8 @@ use Rattle.changes.proofs.Laws.{apply-length, apply-zero}
 use Rattle.changes.proofs.Running.{marked-fewer, run-none}
 use Rattle.answers.specs.declared.answer.Check.{Check}
 use Rattle.answers.specs.declared.answer.Check.the-variants.{Passed}
-use Rattle.answers.specs.First.{first}
-use Rattle.answers.proofs.Firsts.{passed-not}
+use Rattle.answers.specs.First.{Test, first}
+use Rattle.answers.proofs.Firsts.{first-not, passed-not}
 use Rattle.layout.specs.declared.head.Head.{Head}
 use Rattle.layout.specs.States.{stepIndex, stepsBetween, mapHere}
 use Rattle.soundness.specs.Checks.{storeGrounds, stateGrounds}
@@ -36,6 +37,15 @@ held-known table journal head state e d =
     let b = passed-not _ _ _ (a .1) in
     let s = state-passed head state [] (b .1) in
     record { lengths = not-false _ (a .0); sound = not-false _ (b .0); low = s .0 .0; high = s .0 .1 }
+
+-- and what is left to be tested of such a state
+pub past-held : {table journal : List ℕ} {head : Head} {state : ℕ} → HeldState table journal head state → (gs : List Test)
+    → first (storeGrounds table journal head ++ stateGrounds head state ++ gs) ≡ first gs
+past-held {table} {journal} {head} {state} h gs =
+    first-not _ _ _ (ap not (h .lengths))
+    ∙ first-not _ _ _ (ap not (h .sound))
+    ∙ first-not _ _ _ (le-ltb state (head .checkpoint) (h .low))
+    ∙ first-not _ _ _ (le-ltb (head .tip) state (h .high))
 
 -- a list with no word
 nothing-in : (l : List ℕ) → length l ≤ 0 → l ≡ []
