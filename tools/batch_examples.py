@@ -1,11 +1,11 @@
 #!/usr/bin/env python3
-"""The examples of pricing a batch, as a script of docs/REPLAY.md, and what document 01 ("Batches", grounds 6 to 10 and 17) says
-of each.
+"""The examples of pricing a batch, as a script of docs/REPLAY.md, and what document 01 ("Batches", grounds 6 to 10 and 17) and
+document 02 (Q-3) say of each.
 
   tools/batch_examples.py           write tests/batches/examples.script and tests/batches/examples.out
   tools/batch_examples.py --check   exit with status 1 where either file differs
 
-The answers are worked out here from the paper's sentences, with a dictionary for the prices, and not from the Rattle code or the
+The answers are worked out here from the papers' sentences, with a dictionary for the prices, and not from the Rattle code or the
 second model.
 """
 import pathlib
@@ -20,7 +20,7 @@ MOST = 2 ** 25 - 1  # the highest amount
 LAST = 2 ** 31 - 1  # the highest offer
 
 
-# The words of the paper.
+# The words of the papers.
 
 def shows(offer, price):
     """The entry word that shows an offer's price, or none: kind 1 bit, offer 31 bits, price 32 bits."""
@@ -40,7 +40,7 @@ def split_order(word):
     return word >> 56, word >> 31 & MOST, word & LAST
 
 
-# What the paper says of a batch.
+# What the papers say of a batch.
 
 def is_list(words):
     """0 to 64 words with strictly rising offers; kind 0 has price 0."""
@@ -52,6 +52,12 @@ def is_list(words):
 
 def is_known(kind):
     return kind in (0, 1, 2, 3) or 16 <= kind <= 31
+
+
+def kept(price, sixteenths):
+    """So many sixteenths of a price "to the nearest unit, a half upward"."""
+    units, rest = divmod(price * sixteenths, 16)
+    return units + 1 if rest >= 8 else units
 
 
 def new_price(kind, amount, price):
@@ -67,7 +73,7 @@ def new_price(kind, amount, price):
     elif kind == 3:
         price = price - amount
     else:
-        price = max(price * (kind - 15) // 16, amount)
+        price = max(kept(price, kind - 15), amount)
     return price if 0 <= price <= TOP else "refused 10"
 
 
@@ -125,8 +131,8 @@ def ends():
     case("raised past it", [shows(9, TOP - MOST + 1)], [order(2, MOST, 9)], 1)
     case("the highest amount cut to 0", [shows(9, MOST)], [order(3, MOST, 9)], 1)
     case("cut past 0", [shows(9, MOST - 1)], [order(3, MOST, 9)], 1)
-    case("sixteenths of 15, rounded down", [shows(9, 15)], [order(16, 0, 9)], 1)
-    case("sixteenths of 16", [shows(9, 16)], [order(16, 0, 9)], 1)
+    case("a sixteenth of 15", [shows(9, 15)], [order(16, 0, 9)], 1)
+    case("a sixteenth of 16", [shows(9, 16)], [order(16, 0, 9)], 1)
     case("the amount is the price kept", [shows(9, 1600)], [order(23, 800, 9)], 1)
     case("the lowest and the highest offer", [shows(0, 10), shows(LAST, 20)], [order(2, 1, LAST), order(3, 1, 0)], 3)
     case("no order, an empty read set, no output", [], [], 0)
@@ -221,6 +227,16 @@ def chance(count):
         case("drawn", reads, orders, draw.randint(2, 7))
 
 
+def sixteenths():
+    """Each kind that keeps sixteenths, at prices about a half and at the ends, with amounts about the price that is kept."""
+    for kind in range(16, 32):
+        for price in (0, 1, 7, 8, 23, 24, MOST, 2 ** 31, TOP):
+            new = kept(price, kind - 15)
+            for amount in sorted(a for a in {0, 1, new - 1, new, new + 1, MOST} if 0 <= a <= MOST):
+                case(f"{kind - 15}/16 of {price}, amount {amount}", [shows(9, price)], [order(kind, amount, 9)], 1)
+    case("marked down twice, each time to the nearest unit", [shows(9, 1001)], [order(27, 0, 9), order(23, 0, 9)], 1)
+
+
 def tokens(words):
     return [f"{w:016X}" for w in words]
 
@@ -243,6 +259,7 @@ def main():
     for part in (moments, kinds, ends, turns, many, lists, grounds):
         part()
     chance(40)
+    sixteenths()
     files = dict(zip([FOLDER / "examples.script", FOLDER / "examples.out"], texts()))
     if "--check" in sys.argv[1:]:
         stale = [str(path) for path, text in files.items() if not path.exists() or path.read_text() != text]

@@ -495,15 +495,16 @@ class Versions(Held):
         self.assertGreaterEqual(len(found), 4)
 
     def test_each_is_compared(self):
+        number, text = number_in(texts()["header"], "#define CECHNUOL_VERSION ", "\n"), versions(texts())[0]
         edits = [
-            ("header", "#define CECHNUOL_VERSION 3000000", "#define CECHNUOL_VERSION 3000001"),
-            ("header", '_VERSION_TEXT "3.0.0"', '_VERSION_TEXT "3.0.1"'),
-            ("version", "version = 3000000", "version = 3001000"),
-            ("version_code", "VERSION: u64 = 3000000", "VERSION: u64 = 1000000"),
+            ("header", f"#define CECHNUOL_VERSION {number}", f"#define CECHNUOL_VERSION {number + 1}"),
+            ("header", f'_VERSION_TEXT "{text}"', f'_VERSION_TEXT "{text}1"'),
+            ("version", f"version = {number}", f"version = {number + 1000}"),
+            ("version_code", f"VERSION: u64 = {number}", f"VERSION: u64 = {number + 1000000}"),
         ]
         for file, old, new in edits:
             self.assertEqual(len(set(versions(self.edited(file, old, new)))), 2, new)
-        self.assertEqual(set(versions({**texts(), "rust": 'version = "2.0.9"\n'})), {"3.0.0", "2.0.9"})
+        self.assertEqual(set(versions({**texts(), "rust": 'version = "2.0.9"\n'})), {text, "2.0.9"})
 
 
 class Answers(Held):

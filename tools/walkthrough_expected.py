@@ -1,5 +1,5 @@
 #!/usr/bin/env python3
-"""Prints what the program walkthrough must print, worked out with dictionaries from document 01 and not by the program.
+"""Prints what the program walkthrough must print, worked out with dictionaries from documents 01 and 02 and not by the program.
 
   walkthrough_expected.py            the day at the counter
   walkthrough_expected.py --listing  what the program listing must print of the image that the day ends with
@@ -121,14 +121,15 @@ class PlainList:
 
 
 def price_batch(reads, orders):
-    """ "Orders run in turn, each seeing the earlier ones. The output is one word per offer named, rising, with its final price". """
+    """ "Orders run in turn, each seeing the earlier ones. The output is one word per offer named, rising, with its final price"; and of
+    sixteenths document 02: "(price × (kind − 15) + 8) / 16, rounded down". """
     prices, changed = dict(reads), {}
     for kind, amount, offer in orders:
         refuse_if((9, prices[offer] is None))
         price = {
             "raise": lambda old: old + amount,
             "cut": lambda old: old - amount,
-            "keep": lambda old: old * amount // 16,
+            "keep": lambda old: (old * amount + 8) // 16,
         }[kind](prices[offer])
         refuse_if((10, not 0 <= price <= LARGEST))
         prices[offer] = changed[offer] = price

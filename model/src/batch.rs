@@ -69,15 +69,17 @@ impl Order {
         match self.deed {
             Deed::Raise => price.checked_add(self.amount),
             Deed::Cut => price.checked_sub(self.amount),
+            // "then the amount if that is more": it is held against the rounded price.
             Deed::Keep(sixteenths) => Some(sixteenths_of(price, sixteenths).max(self.amount)),
             Deed::List | Deed::Withdraw => Some(price),
         }
     }
 }
 
-/// So many sixteenths of a price, rounded down.
+/// So many sixteenths of a price "to the nearest unit, a half upward: (price × (kind − 15) + 8) / 16, rounded down". Of 16
+/// sixteenths or fewer that is never more than the price.
 fn sixteenths_of(price: u32, sixteenths: u64) -> u32 {
-    (u64::from(price) * sixteenths / 16) as u32
+    ((u64::from(price) * sixteenths + 8) / 16) as u32
 }
 
 /// Runs orders in turn on prices, each seeing the earlier ones; gives the last price of each offer named.

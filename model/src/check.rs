@@ -510,7 +510,8 @@ fn draw_orders(draw: &mut Draw, reads: &[u64]) -> Vec<u64> {
     let count = draw.rng.below(8);
     (0..count)
         .map(|_| {
-            let kind = draw.rng.pick(&[0, 0, 1, 2, 3, 16, 20, 27, 31]);
+            let keeps = draw.rng.within(16, 31) as u8;
+            let kind = draw.rng.pick(&[0, 0, 1, 2, 3, keeps, keeps, keeps, keeps]);
             let amount = if kind == 1 { 0 } else { draw.rng.below(1500) as u32 };
             batch::order(kind, amount, word::offer(draw.rng.pick(reads)))
         })

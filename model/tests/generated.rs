@@ -3,10 +3,15 @@
 mod common;
 
 use common::{all_answers, refusals, run, ANSWERS};
+use model::batch::{order, order_offer, priced};
 use model::caller::Caller;
 use model::check::{all_short_runs, self_check};
-use model::gen::{script, Asked, Coverage};
+use model::gen::{items, script, Asked, Coverage, Item};
+use model::script::Command;
 use model::sound::CLAUSES;
+use model::unit::Call;
+use model::word;
+use std::collections::BTreeSet;
 
 /// What two hundred scripts of three hundred calls meet.
 fn coverage() -> Coverage {
@@ -76,6 +81,64 @@ fn generated_scripts_ask_for_every_kind_of_image() {
         assert!(any(&|it| (it.form, it.more >= 0, it.tip_fits) == asked), "{asked:?}");
     }
     assert!(!any(&|it| it.large && !it.above), "the table holds the checkpoint");
+}
+
+/// A sixteenths order that ran.
+#[derive(Clone, Copy, Debug, PartialEq, Eq, PartialOrd, Ord)]
+struct Kept {
+    kind: u8,
+    /// Whether the sixteenths were a whole number of units and a half.
+    half: bool,
+    /// How far the amount was above the rounded price: two or more as 2, two or more below as -2.
+    above: i64,
+}
+
+impl Kept {
+    /// A sixteenths order on a price.
+    fn of(kind: u8, amount: u32, price: u32) -> Kept {
+        let rounded = priced(&[word::entry(5, Some(price))], &[order(kind, 0, 5)]).expect("the order runs");
+        let above = i64::from(amount) - i64::from(word::price(rounded[0]));
+        let half = u64::from(price) * u64::from(kind - 15) % 16 == 8;
+        Kept { kind, half, above: above.clamp(-2, 2) }
+    }
+}
+
+/// The sixteenths orders of a batch, if it runs.
+fn kept_in(reads: &[u64], orders: &[u64]) -> Vec<Kept> {
+    let mut kept = Vec::new();
+    if priced(reads, orders).is_err() {
+        return kept;
+    }
+    let mut words = reads.to_vec();
+    for &order in orders {
+        let place =
+            words.iter().position(|&word| word::offer(word) == order_offer(order)).expect("it is read");
+        let (kind, amount) = ((order >> 56) as u8, (order >> 31) as u32 % (1 << 25));
+        if let (16..=31, Some(price)) = (kind, word::shown(words[place])) {
+            kept.push(Kept::of(kind, amount, price));
+        }
+        words[place] = priced(&[words[place]], &[order]).expect("the batch runs")[0];
+    }
+    kept
+}
+
+/// Every kind that keeps sixteenths meets halves, but 31, which keeps the whole price, and amounts one below the rounded price,
+/// equal to it and one above it.
+#[test]
+fn generated_scripts_round_at_every_kind() {
+    let mut met = BTreeSet::new();
+    for item in (0..100).flat_map(|seed| items(seed, 300).0) {
+        if let Item::Command(Command::Call(Call::PriceBatch { reads, orders, .. })) = item {
+            met.extend(kept_in(&reads, &orders));
+        }
+    }
+    for kind in 16..=31 {
+        let any = |met_so: &dyn Fn(&Kept) -> bool| met.iter().any(|kept| kept.kind == kind && met_so(kept));
+        assert_eq!(any(&|kept| kept.half && kept.above < 0), kind != 31, "halves of kind {kind}");
+        for above in -1..=1 {
+            assert!(any(&|kept| kept.above == above), "kind {kind} with an amount {above} above");
+        }
+    }
 }
 
 /// A script says what the generator did: run on its own, it meets the same, and a seed gives one script.

@@ -50,14 +50,15 @@ fn printed_as_stored(folder: &str) -> Vec<String> {
 /// The stored output is what the model prints today.
 #[test]
 fn stored_output_is_the_models() {
-    assert!(printed_as_stored("scripts").len() >= 7);
+    assert!(printed_as_stored("scripts").len() >= 8);
 }
 
-/// The output of the lines that are no call, and that of the images, comes from the comments of their scripts and not from the
-/// model.
+/// The output of the lines that are no call, of the images and of the sixteenths comes from the comments of their scripts and not
+/// from the model.
 #[test]
 fn outputs_that_are_worked_out_by_hand() {
-    let by_hand = |file: &Path| file.ends_with("no_calls.script") || file.ends_with("images.script");
+    let names = ["no_calls.script", "images.script", "sixteenths.script"];
+    let by_hand = |file: &Path| names.iter().any(|name| file.ends_with(name));
     let scripts = files("scripts", "script").into_iter().filter(|(file, _)| by_hand(file));
     let mut count = 0;
     for (file, script) in scripts {
@@ -66,14 +67,14 @@ fn outputs_that_are_worked_out_by_hand() {
         assert_eq!(stored, lines.collect::<String>(), "{}", file.display());
         count += 1;
     }
-    assert_eq!(count, 2);
+    assert_eq!(count, names.len());
 }
 
-/// The model answers the batch examples as tools/batch_examples.py works out from the paper.
+/// The model answers the batch examples as tools/batch_examples.py works out from the papers.
 #[test]
 fn batch_examples_answer_as_worked_out() {
     let outputs = printed_as_stored("../tests/batches");
-    assert_eq!(outputs.iter().map(|output| output.lines().count()).sum::<usize>(), 275);
+    assert_eq!(outputs.iter().map(|output| output.lines().count()).sum::<usize>(), 937);
 }
 
 /// The answers that a stored script's comments expect of calls, each after the call's form.

@@ -7,7 +7,7 @@ use model::head::Head;
 use model::sound::{first_broken, Clause};
 use model::store::Store;
 use model::unit::{Answer, Call, Unit};
-use model::word::entry;
+use model::word::{entry, shown};
 
 /// Offers 5, 7 and 9 in a table of 4; a slot open since 10, checkpoint 11, tip 12; steps of 2 words in a journal of 100.
 fn sample() -> Store {
@@ -216,19 +216,79 @@ fn counts_stop_at_their_largest_value() {
     assert_eq!((store.tally.committed, store.tally.flushed), (u64::MAX, u64::MAX));
 }
 
+/// The price that one order on an offer makes of the offer's price, or the ground that refuses the batch.
+fn after_order(price: Option<u32>, kind: u8, amount: u32) -> Result<u32, Ground> {
+    let mut output = [0];
+    let count = price_batch(&[entry(5, price)], &[order(kind, amount, 5)], &mut output)?;
+    let after = shown(output[0]).expect("the order leaves a price");
+    assert_eq!((count, output[0]), (1, entry(5, Some(after))));
+    Ok(after)
+}
+
+/// Price, kind and amount of a sixteenths order, and the new price as document 02 has it.
+const SIXTEENTHS: [(u32, u8, u32, u32); 14] = [
+    (1001, 27, 0, 751),
+    (1001, 27, 800, 800),
+    (1001, 31, 0, 1001),
+    (0, 16, 0, 0),
+    (7, 16, 0, 0),
+    (8, 16, 0, 1),
+    (15, 16, 0, 1),
+    (23, 16, 0, 1),
+    (24, 16, 0, 2),
+    (8, 16, 2, 2),
+    (u32::MAX, 31, 0, u32::MAX),
+    (u32::MAX, 30, 0, 4_026_531_839),
+    (1, 23, 0, 1),
+    (1, 22, 0, 0),
+];
+
 #[test]
 fn sixteenths() {
-    let priced = |price, kind, amount| {
-        let mut output = [0];
-        let count = price_batch(&[entry(5, Some(price))], &[order(kind, amount, 5)], &mut output);
-        assert_eq!(count, Ok(1));
-        output[0]
-    };
-    assert_eq!(priced(1001, 27, 0), entry(5, Some(750)));
-    assert_eq!(priced(1001, 27, 800), entry(5, Some(800)));
-    assert_eq!(priced(1001, 31, 0), entry(5, Some(1001)));
-    assert_eq!(priced(15, 16, 0), entry(5, Some(0)));
-    assert_eq!(priced(u32::MAX, 30, 0), entry(5, Some(4_026_531_839)));
+    for (price, kind, amount, after) in SIXTEENTHS {
+        assert_eq!(after_order(Some(price), kind, amount), Ok(after), "{price} {kind} {amount}");
+    }
+    for kind in [15, 32] {
+        assert_eq!(after_order(Some(1001), kind, 0), Err(Ground::Order), "kind {kind}");
+    }
+    for (kind, amount) in (16..=31).flat_map(|kind| [(kind, 0), (kind, 800)]) {
+        assert_eq!(after_order(None, kind, amount), Err(Ground::NoPrice), "{kind} {amount}");
+    }
+}
+
+/// The whole number of units that is nearest to price × (kind − 15) / 16, of two equally near ones the upper. It is searched: from
+/// the price to a neighbour, far ones first and those beside it last, wherever that is nearer.
+fn nearest_to_sixteenths(price: u32, kind: u8) -> u32 {
+    let sixteenths = i64::from(price) * i64::from(kind - 15);
+    let distance = |units: i64| (16 * units - sixteenths).abs();
+    // Nearer, or as near and the upper.
+    let better = |one: i64, other: i64| (distance(one), other) < (distance(other), one);
+    let mut units = i64::from(price);
+    for step in (0..=32).rev().map(|bit| 1 << bit) {
+        for neighbour in [units - step, units + step] {
+            if better(neighbour, units) {
+                units = neighbour;
+            }
+        }
+    }
+    assert!(!better(units - 1, units) && !better(units + 1, units));
+    u32::try_from(units).expect("what is kept of a price is a price")
+}
+
+/// Every sixteenths order gives what the words of document 02 say: the nearest unit, then the amount if that is more.
+#[test]
+fn sixteenths_are_the_nearest_unit() {
+    const MOST: u32 = (1 << 25) - 1;
+    for kind in 16..=31 {
+        for price in [0, 1, 7, 8, 23, 24, 1 << 31, u32::MAX] {
+            let kept = nearest_to_sixteenths(price, kind);
+            let beside = [kept.checked_sub(1), Some(kept), kept.checked_add(1)].into_iter().flatten();
+            for amount in [0, 1, MOST].into_iter().chain(beside).filter(|&amount| amount <= MOST) {
+                let after = if amount > kept { amount } else { kept };
+                assert_eq!(after_order(Some(price), kind, amount), Ok(after), "{price} {kind} {amount}");
+            }
+        }
+    }
 }
 
 #[test]

@@ -14,9 +14,9 @@ use std::fmt;
 ///
 /// let reads = [Entry::put(5, 1001)];
 /// let mut out = [Entry::from_word(0)];
-/// // 12 sixteenths of 1001, rounded down
+/// // 12 sixteenths of 1001 are 750.75
 /// assert_eq!(price_batch(&reads, &[Order::sixteenths(5, 12, 0)], &mut out), Ok(1));
-/// assert_eq!(out, [Entry::put(5, 750)]);
+/// assert_eq!(out, [Entry::put(5, 751)]);
 /// let too_much = Order::raise(5, 1 << 25);
 /// assert_eq!(too_much, Order::NO_ORDER);
 /// assert_eq!(price_batch(&reads, &[too_much], &mut out), Err(Refusal::BadOrder));
@@ -65,8 +65,8 @@ impl Order {
         Order::new(Order::CUT, amount, offer)
     }
 
-    /// The order that makes an offer's price so many sixteenths of it, rounded down, or the floor amount if that is more.
-    /// The sixteenths are 1 to 16.
+    /// The order that makes an offer's price so many sixteenths of it, to the nearest unit and a half upward, or the floor
+    /// amount if that is more. The sixteenths are 1 to 16.
     #[inline]
     pub const fn sixteenths(offer: u32, sixteenths: u32, floor: u32) -> Order {
         match sixteenths {

@@ -295,7 +295,7 @@ fn batches() {
     let rest = Entry::from_word(7);
     assert_eq!(priced(&[]), Ok((0, [rest; 3])));
     let orders = [Order::list(9, 40), Order::raise(9, 2), Order::sixteenths(5, 12, 0), Order::cut(9, 41)];
-    assert_eq!(priced(&orders), Ok((2, [Entry::put(5, 750), Entry::put(9, 1), rest])));
+    assert_eq!(priced(&orders), Ok((2, [Entry::put(5, 751), Entry::put(9, 1), rest])));
     assert_eq!(priced(&[Order::sixteenths(5, 12, 800)]), Ok((1, [Entry::put(5, 800), rest, rest])));
     assert_eq!(priced(&[Order::withdraw(5)]), Ok((1, [Entry::remove(5), rest, rest])));
     let refusals: [(Order, Refusal); 6] = [

@@ -2,6 +2,6 @@
 -- Assumes nothing.
 use Prim.Native.Nat.{ℕ}
 
--- 3.0.0: major × 1,000,000 + minor × 1,000 + patch
+-- major × 1,000,000 + minor × 1,000 + patch
 abbrev pub version : ℕ
-version = 3000000
+version = 4000000

@@ -2,8 +2,8 @@
 ghost use mathlib.Core.Path.{_≡_};
 ghost use Rattle.cechnuol.specs.Version.{version};
 
-// 3.0.0: major × 1,000,000 + minor × 1,000 + patch.
-const VERSION: u64 = 3000000;
+// Major × 1,000,000 + minor × 1,000 + patch.
+const VERSION: u64 = 4000000;
 
 // The version of this library.
 #[no_mangle]

@@ -5,7 +5,7 @@ use mathlib.Core.Bool.{Bool, true, false, cond, not, _||_}
 use mathlib.Core.List.{List, [], _∷_}
 use Prim.Native.Nat.{ℕ, _+_, _-_, _^_, _≤_, _<_}
 use native.Mathlib.Omega.{arith}
-use borrow.Author.Tests.{eqb-true, eq-eqb, le-leb, lt-leb, lt-ltb, le-ltb, not-false}
+use borrow.Author.Tests.{eqb-true, eq-eqb, le-leb, lt-leb, not-false}
 use lib.Dec.{eqb, ltb, leb}
 use lib.ListN.{length}
 use Rattle.entry.specs.Word.{kindOf, isPut, Put, priceOf, putOf, noneOf}
@@ -27,7 +27,9 @@ use Rattle.orders.specs.declared.effects.Effect.{Effect}
 use Rattle.orders.specs.declared.effects.Effect.the-variants.{Change, Fails}
 use Rattle.orders.specs.Orders.{Kind, lists, withdraws, raises, cuts, keeps, unknown, kindNamed, orderKind, orderAmount}
 use Rattle.orders.specs.Orders.{orderOffer, allowedWith, allowedB}
-use Rattle.orders.specs.Effects.{putAt, withPrice, sixteenths, effectBy, effect, lowered}
+use Rattle.orders.specs.Effects.{putAt, withPrice, sixteenths, effectBy, effect, lowered, kept}
+use Rattle.orders.proofs.OneOrder.{sixteenths-small, put-fits, put-over, effect-as}
+use Rattle.orders.proofs.OrderKinds.{kind-lists, kind-withdraws, kind-raises, kind-cuts, kind-keeps}
 use Rattle.execution.specs.Executing.{Executed, done, fails, next, execute, priced}
 use Rattle.execution.specs.Tests.{readB, allB}
 use Rattle.batch.specs.Batches.{checked, fitting, batch}
@@ -35,7 +37,7 @@ use Rattle.batch.proofs.BatchChecks.{batch-stopped, batch-executes, fits, too-s
 use Rattle.batch.proofs.Theorems as theorems
 use Rattle.conditions.specs.Grounds.{numbers, once}
 use Rattle.conditions.proofs.Refusals.{number-range}
-use Rattle.conditions.specs.Batches.{kindsFrom, Batches}
+use Rattle.conditions.specs.Batches.{kindsFrom, awayFrom, Batches}
 
 -- the grounds by which an order that passed ground 7 can fail
 abbrev nineOrTen : ℕ → Bool
@@ -117,14 +119,6 @@ allowed reads orders e =
     let b = passed-not _ _ _ (a .1) in
     not-false _ (passed-not _ _ _ (b .1) .0)
 
-put-low : (offer price : ℕ) → price < 2 ^ 32 → putAt offer price ≡ Change (putOf offer price)
-unfolding putAt
-put-low offer price h = rw (lt-ltb price (2 ^ 32) h) refl
-
-put-high : (offer price : ℕ) → 2 ^ 32 ≤ price → putAt offer price ≡ Fails PriceRange
-unfolding putAt
-put-high offer price h = rw (le-ltb price (2 ^ 32) h) refl
-
 cut-low : (offer amount w : ℕ) → Put w → amount ≤ priceOf w → lowered offer amount (Word w) ≡ putAt offer (priceOf w - amount)
 unfolding withPrice
 cut-low offer amount w p h = rw (eq-eqb (kindOf w) 1 p) (rw (le-leb amount (priceOf w) h) refl)
@@ -132,6 +126,33 @@ cut-low offer amount w p h = rw (eq-eqb (kindOf w) 1 p) (rw (le-leb amount (pric
 cut-deep : (offer amount w : ℕ) → Put w → priceOf w < amount → lowered offer amount (Word w) ≡ Fails PriceRange
 unfolding withPrice
 cut-deep offer amount w p h = rw (eq-eqb (kindOf w) 1 p) (rw (lt-leb amount (priceOf w) h) refl)
+
+-- so many sixteenths of a price
+nearest : (kind price units : ℕ) → awayFrom kind price (sixteenths kind 0 price) ≤ awayFrom kind price units
+unfolding sixteenths
+nearest kind price units = omega arith
+
+half-upward : (kind price units : ℕ) → awayFrom kind price units ≡ awayFrom kind price (sixteenths kind 0 price)
+    → units ≤ sixteenths kind 0 price
+unfolding sixteenths
+half-upward kind price units e = omega (arith, e)
+
+amount-if-more : (kind amount price : ℕ) → sixteenths kind 0 price < amount → sixteenths kind amount price ≡ amount
+unfolding sixteenths
+amount-if-more kind amount price h = omega arith
+
+amount-not-more : (kind amount price : ℕ) → amount ≤ sixteenths kind 0 price → sixteenths kind amount price ≡ sixteenths kind 0 price
+unfolding sixteenths
+amount-not-more kind amount price h = omega arith
+
+-- no price that is kept is too high to be put
+keeps-in-range : (kind amount offer : ℕ) (found : Found) → kind ≤ 31 → amount < 2 ^ 25
+    → kept kind offer amount found ≡ withPrice found (λ price. Change (putOf offer (sixteenths kind amount price)))
+unfolding withPrice
+keeps-in-range kind amount offer (Word w) k a =
+    ap (λ (f : Effect). cond (isPut w) f (Fails OrderNoPrice))
+    (put-fits offer _ (sixteenths-small kind amount (priceOf w) k (omega arith) (omega arith)))
+keeps-in-range kind amount offer Nothing k a = refl
 
 -- the number by which a batch is refused
 tested-number : (a b c d : Bool) (ground : Ground)
@@ -197,10 +218,20 @@ batches = record {
   );
   too-short = λ reads orders d room e p h. batch-executes reads orders room e ∙ ap (fitting room) p ∙ too-short room d h;
   accepted = λ reads orders d room e p h. batch-executes reads orders room e ∙ ap (fitting room) p ∙ fits room d h;
-  price-in-range = put-low;
-  price-too-high = put-high;
+  price-in-range = put-fits;
+  price-too-high = put-over;
   cut-in-range = cut-low;
   cut-too-deep = cut-deep;
+  lists-at = λ o found e. effect-as o found (kind-lists (orderKind o) e) ∙ put-fits (orderOffer o) (orderAmount o) (omega arith);
+  withdraws-it = λ o found e. effect-as o found (kind-withdraws (orderKind o) e);
+  raises-by = λ o found e. effect-as o found (kind-raises (orderKind o) e);
+  cuts-by = λ o found e. effect-as o found (kind-cuts (orderKind o) e);
+  keeps-sixteenths = λ o found l h. effect-as o found (kind-keeps (orderKind o) l h)
+      ∙ keeps-in-range (orderKind o) (orderAmount o) (orderOffer o) found h (omega arith);
+  nearest = nearest;
+  half-upward = half-upward;
+  amount-if-more = amount-if-more;
+  amount-not-more = amount-not-more;
   output-rises = theorems.output-changes;
   output-named = theorems.output-named;
   output-on-map = theorems.output-on-map;

@@ -1,13 +1,15 @@
--- Priced batches, of condition 2: the kinds of orders, the grounds that concern a batch in their order, and equations 5 and 6 of document
--- 000: "Applied to any map that agrees with the read set on its offers, it gives what running the orders on that map gives".
+-- Priced batches, of condition 2: the kinds of orders and what each does, the grounds that concern a batch in their order, and equations 5
+-- and 6 of document 000, in document 01's words: "Applied to any map that agrees with the read set on its offers, it gives what running
+-- the orders on that map gives".
 -- Assumes nothing.
 use mathlib.Core.Path.{_≡_}
 use mathlib.Core.Bool.{true, _||_}
 use mathlib.Core.List.{List, [], _∷_, _++_}
-use Prim.Native.Nat.{ℕ, zero, suc, _+_, _-_, _^_, _≤_, _<_}
+use Prim.Native.Nat.{ℕ, zero, suc, _+_, _-_, _*_, _^_, _≤_, _<_}
 use lib.Dec.{eqb}
 use lib.ListN.{length, replicate}
-use Rattle.entry.specs.Word.{priceOf, putOf, Put}
+use Rattle.entry.specs.Word.{priceOf, putOf, noneOf, Put}
+use Rattle.changes.specs.declared.search.Found.{Found}
 use Rattle.changes.specs.declared.search.Found.the-variants.{Word}
 use Rattle.changes.specs.Calculus.{find, apply}
 use Rattle.changes.specs.Lists.{Changes, Map}
@@ -16,8 +18,8 @@ use Rattle.answers.specs.declared.ground.Ground.{Ground}
 use Rattle.answers.specs.declared.ground.Ground.the-variants.{PriceRange}
 use Rattle.answers.specs.Numbers.{numberOf}
 use Rattle.orders.specs.declared.effects.Effect.the-variants.{Change, Fails}
-use Rattle.orders.specs.Orders.{Kind, lists, withdraws, raises, cuts, keeps, unknown, kindNamed}
-use Rattle.orders.specs.Effects.{putAt, lowered}
+use Rattle.orders.specs.Orders.{Kind, lists, withdraws, raises, cuts, keeps, unknown, kindNamed, orderKind, orderAmount, orderOffer}
+use Rattle.orders.specs.Effects.{sixteenths, putAt, withPrice, lowered, effect}
 use Rattle.execution.specs.Tests.{foundB, readB, allB}
 use Rattle.execution.specs.Executing.{done, fails, priced}
 use Rattle.batch.specs.Batches.{batchGrounds, checked, batch}
@@ -33,6 +35,14 @@ kindTable = (lists ∷ withdraws ∷ raises ∷ cuts ∷ []) ++ replicate 12 unk
 unfoldable pub kindsFrom : ℕ → ℕ → List Kind
 kindsFrom kind zero = []
 kindsFrom kind (suc n) = kindNamed kind ∷ kindsFrom (kind + 1) n
+
+-- how far two numbers are from each other
+abbrev pub gap : ℕ → ℕ → ℕ
+gap a b = (a - b) + (b - a)
+
+-- how far a number of units is from so many sixteenths of a price, as a kind keeps them; told in sixteenths, so that it is whole
+abbrev pub awayFrom : ℕ → ℕ → ℕ → ℕ
+awayFrom kind price units = gap (16 * units) (price * (kind - 15))
 
 pub record Batches : Type 0 where
   pub kinds : kindsFrom 0 256 ≡ kindTable
@@ -54,6 +64,23 @@ pub record Batches : Type 0 where
   pub price-too-high : (offer price : ℕ) → 2 ^ 32 ≤ price → putAt offer price ≡ Fails PriceRange
   pub cut-in-range : (offer amount w : ℕ) → Put w → amount ≤ priceOf w → lowered offer amount (Word w) ≡ putAt offer (priceOf w - amount)
   pub cut-too-deep : (offer amount w : ℕ) → Put w → priceOf w < amount → lowered offer amount (Word w) ≡ Fails PriceRange
+  -- "0 lists at the amount; 1 withdraws, amount 0; 2 raises by the amount; 3 cuts by it; kinds 16 to 31 keep so many sixteenths", which are
+  -- never refused by 10; `withPrice` is ground 9 where no price is found
+  pub lists-at : (o : ℕ) (found : Found) → orderKind o ≡ 0 → effect o found ≡ Change (putOf (orderOffer o) (orderAmount o))
+  pub withdraws-it : (o : ℕ) (found : Found) → orderKind o ≡ 1 → effect o found ≡ Change (noneOf (orderOffer o))
+  pub raises-by : (o : ℕ) (found : Found) → orderKind o ≡ 2
+      → effect o found ≡ withPrice found (λ price. putAt (orderOffer o) (price + orderAmount o))
+  pub cuts-by : (o : ℕ) (found : Found) → orderKind o ≡ 3 → effect o found ≡ lowered (orderOffer o) (orderAmount o) found
+  pub keeps-sixteenths : (o : ℕ) (found : Found) → 16 ≤ orderKind o → orderKind o ≤ 31
+      → effect o found ≡ withPrice found (λ price. Change (putOf (orderOffer o) (sixteenths (orderKind o) (orderAmount o) price)))
+  -- "Kinds 16 to 31 now round to the nearest unit, a half upward" (document 02, Q-3): with amount 0 no number of units is nearer, and one
+  -- that is as near is not above it
+  pub nearest : (kind price units : ℕ) → awayFrom kind price (sixteenths kind 0 price) ≤ awayFrom kind price units
+  pub half-upward : (kind price units : ℕ) → awayFrom kind price units ≡ awayFrom kind price (sixteenths kind 0 price)
+      → units ≤ sixteenths kind 0 price
+  -- "then the amount if that is more"
+  pub amount-if-more : (kind amount price : ℕ) → sixteenths kind 0 price < amount → sixteenths kind amount price ≡ amount
+  pub amount-not-more : (kind amount price : ℕ) → amount ≤ sixteenths kind 0 price → sixteenths kind amount price ≡ sixteenths kind 0 price
   -- "The output is one word per offer named, rising, with its final price or removal"
   pub output-rises : (reads orders d : List ℕ) (room : ℕ) → batch reads orders room ≡ done d → Changes d
   pub output-named : (reads orders d : List ℕ) (room : ℕ) → batch reads orders room ≡ done d

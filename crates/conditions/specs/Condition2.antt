@@ -3,7 +3,8 @@
 -- number, and every image accepted is written back byte for byte."
 --
 -- "exactly those" is the contract of each call, which equates answer, head and all lent memory with its definitions, for all input
--- (calls/specs/Meaning.antt has them, one clause a call). What holds of the definitions is stated here, part by part.
+-- (calls/specs/Meaning.antt has them, one clause a call, and batch/specs/Batches.antt those of a batch). What holds of the definitions is
+-- stated here, part by part.
 -- Assumes nothing.
 use mathlib.Core.Path.{_≡_}
 use mathlib.Core.Bool.{true}
@@ -18,6 +19,7 @@ use Rattle.lent.specs.Lent.{fitB}
 use Rattle.moments.specs.Callers.{deskAndFoyer}
 use Rattle.moments.specs.Images.{imagesOfStates}
 use Rattle.moments.specs.Moments.{computed, expected}
+use Rattle.moments.specs.Sixteenths.{markedDown}
 use Rattle.moments.specs.Table.{twelve}
 use Rattle.conditions.specs.Batches.{Batches}
 use Rattle.conditions.specs.CCalls.{Memory, carriedIn, Result, CallOfC, AsServed}
@@ -33,7 +35,7 @@ pub record Condition2 : Type 0 where
   pub laws : Laws
   -- "tallies": what each call adds to which count, and the equation that holds after any calls
   pub tallies : Tallies
-  -- "priced batches": the kinds of orders, the order of the grounds, equations 5 and 6
+  -- "priced batches": the kinds of orders and what each does, the order of the grounds, equations 5 and 6
   pub batches : Batches
   -- "every image written loads, into a book that holds it, as the same map and state number, and every image accepted is written back
   -- byte for byte"
@@ -50,8 +52,9 @@ pub record Condition2 : Type 0 where
       → CallOfC m a r → fitB (m .head) (a .call) ≡ true → CallOfServe (carriedIn m) a s → AsServed m a r s
   -- the layouts that a C program sees
   pub c-layout : CLayout
-  -- document 01's "Twelve moments at the counter", by the definitions and by the table
+  -- document 01's "Twelve moments at the counter", moment 10 as document 02 has it, by the definitions and by the table
   pub moments : map computed twelve ≡ map expected twelve
-  -- and what document 02 says of desk and foyer, and of the images of states
+  -- and tables of what document 02 brought: desk and foyer, the images of states, sixteenths to the nearest unit
   pub desk-and-foyer : map computed deskAndFoyer ≡ map expected deskAndFoyer
   pub images-of-states : map computed imagesOfStates ≡ map expected imagesOfStates
+  pub marked-down : map computed markedDown ≡ map expected markedDown

@@ -28,6 +28,7 @@ use Rattle.history.specs.Traces.{storeResponses}
 use Rattle.moments.specs.Callers.{asking, putting, deskAndFoyer}
 use Rattle.moments.specs.Images.{imagesOfStates}
 use Rattle.moments.specs.Moments.{computed, expected}
+use Rattle.moments.specs.Sixteenths.{markedDown}
 use Rattle.moments.specs.Table.{twelve}
 
 pub moments-follow : map computed twelve ≡ map expected twelve
@@ -50,3 +51,9 @@ unfolding find compose puts apply composeAll risingB mapB noPutB readOf over run
     numberIn countIn wordsIn imageB soundB allB allOf zerosB least trimmedHead trimmedJournal freshHead withStep flushedHead opened
     closedAt imageHere imageSize storeResponses imagesOfStates
 images-follow = refl
+
+-- and of sixteenths
+pub sixteenths-follow : map computed markedDown ≡ map expected markedDown
+unfolding find compose puts risingB readOf over first sixteenths putAt withPrice effect kindNamed allowedB checked batch execute priced
+    readB allOrdersB markedDown
+sixteenths-follow = refl

@@ -1,6 +1,6 @@
--- Document 01's "Twelve moments at the counter", one after another, with the answers that it states. Where the paper names no length,
--- table and journal have 8 words; where it names no book, it is that of moment 4; the place is slot 0, and the desk calls. Lent bytes
--- and output words hold 1 before the call.
+-- Document 01's "Twelve moments at the counter", one after another, with the answers that it states, but for the first of moment 10,
+-- which document 02 replaces (Q-3). Where the paper names no length, table and journal have 8 words; where it names no book, it is that
+-- of moment 4; the place is slot 0, and the desk calls. Lent bytes and output words hold 1 before the call.
 -- Assumes nothing.
 use mathlib.Core.List.{List, [], _∷_, _++_}
 use Prim.Native.Nat.{ℕ}
@@ -78,8 +78,9 @@ twelve =
     ∷ release Desk 0 ⇒ done
     ∷ commit [] ⇒ done
     ∷ []))
-    -- 10. Price 1001, kind 27, amount 0: 750; amount 800: 800.
-    ∷ priced (putOf 5 1001 ∷ []) (orderOf 27 0 5 ∷ []) (1 ∷ 1 ∷ []) (accepted 1) (putOf 5 750 ∷ 1 ∷ [])
+    -- 10. Price 1001, kind 27, amount 0: 750; amount 800: 800. Document 02: "Price 1001 with kind 27 and amount 0 becomes 751, which
+    -- replaces 750 in moment 10 of document 01."
+    ∷ priced (putOf 5 1001 ∷ []) (orderOf 27 0 5 ∷ []) (1 ∷ 1 ∷ []) (accepted 1) (putOf 5 751 ∷ 1 ∷ [])
     ∷ priced (putOf 5 1001 ∷ []) (orderOf 27 800 5 ∷ []) (1 ∷ 1 ∷ []) (accepted 1) (putOf 5 800 ∷ 1 ∷ [])
     -- 11. Price 1200 cut by 1200: 0; by 1201: number 10.
     ∷ priced (putOf 5 1200 ∷ []) (orderOf 3 1200 5 ∷ []) (1 ∷ 1 ∷ []) (accepted 1) (putOf 5 0 ∷ 1 ∷ [])

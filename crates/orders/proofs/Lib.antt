@@ -1,3 +1,3 @@
 mod Allowed
 pub mod OneOrder
-mod OrderKinds
+pub mod OrderKinds

@@ -21,13 +21,18 @@ use Rattle.orders.specs.Effects.{sixteenths, putAt, withPrice, raised, l
 pub share-small : (p n : ℕ) → n ≤ 16 → p * n ≤ p * 16
 share-small p n h = mul-le-mul-left p h
 
-pub sixteenths-amount : (kind amount price : ℕ) → price * (kind - 15) / 16 < amount → sixteenths kind amount price ≡ amount
+pub sixteenths-amount : (kind amount price : ℕ) → (price * (kind - 15) + 8) / 16 < amount → sixteenths kind amount price ≡ amount
 unfolding sixteenths
 sixteenths-amount kind amount price h = omega arith
 
-pub sixteenths-share : (kind amount price : ℕ) → amount ≤ price * (kind - 15) / 16 → sixteenths kind amount price ≡ price * (kind - 15) / 16
+pub sixteenths-share : (kind amount price : ℕ) → amount ≤ (price * (kind - 15) + 8) / 16
+    → sixteenths kind amount price ≡ (price * (kind - 15) + 8) / 16
 unfolding sixteenths
 sixteenths-share kind amount price h = omega arith
+
+pub sixteenths-small : (kind amount price : ℕ) → kind ≤ 31 → amount < 2 ^ 32 → price < 2 ^ 32 → sixteenths kind amount price < 2 ^ 32
+unfolding sixteenths
+sixteenths-small kind amount price k a p = omega (arith, share-small price (kind - 15) (omega arith))
 
 pub put-fits : (offer price : ℕ) → price < 2 ^ 32 → putAt offer price ≡ Change (putOf offer price)
 unfolding putAt

@@ -1,4 +1,4 @@
--- What one order does, seen what is shown at its offer (document 01, "Batches" and grounds 9 and 10).
+-- What one order does, seen what is shown at its offer (document 01, "Batches" and grounds 9 and 10; document 02, Q-3).
 -- Assumes nothing.
 use mathlib.Core.Path.{_≡_}
 use mathlib.Core.Bool.{cond}
@@ -23,9 +23,9 @@ saidByEffect (Fails ground) = refused (numberOf ground)
 abbrev pub Does : Effect → Effect → Type 0
 Does done meant = (done ≡ meant) × (saidByEffect done ≡ saidByEffect meant)
 
--- "the price becomes price × (kind − 15) / 16 rounded down, or the amount if that is more"
+-- "(price × (kind − 15) + 8) / 16, rounded down, then the amount if that is more" (document 02, Q-3)
 unfoldable pub sixteenths : ℕ → ℕ → ℕ → ℕ
-sixteenths kind amount price = max (price * (kind - 15) / 16) amount
+sixteenths kind amount price = max ((price * (kind - 15) + 8) / 16) amount
 
 -- the put of a new price, which ground 10 keeps to 2^32 − 1
 unfoldable pub putAt : ℕ → ℕ → Effect

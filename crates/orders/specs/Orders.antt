@@ -14,8 +14,8 @@ orderAmount o = o / 2 ^ 31 % 2 ^ 25
 abbrev pub orderOffer : ℕ → ℕ
 orderOffer o = o % 2 ^ 31
 
--- "0 lists at the amount; 1 withdraws, amount 0; 2 raises by the amount; 3 cuts by it; kinds 16 to 31 keep so many sixteenths ..
--- All other kinds are unknown."
+-- "0 lists at the amount; 1 withdraws, amount 0; 2 raises by the amount; 3 cuts by it; kinds 16 to 31 keep so many sixteenths", "All
+-- other kinds are unknown."
 pub data Kind : Type 0 where
   lists withdraws raises cuts keeps unknown : Kind
 

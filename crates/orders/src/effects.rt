@@ -16,12 +16,12 @@ pub enum Effect {
     Fails(Ground),
 }
 
-// So many sixteenths of a price, rounded down, or the amount if that is more.
+// So many sixteenths of a price, to the nearest unit and a half upward, or the amount if that is more.
 fn sixteenths(kind: u32, amount: u32, price: u32) -> u32
     requires { ⌜ (16 ≤ kind) × (kind ≤ 31) ⌝ }
     ensures { λ r. ⌜ r ≡ sixteenthsOf kind amount price ⌝ }
 {
-    let share = ((price as u64) * ((kind - 15) as u64) / 16) as u32;
+    let share = (((price as u64) * ((kind - 15) as u64) + 8) / 16) as u32;
     if share < amount {
         return amount;
     }

@@ -17,6 +17,9 @@ pub(super) const WEIGHTS: [usize; 12] = [1, 6, 30, 3, 100, 24, 44, 56, 52, 40, 1
 /// The same on damaged memory and on memory of wrong lengths: each call, but seldom one that mends the store.
 pub(super) const EVEN: [usize; 12] = [1, 1, 8, 4, 4, 4, 4, 4, 4, 4, 4, 2];
 
+/// Amounts are numbers below this.
+const AMOUNTS: usize = 1 << 25;
+
 /// The index of the call that writes an image.
 pub(super) const WRITE_IMAGE: usize = 2;
 
@@ -222,31 +225,46 @@ impl Generator {
     fn order_that_runs(&mut self, now: &mut Changes) -> u64 {
         let offers: Vec<u32> = now.keys().copied().collect();
         let offer = self.draw.rng.pick(&offers);
-        let amount = self.amount();
-        let word = match now[&offer] {
-            None => order(0, amount, offer),
-            Some(price) => {
-                let kind = self.draw.rng.pick(&[0, 1, 2, 3, 16, 23, 27, 30, 31]);
-                let most = match kind {
-                    1 => 0,
-                    2 => u32::MAX - price,
-                    3 => price,
-                    _ => u32::MAX,
-                };
-                order(kind, amount.min(most).min((1 << 25) - 1), offer)
-            }
+        let (kind, amount) = match now[&offer] {
+            None => (0, self.amount()),
+            Some(price) => self.kind_and_amount(price),
         };
+        let word = order(kind, amount, offer);
         let after = priced(&words_of(now), &[word]).unwrap_or_default();
         now.extend(changes_of(&after));
         word
+    }
+
+    /// The kind and the amount of an order that does not fail at a price: more often than not of sixteenths.
+    fn kind_and_amount(&mut self, price: u32) -> (u8, u32) {
+        let amount = self.amount();
+        match self.draw.rng.weighted(&[1, 1, 1, 1, 5]) {
+            0 => (0, amount),
+            1 => (1, 0),
+            2 => (2, amount.min(u32::MAX - price)),
+            3 => (3, amount.min(price)),
+            _ => self.sixteenths(price),
+        }
+    }
+
+    /// Any of the kinds that keep sixteenths of a price, and an amount: none, one within two units of what is kept, or any.
+    fn sixteenths(&mut self, price: u32) -> (u8, u32) {
+        let kind = self.draw.rng.within(16, 31);
+        let kept = price as usize * (kind - 15) / 16;
+        let amount = match self.draw.rng.weighted(&[3, 4, 3]) {
+            0 => 0,
+            1 => self.draw.rng.within(kept.saturating_sub(1), kept + 2).min(AMOUNTS - 1) as u32,
+            _ => self.amount(),
+        };
+        (kind as u8, amount)
     }
 
     /// An amount of 25 bits, its ends often.
     fn amount(&mut self) -> u32 {
         match self.draw.rng.below(5) {
             0 => 0,
-            1 => (1 << 25) - 1,
-            2 => self.draw.rng.below(1 << 25) as u32,
+            1 => AMOUNTS as u32 - 1,
+            2 => self.draw.rng.below(AMOUNTS) as u32,
             _ => self.draw.rng.within(1, 1500) as u32,
         }
     }

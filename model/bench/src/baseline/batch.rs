@@ -41,10 +41,15 @@ impl Order {
             _ if !word::is_put(shown) => return Err(Refusal::NoPrice),
             2 => word::price(shown).checked_add(amount).ok_or(Refusal::PriceRange)?,
             3 => word::price(shown).checked_sub(amount).ok_or(Refusal::PriceRange)?,
-            kind => ((u64::from(word::price(shown)) * u64::from(kind - 15) / 16) as u32).max(amount),
+            kind => kept(word::price(shown), kind - 15).max(amount),
         };
         Ok(word::put(offer, price))
     }
+}
+
+/// So many sixteenths of a price, 1 to 16, to the nearest unit, a half upward.
+fn kept(price: u32, sixteenths: u8) -> u32 {
+    ((u64::from(price) * u64::from(sixteenths) + 8) >> 4) as u32
 }
 
 /// Runs orders in turn on a read set; one word for each offer that they name goes to the start of `out`. Gives their count.

@@ -17,6 +17,9 @@ cast-share c = search needs
 mul-share : tie.Need-mul-share
 mul-share c = omega (arith, share-small (c .args .price) ((c .args .kind) - 15) (omega arith))
 
+add-share : tie.Need-add-share
+add-share c = omega (arith, share-small (c .args .price) ((c .args .kind) - 15) (omega arith))
+
 cast-share-2 : tie.Need-cast-share-2
 cast-share-2 c = omega (arith, share-small (c .args .price) ((c .args .kind) - 15) (omega arith))
 
@@ -28,4 +31,4 @@ returns-2 c = sym (sixteenths-share (c .before .args .kind) (c .before .args .am
 
 pub sixteenths-spec : {M : Type 1} → statement M
 sixteenths-spec =
-    tie.close (tie.spec sub-share cast-share mul-share cast-share-2 returns returns-2)
+    tie.close (tie.spec sub-share cast-share mul-share add-share cast-share-2 returns returns-2)
