@@ -27,17 +27,17 @@ use Rattle.orders.specs.declared.effects.Effect.{Effect}
 use Rattle.orders.specs.declared.effects.Effect.the-variants.{Change, Fails}
 use Rattle.orders.specs.Orders.{Kind, lists, withdraws, raises, cuts, keeps, unknown, kindNamed, orderKind, orderAmount}
 use Rattle.orders.specs.Orders.{orderOffer, allowedWith, allowedB}
-use Rattle.orders.specs.Effects.{putAt, withPrice, sixteenths, effectBy, effect, lowered, kept}
-use Rattle.orders.proofs.OneOrder.{sixteenths-small, put-fits, put-over, effect-as}
+use Rattle.orders.specs.Effects.{putAt, withPrice, sixteenths, effectBy, effect}
+use Rattle.orders.proofs.OneOrder.{sixteenths-small, put-fits, raise-fits, raise-over, cut-fits, cut-under, keep-fits, effect-as}
 use Rattle.orders.proofs.OrderKinds.{kind-lists, kind-withdraws, kind-raises, kind-cuts, kind-keeps}
 use Rattle.execution.specs.Executing.{Executed, done, fails, next, execute, priced}
 use Rattle.execution.specs.Tests.{readB, allB}
 use Rattle.batch.specs.Batches.{checked, fitting, batch}
-use Rattle.batch.proofs.BatchChecks.{batch-stopped, batch-executes, fits, too-short, stop-list, stop-many}
+use Rattle.batch.proofs.BatchChecks.{batch-stopped, batch-executes, fits, too-short, stop-list, stop-many, stop-order, stop-read, passes}
 use Rattle.batch.proofs.Theorems as theorems
 use Rattle.conditions.specs.Grounds.{numbers, once}
 use Rattle.conditions.proofs.Refusals.{number-range}
-use Rattle.conditions.specs.Batches.{kindsFrom, awayFrom, Batches}
+use Rattle.conditions.specs.Batches.{kindsFrom, altersB, shownB, awayFrom, Batches}
 
 -- the grounds by which an order that passed ground 7 can fail
 abbrev nineOrTen : ℕ → Bool
@@ -119,14 +119,6 @@ allowed reads orders e =
     let b = passed-not _ _ _ (a .1) in
     not-false _ (passed-not _ _ _ (b .1) .0)
 
-cut-low : (offer amount w : ℕ) → Put w → amount ≤ priceOf w → lowered offer amount (Word w) ≡ putAt offer (priceOf w - amount)
-unfolding withPrice
-cut-low offer amount w p h = rw (eq-eqb (kindOf w) 1 p) (rw (le-leb amount (priceOf w) h) refl)
-
-cut-deep : (offer amount w : ℕ) → Put w → priceOf w < amount → lowered offer amount (Word w) ≡ Fails PriceRange
-unfolding withPrice
-cut-deep offer amount w p h = rw (eq-eqb (kindOf w) 1 p) (rw (lt-leb amount (priceOf w) h) refl)
-
 -- so many sixteenths of a price
 nearest : (kind price units : ℕ) → awayFrom kind price (sixteenths kind 0 price) ≤ awayFrom kind price units
 unfolding sixteenths
@@ -145,14 +137,67 @@ amount-not-more : (kind amount price : ℕ) → amount ≤ sixteenths kind 0 pri
 unfolding sixteenths
 amount-not-more kind amount price h = omega arith
 
--- no price that is kept is too high to be put
-keeps-in-range : (kind amount offer : ℕ) (found : Found) → kind ≤ 31 → amount < 2 ^ 25
-    → kept kind offer amount found ≡ withPrice found (λ price. Change (putOf offer (sixteenths kind amount price)))
+-- the kinds that ground 7 lets pass
+unknown-kinds : (o : ℕ) → kindNamed (orderKind o) ≡ unknown → allowedB o ≡ false
+unfolding allowedB
+unknown-kinds o e = ap (λ (k : Kind). allowedWith k (orderAmount o)) e
+
+withdrawals : (o : ℕ) → kindNamed (orderKind o) ≡ withdraws → allowedB o ≡ eqb (orderAmount o) 0
+unfolding allowedB
+withdrawals o e = ap (λ (k : Kind). allowedWith k (orderAmount o)) e
+
+other-allowed : (k : Kind) (amount : ℕ) → (k ≡ unknown → ⊥) → (k ≡ withdraws → ⊥) → allowedWith k amount ≡ true
+other-allowed lists amount m n = refl
+other-allowed withdraws amount m n = absurd (n refl)
+other-allowed raises amount m n = refl
+other-allowed cuts amount m n = refl
+other-allowed keeps amount m n = refl
+other-allowed unknown amount m n = absurd (m refl)
+
+other-kinds : (o : ℕ) → (kindNamed (orderKind o) ≡ unknown → ⊥) → (kindNamed (orderKind o) ≡ withdraws → ⊥) → allowedB o ≡ true
+unfolding allowedB
+other-kinds o = other-allowed (kindNamed (orderKind o)) (orderAmount o)
+
+-- ground 9
+none-shown : (found : Found) (f : ℕ → Effect) → shownB found ≡ false → withPrice found f ≡ Fails OrderNoPrice
 unfolding withPrice
-keeps-in-range kind amount offer (Word w) k a =
-    ap (λ (f : Effect). cond (isPut w) f (Fails OrderNoPrice))
-    (put-fits offer _ (sixteenths-small kind amount (priceOf w) k (omega arith) (omega arith)))
-keeps-in-range kind amount offer Nothing k a = refl
+none-shown (Word w) f e = rw e refl
+none-shown Nothing f e = refl
+
+none-by-kind : (named : Kind) (kind amount offer : ℕ) (found : Found) → altersB named ≡ true → shownB found ≡ false
+    → effectBy named kind amount offer found ≡ Fails OrderNoPrice
+none-by-kind lists kind amount offer found y e = absurd (let z : _≡_ {A = ℕ} 0 1 = cc in omega arith)
+none-by-kind withdraws kind amount offer found y e = absurd (let z : _≡_ {A = ℕ} 0 1 = cc in omega arith)
+none-by-kind raises kind amount offer found y e = none-shown found _ e
+none-by-kind cuts kind amount offer found y e = none-shown found _ e
+none-by-kind keeps kind amount offer found y e = none-shown found _ e
+none-by-kind unknown kind amount offer found y e = absurd (let z : _≡_ {A = ℕ} 0 1 = cc in omega arith)
+
+without-a-price : (o : ℕ) (found : Found) → altersB (kindNamed (orderKind o)) ≡ true → shownB found ≡ false
+    → effect o found ≡ Fails OrderNoPrice
+unfolding effect
+without-a-price o found = none-by-kind (kindNamed (orderKind o)) (orderKind o) (orderAmount o) (orderOffer o) found
+
+-- what orders make of a price that is shown
+module _ (o w : ℕ) (put : Put w) where
+  raise-low : orderKind o ≡ 2 → priceOf w + orderAmount o < 2 ^ 32
+      → effect o (Word w) ≡ Change (putOf (orderOffer o) (priceOf w + orderAmount o))
+  raise-low e h = effect-as o (Word w) (kind-raises (orderKind o) e) ∙ raise-fits (orderOffer o) (orderAmount o) w put h
+
+  raise-high : orderKind o ≡ 2 → 2 ^ 32 ≤ priceOf w + orderAmount o → effect o (Word w) ≡ Fails PriceRange
+  raise-high e h = effect-as o (Word w) (kind-raises (orderKind o) e) ∙ raise-over (orderOffer o) (orderAmount o) w put h
+
+  cut-low : orderKind o ≡ 3 → orderAmount o ≤ priceOf w → effect o (Word w) ≡ Change (putOf (orderOffer o) (priceOf w - orderAmount o))
+  cut-low e h = effect-as o (Word w) (kind-cuts (orderKind o) e) ∙ cut-fits (orderOffer o) (orderAmount o) w put h
+
+  cut-deep : orderKind o ≡ 3 → priceOf w < orderAmount o → effect o (Word w) ≡ Fails PriceRange
+  cut-deep e h = effect-as o (Word w) (kind-cuts (orderKind o) e) ∙ cut-under (orderOffer o) (orderAmount o) w put h
+
+  keeps-share : 16 ≤ orderKind o → orderKind o ≤ 31
+      → effect o (Word w) ≡ Change (putOf (orderOffer o) (sixteenths (orderKind o) (orderAmount o) (priceOf w)))
+  keeps-share l h =
+      effect-as o (Word w) (kind-keeps (orderKind o) l h) ∙ keep-fits (orderOffer o) (orderAmount o) w put (orderKind o) _ refl
+      (sixteenths-small (orderKind o) (orderAmount o) (priceOf w) h (omega arith) (omega arith))
 
 -- the number by which a batch is refused
 tested-number : (a b c d : Bool) (ground : Ground)
@@ -208,26 +253,32 @@ module _ (reads orders : List ℕ) (room n : ℕ) (e : batch reads orders room �
 pub batches : Batches
 unfolding kindsFrom kindNamed numbers once
 batches = record {
+  fields = λ kind amount offer a b. (omega arith, omega arith, omega arith);
   kinds = refl;
+  unknown-kinds = unknown-kinds;
+  withdrawals = withdrawals;
+  other-kinds = other-kinds;
   tested-first = λ reads orders. refl;
   stopped = λ reads orders room ground e. batch-stopped reads orders room e;
+  broken-read-set = λ reads orders room e. batch-stopped reads orders room (stop-list reads orders e);
   over-64-orders = λ reads orders room h. batch-stopped reads orders room (over-64 reads orders h);
+  order-not-allowed = λ reads orders room l h e. batch-stopped reads orders room (stop-order reads orders l h e);
+  offer-not-read = λ reads orders room l h a e. batch-stopped reads orders room (stop-read reads orders l h a e);
+  passes = passes;
   first-that-fails = λ reads orders room n e p. (
     batch-executes reads orders room e ∙ ap (fitting room) p,
     priced-fails reads orders n e p,
   );
   too-short = λ reads orders d room e p h. batch-executes reads orders room e ∙ ap (fitting room) p ∙ too-short room d h;
   accepted = λ reads orders d room e p h. batch-executes reads orders room e ∙ ap (fitting room) p ∙ fits room d h;
-  price-in-range = put-fits;
-  price-too-high = put-over;
-  cut-in-range = cut-low;
-  cut-too-deep = cut-deep;
   lists-at = λ o found e. effect-as o found (kind-lists (orderKind o) e) ∙ put-fits (orderOffer o) (orderAmount o) (omega arith);
   withdraws-it = λ o found e. effect-as o found (kind-withdraws (orderKind o) e);
-  raises-by = λ o found e. effect-as o found (kind-raises (orderKind o) e);
-  cuts-by = λ o found e. effect-as o found (kind-cuts (orderKind o) e);
-  keeps-sixteenths = λ o found l h. effect-as o found (kind-keeps (orderKind o) l h)
-      ∙ keeps-in-range (orderKind o) (orderAmount o) (orderOffer o) found h (omega arith);
+  raise-in-range = λ o w e p h. raise-low o w p e h;
+  raise-too-high = λ o w e p h. raise-high o w p e h;
+  cut-in-range = λ o w e p h. cut-low o w p e h;
+  cut-too-deep = λ o w e p h. cut-deep o w p e h;
+  keeps-sixteenths = λ o w l h p. keeps-share o w p l h;
+  without-a-price = without-a-price;
   nearest = nearest;
   half-upward = half-upward;
   amount-if-more = amount-if-more;

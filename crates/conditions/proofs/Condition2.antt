@@ -1,6 +1,6 @@
 -- Condition 2, proved.
 -- Assumes nothing.
-use Rattle.moments.proofs.Theorem.{moments-follow, callers-follow, images-follow, sixteenths-follow}
+use Rattle.moments.proofs.Theorem.{moments-follow, callers-follow, images-follow, sixteenths-follow, orders-follow}
 use Rattle.conditions.specs.Condition2.{Condition2}
 use Rattle.conditions.proofs.Batches.{batches}
 use Rattle.conditions.proofs.AsServed.{as-served}
@@ -24,5 +24,6 @@ condition-2 = record {
   moments = moments-follow;
   desk-and-foyer = callers-follow;
   images-of-states = images-follow;
-  marked-down = sixteenths-follow;
+  sixteenths-kept = sixteenths-follow;
+  other-orders = orders-follow;
 }

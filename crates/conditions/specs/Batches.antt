@@ -3,23 +3,24 @@
 -- the orders on that map gives".
 -- Assumes nothing.
 use mathlib.Core.Path.{_≡_}
-use mathlib.Core.Bool.{true, _||_}
+use mathlib.Core.Bool.{Bool, true, false, _||_}
 use mathlib.Core.List.{List, [], _∷_, _++_}
 use Prim.Native.Nat.{ℕ, zero, suc, _+_, _-_, _*_, _^_, _≤_, _<_}
 use lib.Dec.{eqb}
 use lib.ListN.{length, replicate}
-use Rattle.entry.specs.Word.{priceOf, putOf, noneOf, Put}
+use Rattle.entry.specs.Word.{priceOf, putOf, noneOf, isPut, Put}
 use Rattle.changes.specs.declared.search.Found.{Found}
-use Rattle.changes.specs.declared.search.Found.the-variants.{Word}
+use Rattle.changes.specs.declared.search.Found.the-variants.{Word, Nothing}
 use Rattle.changes.specs.Calculus.{find, apply}
-use Rattle.changes.specs.Lists.{Changes, Map}
+use Rattle.changes.specs.Lists.{Changes, Map, listB}
 use Rattle.answers.specs.declared.answer.Check.the-variants.{Passed, Refused}
 use Rattle.answers.specs.declared.ground.Ground.{Ground}
-use Rattle.answers.specs.declared.ground.Ground.the-variants.{PriceRange}
+use Rattle.answers.specs.declared.ground.Ground.the-variants.{OrderNoPrice, PriceRange}
 use Rattle.answers.specs.Numbers.{numberOf}
 use Rattle.orders.specs.declared.effects.Effect.the-variants.{Change, Fails}
-use Rattle.orders.specs.Orders.{Kind, lists, withdraws, raises, cuts, keeps, unknown, kindNamed, orderKind, orderAmount, orderOffer}
-use Rattle.orders.specs.Effects.{sixteenths, putAt, withPrice, lowered, effect}
+use Rattle.orders.specs.Orders.{orderKind, orderAmount, orderOffer, allowedB}
+use Rattle.orders.specs.Orders.{Kind, lists, withdraws, raises, cuts, keeps, unknown, kindNamed}
+use Rattle.orders.specs.Effects.{sixteenths, effect}
 use Rattle.execution.specs.Tests.{foundB, readB, allB}
 use Rattle.execution.specs.Executing.{done, fails, priced}
 use Rattle.batch.specs.Batches.{batchGrounds, checked, batch}
@@ -36,6 +37,20 @@ unfoldable pub kindsFrom : ℕ → ℕ → List Kind
 kindsFrom kind zero = []
 kindsFrom kind (suc n) = kindNamed kind ∷ kindsFrom (kind + 1) n
 
+-- "a raise, cut or sixteenths"
+abbrev pub altersB : Kind → Bool
+altersB lists = false
+altersB withdraws = false
+altersB raises = true
+altersB cuts = true
+altersB keeps = true
+altersB unknown = false
+
+-- whether a price is shown at an offer
+abbrev pub shownB : Found → Bool
+shownB (Word w) = isPut w
+shownB Nothing = false
+
 -- how far two numbers are from each other
 abbrev pub gap : ℕ → ℕ → ℕ
 gap a b = (a - b) + (b - a)
@@ -45,12 +60,26 @@ abbrev pub awayFrom : ℕ → ℕ → ℕ → ℕ
 awayFrom kind price units = gap (16 * units) (price * (kind - 15))
 
 pub record Batches : Type 0 where
+  -- "An order is 64 bits, most significant first: kind 8 bits, amount 25 bits, offer 31 bits."
+  pub fields : (kind amount offer : ℕ) → amount < 2 ^ 25 → offer < 2 ^ 31 → let o = kind * 2 ^ 56 + amount * 2 ^ 31 + offer in
+      (orderKind o ≡ kind) × (orderAmount o ≡ amount) × (orderOffer o ≡ offer)
   pub kinds : kindsFrom 0 256 ≡ kindTable
+  -- "Some order's kind is unknown, or a withdrawal has an amount other than 0."
+  pub unknown-kinds : (o : ℕ) → kindNamed (orderKind o) ≡ unknown → allowedB o ≡ false
+  pub withdrawals : (o : ℕ) → kindNamed (orderKind o) ≡ withdraws → allowedB o ≡ eqb (orderAmount o) 0
+  pub other-kinds : (o : ℕ) → (kindNamed (orderKind o) ≡ unknown → ⊥) → (kindNamed (orderKind o) ≡ withdraws → ⊥) → allowedB o ≡ true
   -- grounds 6, 7 and 8 come first, over all orders,
   pub tested-first : (reads orders : List ℕ) → once (numbers (batchGrounds reads orders)) ≡ ofBatch
   pub stopped : (reads orders : List ℕ) (room : ℕ) (ground : Ground) → checked reads orders ≡ Refused ground
       → batch reads orders room ≡ fails (numberOf ground)
+  pub broken-read-set : (reads orders : List ℕ) (room : ℕ) → listB reads ≡ false → batch reads orders room ≡ fails 6
   pub over-64-orders : (reads orders : List ℕ) (room : ℕ) → 65 ≤ length orders → batch reads orders room ≡ fails 6
+  pub order-not-allowed : (reads orders : List ℕ) (room : ℕ) → listB reads ≡ true → length orders ≤ 64
+      → allB allowedB orders ≡ false → batch reads orders room ≡ fails 7
+  pub offer-not-read : (reads orders : List ℕ) (room : ℕ) → listB reads ≡ true → length orders ≤ 64
+      → allB allowedB orders ≡ true → allB (readB reads) orders ≡ false → batch reads orders room ≡ fails 8
+  pub passes : (reads orders : List ℕ) → listB reads ≡ true → length orders ≤ 64
+      → allB allowedB orders ≡ true → allB (readB reads) orders ≡ true → checked reads orders ≡ Passed
   -- then 9 or 10, of the first order that fails,
   pub first-that-fails : (reads orders : List ℕ) (room n : ℕ) → checked reads orders ≡ Passed → priced reads orders ≡ fails n
       → (batch reads orders room ≡ fails n) × (eqb n 9 || eqb n 10 ≡ true)
@@ -59,20 +88,22 @@ pub record Batches : Type 0 where
       → room < length d → batch reads orders room ≡ fails 17
   pub accepted : (reads orders d : List ℕ) (room : ℕ) → checked reads orders ≡ Passed → priced reads orders ≡ done d
       → length d ≤ room → batch reads orders room ≡ done d
-  -- "takes a price below 0 or above 2^32 − 1"
-  pub price-in-range : (offer price : ℕ) → price < 2 ^ 32 → putAt offer price ≡ Change (putOf offer price)
-  pub price-too-high : (offer price : ℕ) → 2 ^ 32 ≤ price → putAt offer price ≡ Fails PriceRange
-  pub cut-in-range : (offer amount w : ℕ) → Put w → amount ≤ priceOf w → lowered offer amount (Word w) ≡ putAt offer (priceOf w - amount)
-  pub cut-too-deep : (offer amount w : ℕ) → Put w → priceOf w < amount → lowered offer amount (Word w) ≡ Fails PriceRange
-  -- "0 lists at the amount; 1 withdraws, amount 0; 2 raises by the amount; 3 cuts by it; kinds 16 to 31 keep so many sixteenths", which are
-  -- never refused by 10; `withPrice` is ground 9 where no price is found
+  -- what each order does: "0 lists at the amount; 1 withdraws",
   pub lists-at : (o : ℕ) (found : Found) → orderKind o ≡ 0 → effect o found ≡ Change (putOf (orderOffer o) (orderAmount o))
   pub withdraws-it : (o : ℕ) (found : Found) → orderKind o ≡ 1 → effect o found ≡ Change (noneOf (orderOffer o))
-  pub raises-by : (o : ℕ) (found : Found) → orderKind o ≡ 2
-      → effect o found ≡ withPrice found (λ price. putAt (orderOffer o) (price + orderAmount o))
-  pub cuts-by : (o : ℕ) (found : Found) → orderKind o ≡ 3 → effect o found ≡ lowered (orderOffer o) (orderAmount o) found
-  pub keeps-sixteenths : (o : ℕ) (found : Found) → 16 ≤ orderKind o → orderKind o ≤ 31
-      → effect o found ≡ withPrice found (λ price. Change (putOf (orderOffer o) (sixteenths (orderKind o) (orderAmount o) price)))
+  -- "2 raises by the amount; 3 cuts by it", or "takes a price below 0 or above 2^32 − 1",
+  pub raise-in-range : (o w : ℕ) → orderKind o ≡ 2 → Put w → priceOf w + orderAmount o < 2 ^ 32
+      → effect o (Word w) ≡ Change (putOf (orderOffer o) (priceOf w + orderAmount o))
+  pub raise-too-high : (o w : ℕ) → orderKind o ≡ 2 → Put w → 2 ^ 32 ≤ priceOf w + orderAmount o → effect o (Word w) ≡ Fails PriceRange
+  pub cut-in-range : (o w : ℕ) → orderKind o ≡ 3 → Put w → orderAmount o ≤ priceOf w
+      → effect o (Word w) ≡ Change (putOf (orderOffer o) (priceOf w - orderAmount o))
+  pub cut-too-deep : (o w : ℕ) → orderKind o ≡ 3 → Put w → priceOf w < orderAmount o → effect o (Word w) ≡ Fails PriceRange
+  -- "kinds 16 to 31 keep so many sixteenths", and never meet 10;
+  pub keeps-sixteenths : (o w : ℕ) → 16 ≤ orderKind o → orderKind o ≤ 31 → Put w
+      → effect o (Word w) ≡ Change (putOf (orderOffer o) (sixteenths (orderKind o) (orderAmount o) (priceOf w)))
+  -- and ground 9: "a raise, cut or sixteenths on an offer without a price"
+  pub without-a-price : (o : ℕ) (found : Found) → altersB (kindNamed (orderKind o)) ≡ true → shownB found ≡ false
+      → effect o found ≡ Fails OrderNoPrice
   -- "Kinds 16 to 31 now round to the nearest unit, a half upward" (document 02, Q-3): with amount 0 no number of units is nearer, and one
   -- that is as near is not above it
   pub nearest : (kind price units : ℕ) → awayFrom kind price (sixteenths kind 0 price) ≤ awayFrom kind price units

@@ -25,10 +25,10 @@ use Rattle.flushes.specs.Flush.{flushedHead}
 use Rattle.rollbacks.specs.RollBack.{cutTo}
 use Rattle.slots.specs.Slots.{opened, closedAt}
 use Rattle.history.specs.Traces.{storeResponses}
+use Rattle.moments.specs.Batches.{sixteenthsKept, otherOrders}
 use Rattle.moments.specs.Callers.{asking, putting, deskAndFoyer}
 use Rattle.moments.specs.Images.{imagesOfStates}
 use Rattle.moments.specs.Moments.{computed, expected}
-use Rattle.moments.specs.Sixteenths.{markedDown}
 use Rattle.moments.specs.Table.{twelve}
 
 pub moments-follow : map computed twelve ≡ map expected twelve
@@ -52,8 +52,13 @@ unfolding find compose puts apply composeAll risingB mapB noPutB readOf over run
     closedAt imageHere imageSize storeResponses imagesOfStates
 images-follow = refl
 
--- and of sixteenths
-pub sixteenths-follow : map computed markedDown ≡ map expected markedDown
+-- and of sixteenths, with the other orders of document 01 beside them
+pub sixteenths-follow : map computed sixteenthsKept ≡ map expected sixteenthsKept
 unfolding find compose puts risingB readOf over first sixteenths putAt withPrice effect kindNamed allowedB checked batch execute priced
-    readB allOrdersB markedDown
+    readB allOrdersB sixteenthsKept
 sixteenths-follow = refl
+
+pub orders-follow : map computed otherOrders ≡ map expected otherOrders
+unfolding find compose puts risingB readOf over first sixteenths putAt withPrice effect kindNamed allowedB checked batch execute priced
+    readB allOrdersB otherOrders
+orders-follow = refl

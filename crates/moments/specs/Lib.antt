@@ -2,4 +2,4 @@ pub mod Callers
 pub mod Moments
 pub mod Table
 pub mod Images
-pub mod Sixteenths
+pub mod Batches

@@ -1,4 +1,4 @@
-// What one order does (document 01, "Batches"), seen the word that shows its offer's price or none.
+// What one order does (document 01, "Batches"; document 02, Q-3), seen the word that shows its offer's price or none.
 use crate::Order;
 use answers::ground::Ground;
 use entry::Entry;
