@@ -187,7 +187,7 @@ enum {
 
 /* The kind that keeps n sixteenths, n from 1 to 16: the price becomes (price * n + 8) / 16, worked out in 64 bits and
  * rounded down, which is to the nearest unit and a half upward, or the amount if that is more. Any other n gives 255, an
- * unknown kind. It is a constant where n is one, and takes n more than once. */
+ * unknown kind. Where n is a constant, so is the kind; n is taken more than once. */
 #define CECHNUOL_SIXTEENTHS(n) ((n) >= 1 && (n) <= 16 ? 15 + (n) : 255)
 
 /* What cechnuol_order gives where a number does not fit its bits: a word of unknown kind. */

@@ -2,7 +2,7 @@
 -- Assumes nothing.
 use mathlib.Core.Path.{_≡_, refl, sym, ap, _∙_}
 use mathlib.Core.Bool.{Bool, true, false, cond, not, _||_}
-use mathlib.Core.List.{List, [], _∷_}
+use mathlib.Core.List.{List, [], _∷_, _++_}
 use Prim.Native.Nat.{ℕ, _+_, _-_, _^_, _≤_, _<_}
 use native.Mathlib.Omega.{arith}
 use borrow.Author.Tests.{eqb-true, eq-eqb, le-leb, lt-leb, not-false}
@@ -36,6 +36,7 @@ use Rattle.batch.specs.Batches.{checked, fitting, batch}
 use Rattle.batch.proofs.BatchChecks.{batch-stopped, batch-executes, fits, too-short, stop-list, stop-many, stop-order, stop-read, passes}
 use Rattle.batch.proofs.Theorems as theorems
 use Rattle.conditions.specs.Grounds.{numbers, once}
+use Rattle.conditions.proofs.InTurn.{one-fails, no-orders, last-order, first-fails}
 use Rattle.conditions.proofs.Refusals.{number-range}
 use Rattle.conditions.specs.Batches.{kindsFrom, altersB, shownB, awayFrom, Batches}
 
@@ -251,7 +252,7 @@ module _ (reads orders : List ℕ) (room n : ℕ) (e : batch reads orders room �
   batch-number = by-check (checked reads orders) refl
 
 pub batches : Batches
-unfolding kindsFrom kindNamed numbers once
+unfolding kindsFrom kindNamed numbers once readB
 batches = record {
   fields = λ kind amount offer a b. (omega arith, omega arith, omega arith);
   kinds = refl;
@@ -262,9 +263,14 @@ batches = record {
   stopped = λ reads orders room ground e. batch-stopped reads orders room e;
   broken-read-set = λ reads orders room e. batch-stopped reads orders room (stop-list reads orders e);
   over-64-orders = λ reads orders room h. batch-stopped reads orders room (over-64 reads orders h);
-  order-not-allowed = λ reads orders room l h e. batch-stopped reads orders room (stop-order reads orders l h e);
-  offer-not-read = λ reads orders room l h a e. batch-stopped reads orders room (stop-read reads orders l h a e);
+  order-not-allowed = λ reads earlier later o room l h e. batch-stopped reads (earlier ++ o ∷ later) room
+      (stop-order reads (earlier ++ o ∷ later) l h (one-fails allowedB earlier later o e));
+  offer-not-read = λ reads earlier later o room l h a e. batch-stopped reads (earlier ++ o ∷ later) room
+      (stop-read reads (earlier ++ o ∷ later) l h a (one-fails (readB reads) earlier later o e));
   passes = passes;
+  no-orders = no-orders;
+  last-order = last-order;
+  first-fails = first-fails;
   first-that-fails = λ reads orders room n e p. (
     batch-executes reads orders room e ∙ ap (fitting room) p,
     priced-fails reads orders n e p,

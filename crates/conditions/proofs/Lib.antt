@@ -12,6 +12,7 @@ pub mod FlushToAnchor
 pub mod Followed
 pub mod HeadsFit
 pub mod Images
+pub mod InTurn
 pub mod Laws
 pub mod QueriesKeep
 pub mod Lent

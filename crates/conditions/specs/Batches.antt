@@ -11,8 +11,9 @@ use lib.ListN.{length, replicate}
 use Rattle.entry.specs.Word.{priceOf, putOf, noneOf, isPut, Put}
 use Rattle.changes.specs.declared.search.Found.{Found}
 use Rattle.changes.specs.declared.search.Found.the-variants.{Word, Nothing}
-use Rattle.changes.specs.Calculus.{find, apply}
+use Rattle.changes.specs.Calculus.{find, compose, apply}
 use Rattle.changes.specs.Lists.{Changes, Map, listB}
+use Rattle.changes.specs.ReadSets.{over}
 use Rattle.answers.specs.declared.answer.Check.the-variants.{Passed, Refused}
 use Rattle.answers.specs.declared.ground.Ground.{Ground}
 use Rattle.answers.specs.declared.ground.Ground.the-variants.{OrderNoPrice, PriceRange}
@@ -22,7 +23,7 @@ use Rattle.orders.specs.Orders.{orderKind, orderAmount, orderOffer, allowedB}
 use Rattle.orders.specs.Orders.{Kind, lists, withdraws, raises, cuts, keeps, unknown, kindNamed}
 use Rattle.orders.specs.Effects.{sixteenths, effect}
 use Rattle.execution.specs.Tests.{foundB, readB, allB}
-use Rattle.execution.specs.Executing.{done, fails, priced}
+use Rattle.execution.specs.Executing.{done, fails, next, priced}
 use Rattle.batch.specs.Batches.{batchGrounds, checked, batch}
 use Rattle.batch.specs.OnMaps.{difference, executeOnMap, onDone, Agrees, namedB}
 use Rattle.conditions.specs.Grounds.{ofBatch, numbers, once}
@@ -64,22 +65,30 @@ pub record Batches : Type 0 where
   pub fields : (kind amount offer : ℕ) → amount < 2 ^ 25 → offer < 2 ^ 31 → let o = kind * 2 ^ 56 + amount * 2 ^ 31 + offer in
       (orderKind o ≡ kind) × (orderAmount o ≡ amount) × (orderOffer o ≡ offer)
   pub kinds : kindsFrom 0 256 ≡ kindTable
-  -- "Some order's kind is unknown, or a withdrawal has an amount other than 0."
+  -- an order that ground 7 lets pass: not one whose "kind is unknown, or a withdrawal has an amount other than 0"
   pub unknown-kinds : (o : ℕ) → kindNamed (orderKind o) ≡ unknown → allowedB o ≡ false
   pub withdrawals : (o : ℕ) → kindNamed (orderKind o) ≡ withdraws → allowedB o ≡ eqb (orderAmount o) 0
   pub other-kinds : (o : ℕ) → (kindNamed (orderKind o) ≡ unknown → ⊥) → (kindNamed (orderKind o) ≡ withdraws → ⊥) → allowedB o ≡ true
-  -- grounds 6, 7 and 8 come first, over all orders,
+  -- grounds 6, 7 and 8 come first: "A list breaks its rules", "there are over 64 orders", "Some order's kind is unknown, or a withdrawal
+  -- has an amount other than 0.", "Some order's offer isn't in the read set.";
   pub tested-first : (reads orders : List ℕ) → once (numbers (batchGrounds reads orders)) ≡ ofBatch
   pub stopped : (reads orders : List ℕ) (room : ℕ) (ground : Ground) → checked reads orders ≡ Refused ground
       → batch reads orders room ≡ fails (numberOf ground)
   pub broken-read-set : (reads orders : List ℕ) (room : ℕ) → listB reads ≡ false → batch reads orders room ≡ fails 6
   pub over-64-orders : (reads orders : List ℕ) (room : ℕ) → 65 ≤ length orders → batch reads orders room ≡ fails 6
-  pub order-not-allowed : (reads orders : List ℕ) (room : ℕ) → listB reads ≡ true → length orders ≤ 64
-      → allB allowedB orders ≡ false → batch reads orders room ≡ fails 7
-  pub offer-not-read : (reads orders : List ℕ) (room : ℕ) → listB reads ≡ true → length orders ≤ 64
-      → allB allowedB orders ≡ true → allB (readB reads) orders ≡ false → batch reads orders room ≡ fails 8
+  pub order-not-allowed : (reads earlier later : List ℕ) (o room : ℕ) → let orders = earlier ++ o ∷ later in
+      listB reads ≡ true → length orders ≤ 64 → allowedB o ≡ false → batch reads orders room ≡ fails 7
+  pub offer-not-read : (reads earlier later : List ℕ) (o room : ℕ) → let orders = earlier ++ o ∷ later in
+      listB reads ≡ true → length orders ≤ 64 → allB allowedB orders ≡ true → foundB (find (orderOffer o) reads) ≡ false
+      → batch reads orders room ≡ fails 8
   pub passes : (reads orders : List ℕ) → listB reads ≡ true → length orders ≤ 64
       → allB allowedB orders ≡ true → allB (readB reads) orders ≡ true → checked reads orders ≡ Passed
+  -- "Orders run in turn, each seeing the earlier ones.": the last order is executed on what the earlier ones left, and if one of those
+  -- fails, it is the one that counts;
+  pub no-orders : (reads : List ℕ) → priced reads [] ≡ done []
+  pub last-order : (reads orders d : List ℕ) (o : ℕ) → priced reads orders ≡ done d
+      → priced reads (orders ++ o ∷ []) ≡ next (effect o (find (orderOffer o) (over reads d))) (λ w. done (compose d (w ∷ [])))
+  pub first-fails : (reads orders later : List ℕ) (n : ℕ) → priced reads orders ≡ fails n → priced reads (orders ++ later) ≡ fails n
   -- then 9 or 10, of the first order that fails,
   pub first-that-fails : (reads orders : List ℕ) (room n : ℕ) → checked reads orders ≡ Passed → priced reads orders ≡ fails n
       → (batch reads orders room ≡ fails n) × (eqb n 9 || eqb n 10 ≡ true)
@@ -109,7 +118,7 @@ pub record Batches : Type 0 where
   pub nearest : (kind price units : ℕ) → awayFrom kind price (sixteenths kind 0 price) ≤ awayFrom kind price units
   pub half-upward : (kind price units : ℕ) → awayFrom kind price units ≡ awayFrom kind price (sixteenths kind 0 price)
       → units ≤ sixteenths kind 0 price
-  -- "then the amount if that is more"
+  -- "then the amount if that is more" (document 02, Q-3)
   pub amount-if-more : (kind amount price : ℕ) → sixteenths kind 0 price < amount → sixteenths kind amount price ≡ amount
   pub amount-not-more : (kind amount price : ℕ) → amount ≤ sixteenths kind 0 price → sixteenths kind amount price ≡ sixteenths kind 0 price
   -- "The output is one word per offer named, rising, with its final price or removal"

@@ -16,7 +16,7 @@ use Rattle.answers.specs.declared.call.Step.the-variants.{Flush}
 use Rattle.views.specs.View.{Shaped}
 use Rattle.unit.specs.Carried.{Carried, Asked}
 use Rattle.lent.specs.Lent.{fitB}
-use Rattle.moments.specs.Batches.{sixteenthsKept, otherOrders}
+use Rattle.moments.specs.Batches.{batches as batchTable}
 use Rattle.moments.specs.Callers.{deskAndFoyer}
 use Rattle.moments.specs.Images.{imagesOfStates}
 use Rattle.moments.specs.Moments.{computed, expected}
@@ -54,8 +54,7 @@ pub record Condition2 : Type 0 where
   pub c-layout : CLayout
   -- document 01's "Twelve moments at the counter", moment 10 as document 02 has it, by the definitions and by the table
   pub moments : map computed twelve ≡ map expected twelve
-  -- and tables of what document 02 brought: desk and foyer, the images of states, sixteenths to the nearest unit; and of other batches
+  -- and tables of what document 02 brought, desk and foyer and the images of states, and of batches, sixteenths to the nearest unit first
   pub desk-and-foyer : map computed deskAndFoyer ≡ map expected deskAndFoyer
   pub images-of-states : map computed imagesOfStates ≡ map expected imagesOfStates
-  pub sixteenths-kept : map computed sixteenthsKept ≡ map expected sixteenthsKept
-  pub other-orders : map computed otherOrders ≡ map expected otherOrders
+  pub batch-table : map computed batchTable ≡ map expected batchTable

@@ -25,7 +25,7 @@ use Rattle.flushes.specs.Flush.{flushedHead}
 use Rattle.rollbacks.specs.RollBack.{cutTo}
 use Rattle.slots.specs.Slots.{opened, closedAt}
 use Rattle.history.specs.Traces.{storeResponses}
-use Rattle.moments.specs.Batches.{sixteenthsKept, otherOrders}
+use Rattle.moments.specs.Batches.{batches}
 use Rattle.moments.specs.Callers.{asking, putting, deskAndFoyer}
 use Rattle.moments.specs.Images.{imagesOfStates}
 use Rattle.moments.specs.Moments.{computed, expected}
@@ -52,13 +52,8 @@ unfolding find compose puts apply composeAll risingB mapB noPutB readOf over run
     closedAt imageHere imageSize storeResponses imagesOfStates
 images-follow = refl
 
--- and of sixteenths, with the other orders of document 01 beside them
-pub sixteenths-follow : map computed sixteenthsKept ≡ map expected sixteenthsKept
+-- and of sixteenths, with what document 01 says of the other orders
+pub batches-follow : map computed batches ≡ map expected batches
 unfolding find compose puts risingB readOf over first sixteenths putAt withPrice effect kindNamed allowedB checked batch execute priced
-    readB allOrdersB sixteenthsKept
-sixteenths-follow = refl
-
-pub orders-follow : map computed otherOrders ≡ map expected otherOrders
-unfolding find compose puts risingB readOf over first sixteenths putAt withPrice effect kindNamed allowedB checked batch execute priced
-    readB allOrdersB otherOrders
-orders-follow = refl
+    readB allOrdersB batches
+batches-follow = refl

@@ -17,8 +17,8 @@ becomes price kind amount after =
 abbrev pub turnedAway : ℕ → ℕ → ℕ → ℕ → Moment
 turnedAway shown kind amount number = priced (shown ∷ []) (orderOf kind amount 5 ∷ []) (1 ∷ 1 ∷ []) (refusedBy number) (1 ∷ 1 ∷ [])
 
-unfoldable pub sixteenthsKept : List Moment
-sixteenthsKept =
+unfoldable pub batches : List Moment
+batches =
     -- "Price 1001 with kind 27 and amount 0 becomes 751", of 750.75
     becomes 1001 27 0 751
     -- "then the amount if that is more"
@@ -59,12 +59,8 @@ sixteenthsKept =
     -- no price, which is not price 0
     ∷ turnedAway (noneOf 5) 16 0 9
     ∷ turnedAway (noneOf 5) 31 800 9
-    ∷ []
-
-unfoldable pub otherOrders : List Moment
-otherOrders =
     -- "0 lists at the amount; 1 withdraws, amount 0; 2 raises by the amount; 3 cuts by it": none of them rounds
-    becomes 1001 0 7 7
+    ∷ becomes 1001 0 7 7
     ∷ becomes 1001 2 7 1008
     ∷ becomes 1001 3 7 994
     ∷ priced (putOf 5 1001 ∷ []) (orderOf 1 0 5 ∷ []) (1 ∷ 1 ∷ []) (accepted 1) (noneOf 5 ∷ 1 ∷ [])
@@ -80,21 +76,29 @@ otherOrders =
     ∷ turnedAway (putOf 5 7) 3 8 10
     -- "a withdrawal has an amount other than 0"
     ∷ turnedAway (putOf 5 1001) 1 1 7
+    ∷ priced (putOf 5 8 ∷ []) (orderOf 2 1 5 ∷ orderOf 1 3 5 ∷ []) (1 ∷ []) (refusedBy 7) (1 ∷ [])
     -- "Some order's offer isn't in the read set."
     ∷ turnedAway (putOf 6 1001) 2 7 8
     ∷ turnedAway (putOf (5 + 2 ^ 30) 1001) 2 7 8
+    ∷ turnedAway (putOf 6 1001) 0 7 8
+    ∷ turnedAway (putOf 6 1001) 1 0 8
+    ∷ priced (putOf 5 8 ∷ []) (orderOf 2 1 5 ∷ orderOf 0 7 6 ∷ []) (1 ∷ 1 ∷ []) (refusedBy 8) (1 ∷ 1 ∷ [])
     -- the highest offer
     ∷ priced (putOf (2 ^ 31 - 1) 8 ∷ []) (orderOf 16 0 (2 ^ 31 - 1) ∷ []) (1 ∷ []) (accepted 1) (putOf (2 ^ 31 - 1) 1 ∷ [])
     -- "there are over 64 orders", and "A list breaks its rules"
     ∷ priced (putOf 5 1001 ∷ []) (replicate 64 (orderOf 2 1 5)) (1 ∷ []) (accepted 1) (putOf 5 1065 ∷ [])
     ∷ priced (putOf 5 1001 ∷ []) (replicate 65 (orderOf 2 1 5)) (1 ∷ []) (refusedBy 6) (1 ∷ [])
     ∷ priced (putOf 6 1001 ∷ putOf 5 1001 ∷ []) [] (1 ∷ []) (refusedBy 6) (1 ∷ [])
+    ∷ priced (putOf 5 8 ∷ putOf 5 9 ∷ []) [] (1 ∷ []) (refusedBy 6) (1 ∷ [])
+    ∷ priced ((noneOf 5 + 7) ∷ []) [] (1 ∷ []) (refusedBy 6) (1 ∷ [])
     -- "Orders run in turn, each seeing the earlier ones."
     ∷ priced (noneOf 5 ∷ []) (orderOf 0 8 5 ∷ orderOf 16 0 5 ∷ orderOf 3 1 5 ∷ []) (1 ∷ []) (accepted 1) (putOf 5 0 ∷ [])
     ∷ priced (putOf 5 8 ∷ []) (orderOf 1 0 5 ∷ orderOf 16 0 5 ∷ []) (1 ∷ []) (refusedBy 9) (1 ∷ [])
+    ∷ priced (putOf 5 8 ∷ []) (orderOf 1 0 5 ∷ orderOf 0 7 5 ∷ []) (1 ∷ []) (accepted 1) (putOf 5 7 ∷ [])
     -- "The first order that fails"
     ∷ priced (putOf 5 8 ∷ noneOf 6 ∷ []) (orderOf 3 9 5 ∷ orderOf 2 0 6 ∷ []) (1 ∷ 1 ∷ []) (refusedBy 10) (1 ∷ 1 ∷ [])
     ∷ priced (putOf 5 8 ∷ noneOf 6 ∷ []) (orderOf 2 0 6 ∷ orderOf 3 9 5 ∷ []) (1 ∷ 1 ∷ []) (refusedBy 9) (1 ∷ 1 ∷ [])
+    ∷ priced (putOf 5 8 ∷ noneOf 6 ∷ []) (orderOf 2 1 5 ∷ orderOf 2 0 6 ∷ orderOf 3 10 5 ∷ []) (1 ∷ 1 ∷ []) (refusedBy 9) (1 ∷ 1 ∷ [])
     -- "one word per offer named, rising", "Output is shorter than what is to be written."
     ∷ priced (putOf 5 8 ∷ putOf 6 8 ∷ noneOf 7 ∷ []) (orderOf 0 1 7 ∷ orderOf 2 1 5 ∷ []) (1 ∷ 1 ∷ 1 ∷ []) (accepted 2)
     (putOf 5 9 ∷ putOf 7 1 ∷ 1 ∷ [])
