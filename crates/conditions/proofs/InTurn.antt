@@ -26,7 +26,7 @@ one-fails test [] later o e = ap (λ (b : Bool). b && allB test later) e
 one-fails test (x ∷ earlier) later o e = and-false (test x) (allB test (earlier ++ o ∷ later)) (one-fails test earlier later o e)
 
 module _ (see : List ℕ → ℕ → Found) where
-  -- what is made of the effect of the order before the rest
+  -- one order and then the rest: what comes of more orders where the rest comes to its end
   last-of : (f : Effect) (rest more : ℕ → Executed) (meant : Executed) (d : List ℕ)
       → ((w : ℕ) → rest w ≡ done d → more w ≡ meant) → next f rest ≡ done d → next f more ≡ meant
   last-of (Change w) rest more meant d h e = h w e
@@ -41,17 +41,18 @@ module _ (see : List ℕ → ℕ → Found) where
       last-of (effect x (see before (orderOffer x))) _ _ _ d
       (λ w. execute-last (compose before (w ∷ [])) orders d o) e
 
-  fails-of : (f : Effect) (rest more : ℕ → Executed) (n : ℕ) → ((w : ℕ) → rest w ≡ fails n → more w ≡ fails n) → next f rest ≡ fails n
+  -- and where an order fails
+  stops-of : (f : Effect) (rest more : ℕ → Executed) (n : ℕ) → ((w : ℕ) → rest w ≡ fails n → more w ≡ fails n) → next f rest ≡ fails n
       → next f more ≡ fails n
-  fails-of (Change w) rest more n h e = h w e
-  fails-of (Fails ground) rest more n h e = e
+  stops-of (Change w) rest more n h e = h w e
+  stops-of (Fails ground) rest more n h e = e
 
-  execute-fails : (before orders later : List ℕ) (n : ℕ) → execute see before orders ≡ fails n
+  execute-stops : (before orders later : List ℕ) (n : ℕ) → execute see before orders ≡ fails n
       → execute see before (orders ++ later) ≡ fails n
   unfolding execute
-  execute-fails before [] later n e = absurd (let z : _≡_ {A = ℕ} 0 1 = cc in omega arith)
-  execute-fails before (x ∷ orders) later n e =
-      fails-of (effect x (see before (orderOffer x))) _ _ n (λ w. execute-fails (compose before (w ∷ [])) orders later n) e
+  execute-stops before [] later n e = absurd (let z : _≡_ {A = ℕ} 0 1 = cc in omega arith)
+  execute-stops before (x ∷ orders) later n e =
+      stops-of (effect x (see before (orderOffer x))) _ _ n (λ w. execute-stops (compose before (w ∷ [])) orders later n) e
 
 module _ (reads orders : List ℕ) where
   pub last-order : (d : List ℕ) (o : ℕ) → priced reads orders ≡ done d
@@ -61,7 +62,7 @@ module _ (reads orders : List ℕ) where
 
   pub first-fails : (later : List ℕ) (n : ℕ) → priced reads orders ≡ fails n → priced reads (orders ++ later) ≡ fails n
   unfolding priced
-  first-fails later n e = execute-fails (λ d offer. find offer (over reads d)) [] orders later n e
+  first-fails later n e = execute-stops (λ d offer. find offer (over reads d)) [] orders later n e
 
 pub no-orders : (reads : List ℕ) → priced reads [] ≡ done []
 unfolding priced execute
