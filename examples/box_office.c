@@ -36,12 +36,18 @@ static void expect(uint64_t got, uint64_t want, const char *what)
     exit(1);
 }
 
-/* Quotes a seat at a state, and says so. */
-static uint64_t quote(uint32_t seat, uint32_t state)
+/* Quotes a seat at a state, and says so. How fresh the price is must be as given: the state that named the seat last,
+ * or CECHNUOL_BY_TABLE. */
+static uint64_t quote(uint32_t seat, uint32_t state, uint64_t fresh)
 {
-    uint64_t price = 0;
-    must(cechnuol_store_look_up(&store, CECHNUOL_DESK, seat, state, &price), "the lookup");
-    printf("  state %" PRIu32 ": seat %" PRIu32 " costs %" PRIu64 ".\n", state, seat, price);
+    uint64_t price = 0, since = 0;
+    must(cechnuol_store_look_up(&store, CECHNUOL_DESK, seat, state, &price, &since), "the lookup");
+    printf("  state %" PRIu32 ": seat %" PRIu32 " costs %" PRIu64, state, seat, price);
+    if (since == CECHNUOL_BY_TABLE)
+        puts(", by the table.");
+    else
+        printf(", since state %" PRIu64 ".\n", since);
+    expect(since, fresh, "what the price is since");
     return price;
 }
 
@@ -82,26 +88,28 @@ static void take_the_feed(void)
 {
     const uint64_t opening[2] = {cechnuol_put(STALLS, 1200), cechnuol_put(CIRCLE, 700)};
     const uint64_t evening[2] = {cechnuol_put(STALLS, 1100), cechnuol_put(BOX, 4000)};
-    puts("The store is empty: state 0. Two lists of changes make states 1 and 2.");
+    puts("The store is empty: state 0. Two lists of changes make states 1 and 2. Quotes say which named a seat last.");
     must(cechnuol_store_clear(&store), "the clearing");
     commit(opening, 2);
     commit(evening, 2);
-    expect(quote(STALLS, 1), 1200, "the price at state 1");
-    expect(quote(STALLS, 2), 1100, "the price at state 2");
+    expect(quote(STALLS, 1, 1), 1200, "the price at state 1");
+    expect(quote(STALLS, 2, 2), 1100, "the price at state 2");
+    expect(quote(CIRCLE, 2, 1), 700, "the price that state 2 leaves");
 }
 
 /* A correction: the tip goes back, and the next commit makes state 2 again. */
 static void correct_the_feed(void)
 {
     const uint64_t correct[3] = {cechnuol_put(STALLS, 1150), cechnuol_remove(CIRCLE), cechnuol_put(BOX, 4000)};
-    uint64_t price = 0;
+    uint64_t price = 0, since = 0;
     puts("State 2 was wrong. A rollback to state 1 takes it away, and the corrected list makes state 2 anew.");
     must(cechnuol_store_roll_back(&store, 1), "the rollback");
     commit(correct, 3);
-    expect(quote(STALLS, 2), 1150, "the corrected price");
-    expect(cechnuol_store_look_up(&store, CECHNUOL_DESK, CIRCLE, 2, &price), CECHNUOL_NO_PRICE,
+    expect(quote(STALLS, 2, 2), 1150, "the corrected price");
+    expect(cechnuol_store_look_up(&store, CECHNUOL_DESK, CIRCLE, 2, &price, &since), CECHNUOL_NO_PRICE,
            "the answer for a seat withdrawn");
-    printf("  state 2: seat %d has no price any more.\n", CIRCLE);
+    expect(since, 2, "the state that withdrew the seat");
+    printf("  state 2: seat %d has no price any more, since state %" PRIu64 ".\n", CIRCLE, since);
 }
 
 /* Says what a read of two seats shows, and checks the first price. */
@@ -152,8 +160,8 @@ static void price_orders(const uint64_t reads[2])
     puts("Three orders are priced on the read: seat 5 less 50, seat 12 at 12/16 but at least 2500, seat 5 plus 10.");
     must(cechnuol_price_batch(reads, 2, orders, 3, changes, 2, &count), "the batch");
     commit(changes, count);
-    expect(quote(STALLS, 4), 1010, "the price after the orders");
-    expect(quote(BOX, 4), 3000, "the marked-down price");
+    expect(quote(STALLS, 4, 4), 1010, "the price after the orders");
+    expect(quote(BOX, 4, 4), 3000, "the marked-down price");
 }
 
 /* The night: the image of the newest prices is kept, and loaded the next morning. */
@@ -162,12 +170,13 @@ static void keep_overnight(void)
     uint8_t image[CECHNUOL_IMAGE_BYTES_OF(100 + 200)]; /* an offer for each word of table and journal */
     uint64_t count = 0;
     must(cechnuol_store_write_image(&store, image, sizeof image, &count), "the image");
-    printf("State 4 is written as an image of %" PRIu64 " bytes, from which a store is loaded.\n", count);
+    printf("State 4 is written as an image of %" PRIu64 " bytes, from which a store is loaded. Its table answers.\n",
+           count);
     expect(count, CECHNUOL_IMAGE_BYTES_OF(2), "the length of the image");
     must(cechnuol_store_clear(&store), "the clearing");
     must(cechnuol_store_load(&store, image, count), "the load");
     expect(cechnuol_store_tip(&store), 4, "the state of the image");
-    expect(quote(BOX, 4), 3000, "the price in the morning");
+    expect(quote(BOX, 4, CECHNUOL_BY_TABLE), 3000, "the price in the morning");
 }
 
 int main(int argument_count, char **arguments)

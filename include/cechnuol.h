@@ -3,11 +3,11 @@
  *
  * The unit keeps the prices of offers, state after state, in memory that its caller lends. A feed of changes is
  * committed list by list, and each list leads to the next state. The unit quotes any state from the checkpoint to the
- * tip, which is the newest; it steps back from the tip when the feed is corrected, and lets the checkpoint follow by a
- * flush. A read may start before the state that it serves exists: it is issued at the checkpoint and forwarded later. A
- * batch of orders is priced on such a read. An image holds the prices at one state as bytes, to be stored and loaded
- * again. Two callers share a store, the desk at the counter and a display in the foyer, and each has slots of its own
- * for its reads.
+ * tip, which is the newest, and says how fresh a quote is; it steps back from the tip when the feed is corrected, and
+ * lets the checkpoint follow by a flush. A read may start before the state that it serves exists: it is issued at the
+ * checkpoint and forwarded later. A batch of orders is priced on such a read. An image holds the prices at one state as
+ * bytes, to be stored and loaded again. Two callers share a store, the desk at the counter and a display in the foyer,
+ * and each has slots of its own for its reads.
  *
  * The functions of the library are proved: for every length and every content of what they are lent they answer and
  * leave what is defined for them, stay within the memory lent, and end. They allocate nothing, keep nothing between
@@ -25,25 +25,27 @@
  *     int main(void)
  *     {
  *         const uint64_t changes[2] = {cechnuol_put(5, 1200), cechnuol_put(9, 700)};
- *         uint64_t price = 0, answer = cechnuol_store_clear(&store);
+ *         uint64_t price = 0, since = 0, answer = cechnuol_store_clear(&store);
  *         if (answer == CECHNUOL_OK)
  *             answer = cechnuol_store_commit(&store, changes, 2);
  *         if (answer == CECHNUOL_OK)
- *             answer = cechnuol_store_look_up(&store, CECHNUOL_DESK, 5, cechnuol_store_tip(&store), &price);
+ *             answer = cechnuol_store_look_up(&store, CECHNUOL_DESK, 5, cechnuol_store_tip(&store), &price, &since);
  *         if (answer != CECHNUOL_OK) {
  *             printf("%s: %s\n", cechnuol_name(answer), cechnuol_text(answer));
  *             return 1;
  *         }
  *         printf("offer 5 costs %" PRIu64 "\n", price);
+ *         if (since != CECHNUOL_BY_TABLE)
+ *             printf("since state %" PRIu64 "\n", since);
  *         return 0;
  *     }
  *
  * What a caller owes
  *
  *   Pointers and lengths. A pointer to words or bytes comes with their number, all of which are there, aligned as their
- *   type asks; where that is 0, the pointer may be null. Head, tally, price and count have no length and are never
- *   null. What a call may write overlaps nothing else that it is lent, else the outcome is undefined; what it only
- *   reads may overlap.
+ *   type asks; where that is 0, the pointer may be null. Head, tally, price, since and count have no length and are
+ *   never null. What a call may write overlaps nothing else that it is lent, else the outcome is undefined; what it
+ *   only reads may overlap.
  *
  *   Threads. Calls on one store are made one at a time. Queries (cechnuol_look_up, cechnuol_write_image and
  *   cechnuol_write_state_image) of one store may run side by side, each with an output of its own, while no other call
@@ -63,8 +65,9 @@
  * takes about a hundred, the image of the state above them as many, and a forward of 64 words over as many steps some
  * tens.
  *
- * What a refusal leaves. A call that answers anything but CECHNUOL_OK leaves everything lent as it came: table,
- * journal, head, tally, words, bytes, price and count.
+ * What a refusal leaves. A call that is refused leaves everything lent as it came: table, journal, head, tally, words,
+ * bytes, price, since and count. CECHNUOL_NO_PRICE is no refusal: a lookup that answers it has written *since, and left
+ * *price as it came.
  */
 #ifndef CECHNUOL_H
 #define CECHNUOL_H
@@ -79,8 +82,8 @@ extern "C" {
 /* Version. */
 
 /* The version of this header: major * 1000000 + minor * 1000 + patch, and as text. */
-#define CECHNUOL_VERSION 4000000
-#define CECHNUOL_VERSION_TEXT "4.0.0"
+#define CECHNUOL_VERSION 5000000
+#define CECHNUOL_VERSION_TEXT "5.0.0"
 
 /* The version of the library that is linked, as a number. It differs from CECHNUOL_VERSION where header and library are
  * not of one release. */
@@ -304,7 +307,8 @@ static inline size_t cechnuol_image_bytes(const uint64_t head[CECHNUOL_HEAD_WORD
 /* Answers. */
 
 /* Every call answers one of these. Each call below has the refusals that it can give in the order in which they are
- * tested, and the answer is the first that is met. Price and count are given on CECHNUOL_OK alone. */
+ * tested, and the answer is the first that is met. *price and *count are given on CECHNUOL_OK alone, *since on
+ * CECHNUOL_NO_PRICE too. */
 enum {
     CECHNUOL_OK = 0,
     CECHNUOL_LENGTHS = 1,        /* the table is not 1 to 8,000 words long, or the journal not 1 to 4,096 */
@@ -328,6 +332,9 @@ enum {
     CECHNUOL_OTHERS_SLOT = 19,   /* the slot is not the caller's: the desk has 0 to 5, the foyer 6 and 7 */
     CECHNUOL_NO_PRICE = 100      /* no refusal: a lookup found that the offer has no price at that state */
 };
+
+/* What a lookup gives as *since where it names no state: the table answered. It is 2^32, a number that no state has. */
+#define CECHNUOL_BY_TABLE (UINT64_C(1) << 32)
 
 /* The name of an answer, without its prefix; "UNKNOWN" for a number that is no answer. */
 static inline const char *cechnuol_name(uint64_t answer)
@@ -466,8 +473,8 @@ uint64_t cechnuol_commit(CECHNUOL_STORE, const uint64_t *words, size_t word_coun
 uint64_t cechnuol_roll_back(CECHNUOL_STORE, uint32_t state);
 
 /* Makes a state the checkpoint: the table then holds its prices, and states below it can no longer be quoted or rolled
- * back to. The steps up to it are let go, but for those from the number of the oldest open slot on; a flush to the
- * checkpoint changes nothing.
+ * back to; no number up to it is given as *since any more. The steps up to it are let go, but for those from the number
+ * of the oldest open slot on; a flush to the checkpoint changes nothing.
  * Changes: table, journal, head, tally.
  * Refusals: LENGTHS, UNSOUND, STATE_RANGE, TABLE_FULL.
  * At TABLE_FULL the state named has more prices than the table has words; the states on the way to it do not count.
@@ -480,12 +487,20 @@ uint64_t cechnuol_roll_back(CECHNUOL_STORE, uint32_t state);
  * the checkpoint is k = checkpoint - oldest. Open reads and the tally stay behind. */
 uint64_t cechnuol_flush(CECHNUOL_STORE, uint32_t state);
 
-/* A query. Gives the price of an offer at a state, a number below 2^32, to *price, or answers CECHNUOL_NO_PRICE. It is
- * open to every caller, and answers all alike.
- * Changes: *price.
+/* A query. Gives the price of an offer at a state, a number below 2^32, to *price, or answers CECHNUOL_NO_PRICE and
+ * leaves *price as it came. With either answer it gives to *since how fresh that is: the state to which the last step
+ * leads that names the offer, of the steps above the checkpoint and up to the state; or CECHNUOL_BY_TABLE, that the
+ * table answered, where none of them names it. It is open to every caller, and answers all alike.
+ * Changes: *price, *since.
  * Refusals: LENGTHS, UNSOUND, BAD_LIST, STATE_RANGE.
- * BAD_LIST is here an offer of 2^31 or more. */
-uint64_t cechnuol_look_up(CECHNUOL_STORE_TO_READ, uint32_t caller, uint32_t offer, uint32_t state, uint64_t *price);
+ * BAD_LIST is here an offer of 2^31 or more.
+ * A step names the offers of its list, whatever it does with them: one that removes a price names its offer, so that a
+ * state may stand beside no price, and so does one that puts the price that was there. For an offer that is nowhere the
+ * table answers. A flush forgets the numbers up to the new checkpoint: the table answers then, even where an open slot
+ * still holds their steps; and after a load or a restart it answers for every offer. So two stores that are flushed
+ * differently may give different numbers beside the same price. */
+uint64_t cechnuol_look_up(CECHNUOL_STORE_TO_READ, uint32_t caller, uint32_t offer, uint32_t state, uint64_t *price,
+                          uint64_t *since);
 
 /* Starts a read in a slot of the caller's: the words, a list of words that ask, become the read set with the prices at
  * the checkpoint, and the slot opens with the checkpoint as its number. Keep the read set as it is for the forward.
@@ -584,9 +599,9 @@ static inline uint64_t cechnuol_store_flush(struct cechnuol_store *store, uint32
 }
 
 static inline uint64_t cechnuol_store_look_up(const struct cechnuol_store *store, uint32_t caller, uint32_t offer,
-                                              uint32_t state, uint64_t *price)
+                                              uint32_t state, uint64_t *price, uint64_t *since)
 {
-    return cechnuol_look_up(CECHNUOL_LENT_TO_READ(store), caller, offer, state, price);
+    return cechnuol_look_up(CECHNUOL_LENT_TO_READ(store), caller, offer, state, price, since);
 }
 
 static inline uint64_t cechnuol_store_issue(struct cechnuol_store *store, uint32_t caller, size_t slot, uint64_t *words,

@@ -1,12 +1,12 @@
 #!/usr/bin/env python3
 """Holds include/cechnuol.h to the definitions and to crates/cechnuol. `python3 tools/test_header.py`
 
-Its numbers, which are limits, the places of the words of head and tally, the kinds of orders and the codes of the answers, are
-those of the code and of the definitions. The refusals that it names at a call are those of the definitions, in their order, and
-tests/c/refusals.c makes each; the memory that it says a call changes is what tests/c/changes.c tests. Its prototypes are those of
-the functions that crates/cechnuol exports, and its version is theirs. Its names of answers are those of its constants, and its
-builders and readers of words give the words that tests/c has by hand. Each test is shown to fail on edited copies of the texts.
-What needs the library is in tests/c, which tests/run-c runs.
+Its numbers, which are limits, the places of the words of head and tally, the kinds of orders, the codes of the answers and the
+word by which a lookup says that the table answered, are those of the code and of the definitions. The refusals that it names at a
+call are those of the definitions, in their order, and tests/c/refusals.c makes each; the memory that it says a call changes is
+what tests/c/changes.c tests. Its prototypes are those of the functions that crates/cechnuol exports, and its version is theirs.
+Its names of answers are those of its constants, and its builders and readers of words give the words that tests/c has by hand.
+Each test is shown to fail on edited copies of the texts. What needs the library is in tests/c, which tests/run-c runs.
 """
 import pathlib
 import re
@@ -23,6 +23,7 @@ FILES = {
     "storing": "crates/lent/src/storing.rt",
     "numbers": "crates/answers/specs/Numbers.antt",
     "codes": "crates/lent/specs/Codes.antt",
+    "codes_code": "crates/lent/src/codes.rt",
     "store": "crates/cechnuol/src/store.rt",
     "pricing": "crates/cechnuol/src/pricing.rt",
     "version_code": "crates/cechnuol/src/version.rt",
@@ -76,7 +77,7 @@ LIMITS = {
     "TALLY_WORDS": [("storing", "pub const TALLY_WORDS: usize = ", ";")],
 }
 # The parts of what is lent as tests/c/lent.h names them, where the header says otherwise.
-PARTS = {"*count": "VALUE", "*price": "VALUE"}
+PARTS = {"*count": "VALUE", "*price": "VALUE", "*since": "SINCE"}
 
 
 class Odd(Exception):
@@ -181,6 +182,14 @@ def of_answers(numbers, codes):
     return {"OK": int(accepted), **grounds, "NO_PRICE": int(no_price)}
 
 
+def hold_table_word(of):
+    """The word that says that the table answered, which is one number in header, code and definition, and no number of 32 bits."""
+    defined = number_in(of["codes"], "\nbyTable = ", "\n")
+    sure(number_in(of["codes_code"], "pub const BY_TABLE: u64 = ", ";") == defined, "code and definition have one word for the table")
+    sure(1 << number_in(of["header"], "#define CECHNUOL_BY_TABLE (UINT64_C(1) << ", ")\n") == defined, "the header has that word")
+    sure(defined >= 1 << 32, "no state has that number")
+
+
 def of_callers(of):
     """The number of each caller. The first has one number, in code and definition, and the second all others: the next is its own."""
     first, callers = re.search(r"^callerOf number = cond \(eqb number (\d+)\) (\w+ \w+)$", of["caller_numbers"], re.M).groups()
@@ -192,6 +201,7 @@ def of_callers(of):
 def differing(of):
     """The constants that header and definitions do not have alike."""
     limits, head, tally = of_limits(of), of_head(of["head"]), of_tally(of["lent"])
+    hold_table_word(of)
     sure(limits["HEAD_WORDS"] == head["HEAD_WORDS"] and limits["TALLY_WORDS"] == tally["TALLY_WORDS"], "the sizes of head and tally")
     defined = {**limits, **head, **tally, **of_callers(of), **of_kinds(of), **of_answers(of["numbers"], of["codes"])}
     header = in_header(of["header"])
@@ -286,7 +296,6 @@ def not_provoked(of):
     tested = {}
     for name, refusal in re.findall(r"^    REFUSED\((?:cechnuol_)?(\w+)\(.*\), (\w+)\);$", of["refusals"], re.M):
         tested.setdefault(name, set()).add(refusal)
-    tested["look_up"].discard("NO_PRICE")
     return sorted(name for name in header.keys() | tested.keys() if header.get(name) != tested.get(name))
 
 
@@ -389,6 +398,10 @@ class Constants(Held):
             ("lent", r"^tallyOf words = counts \(getD words (\d+)"),
             ("numbers", r"^numberOf \w+ = (\d+)"),
             ("codes", r"^noPrice = (\d+)"),
+            ("codes", r"^byTable = (\d+)"),
+            ("codes_code", r"pub const BY_TABLE: u64 = (\d+);"),
+            ("header", r"BY_TABLE \(UINT64_C\((\d+)\)"),
+            ("header", r"BY_TABLE \(UINT64_C\(1\) << (\d+)\)"),
             ("codes", r"^codeOf \(accepted n\) = (\d+)"),
             ("caller_numbers", r"cond \(eqb number (\d+)\)"),
             ("caller_numbers_code", r"pub const DESK: u32 = (\d+);"),
@@ -432,7 +445,9 @@ class Prototypes(Held):
     def test_each_difference_is_noticed(self):
         edits = [
             ("header", "cechnuol_release(CECHNUOL_STORE, uint32_t caller, size_t slot)", "cechnuol_release(CECHNUOL_STORE, size_t slot)", 1),
-            ("header", "uint32_t caller, uint32_t offer, uint32_t state, uint64_t *price)", "uint32_t offer, uint32_t caller, uint32_t state, uint64_t *price)", 1),
+            ("header", "uint32_t caller, uint32_t offer, uint32_t state, uint64_t *price", "uint32_t offer, uint32_t caller, uint32_t state, uint64_t *price", 1),
+            ("header", "uint64_t *price,\n                          uint64_t *since);", "uint64_t *since,\n                          uint64_t *price);", 1),
+            ("header", "uint64_t *price,\n                          uint64_t *since);", "uint64_t *price);", 1),
             ("header", "size_t slot, uint32_t state, uint64_t *words", "uint32_t state, size_t slot, uint64_t *words", 1),
             ("header", "        uint64_t tally[CECHNUOL_TALLY_WORDS]", "        uint64_t *tally, size_t tally_words", 9),
             ("header", "        const uint64_t head[CECHNUOL_HEAD_WORDS]", "        uint64_t head[CECHNUOL_HEAD_WORDS]", 3),
@@ -481,6 +496,7 @@ class Comments(Held):
         edits = [
             ("header", "Changes: words, head.", "Changes: words, head, tally.", ["issue"]),
             ("header", "Changes: words, journal, head.", "Changes: words, head.", ["forward"]),
+            ("header", "Changes: *price, *since.", "Changes: *price.", ["look_up"]),
             ("changes", "lent.words, 2), WORDS | HEAD);", "lent.words, 2), WORDS);", ["issue"]),
             ("changes", "    CHANGES(cechnuol_release(STORE, CECHNUOL_DESK, 0), JOURNAL | HEAD);\n", "", ["release"]),
         ]

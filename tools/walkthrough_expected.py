@@ -103,9 +103,11 @@ class PlainList:
         self.anchor = state
 
     def look_up(self, offer, state):
-        """ "A lookup reads the map of the state named." """
+        """ "A lookup reads the map of the state named."; and document 02, Q-4: "the state to which the last step naming the offer leads,
+        searched among the steps above the anchor and up to the state named, or, if none did, that the book answered" """
         refuse_if((6, offer >= 2**31), self.outside(state))
-        return self.maps[state].get(offer)
+        naming = [to for to, words in self.lists.items() if self.anchor < to <= state and offer in dict(words)]
+        return self.maps[state].get(offer), max(naming, default=None)
 
     def issue(self, place, offers):
         """ "An issue opens its place with the anchor's number and its list's offers." """
@@ -140,6 +142,10 @@ def entries(rows):
     return ", ".join(f"offer {offer} " + ("not on sale" if price is None else f"at {price}") for offer, price in rows)
 
 
+def since_text(since):
+    return " (by the table)" if since is None else f" (since state {since})"
+
+
 def order_text(kind, amount, offer):
     return f"keep {amount}/16 of offer {offer}" if kind == "keep" else f"{kind} offer {offer} by {amount}"
 
@@ -168,7 +174,8 @@ class Day:
         self.tell("load", self.unit.load, image)
 
     def quote(self, state):
-        print(f"  quotes at state {state}:", entries([(offer, self.unit.look_up(offer, state)) for offer in self.OFFERS]))
+        quotes = [(offer, *self.unit.look_up(offer, state)) for offer in self.OFFERS]
+        print(f"  quotes at state {state}:", ", ".join(entries([(offer, price)]) + since_text(since) for offer, price, since in quotes))
 
     def read(self, what, call, *arguments):
         return self.tell(what, call, *arguments, after=lambda reads: "; read " + entries(reads))
@@ -203,6 +210,7 @@ def pass_day():
     print("A day at the counter: the price unit takes a feed of price changes and quotes the prices of seats.")
     print("An offer is a seat. Prices are in minor units, as the unit has them: 1200 is 12.00.")
     print("Each list of changes makes the next state. States from the checkpoint to the newest are quoted.")
+    print("A quote says how fresh it is: since which state, or by the table, which holds the prices at the checkpoint.")
     day = Day()
 
     print("\nMorning: last night's image is loaded: the number of a state, how many offers it has, and each with its price.")
@@ -234,6 +242,7 @@ def pass_day():
 
     print("\nEvening: a flush makes state 11 the checkpoint, and its image is written for tomorrow.")
     day.tell("flush to state 11", day.unit.flush, 11)
+    day.quote(11)
     day.roll_back(10)
     day.write()
     return day

@@ -5,13 +5,15 @@
 use crate::caller::Caller;
 use crate::changes::{apply, changes_of, map_of, words_of, Map};
 use crate::draw::Draw;
+use crate::gen::LookedUp;
 use crate::ground::Ground;
 use crate::head::{count_on, Head, Tally};
 use crate::plain::Plain;
+use crate::quote::{Quote, Since};
 use crate::store::Store;
 use crate::unit::{Answer, Call, Reply, Unit};
 use crate::{batch, image, word};
-use std::collections::BTreeSet;
+use std::collections::{BTreeMap, BTreeSet};
 use std::fmt;
 
 /// What was checked.
@@ -23,6 +25,9 @@ pub struct Report {
     pub accepted: u64,
     /// The refusals among them: the call's form and the ground's number.
     pub refusals: BTreeSet<(&'static str, u8)>,
+    /// The lookups among them that were answered: how many of each kind of answer, and what they met.
+    pub lookups: BTreeMap<String, u64>,
+    pub looked_up: BTreeSet<LookedUp>,
     /// Images of kept states that were loaded elsewhere, those of them that the table they come from has no room for, and the
     /// prices looked up there.
     pub images: u64,
@@ -32,6 +37,8 @@ pub struct Report {
     pub compared: u64,
     /// Those of them that the desk asked in one store and the foyer in the other.
     pub by_both: u64,
+    /// Lookups among them that gave one price, or none, and two numbers: since when may differ.
+    pub since_differs: u64,
     /// Images written in both stores.
     pub written_in_both: u64,
     pub batches: u64,
@@ -43,24 +50,30 @@ impl Report {
         match answer {
             Answer::Refused(ground) => {
                 self.refusals.insert((call.form(), ground.number()));
+                return;
             }
-            _ => self.accepted += 1,
+            Answer::Price(..) | Answer::NoPrice(_) => *self.lookups.entry(answer.kind()).or_default() += 1,
+            Answer::Done | Answer::Count(_) => {}
         }
+        self.accepted += 1;
     }
 }
 
 impl fmt::Display for Report {
     fn fmt(&self, f: &mut fmt::Formatter<'_>) -> fmt::Result {
         let Report { runs, calls, accepted, images, large_images, quoted, .. } = self;
-        let Report { compared, by_both, written_in_both, batches, .. } = self;
+        let Report { compared, by_both, since_differs, written_in_both, batches, .. } = self;
         let refusals = self.refusals.len();
-        write!(f, "runs {runs} calls {calls} accepted {accepted} refusals met {refusals} ")?;
+        write!(f, "runs {runs} calls {calls} accepted {accepted} refusals met {refusals} lookups ")?;
+        for (kind, count) in &self.lookups {
+            write!(f, "{kind} {count} ")?;
+        }
         write!(f, "images loaded elsewhere {images} too large for their table {large_images} prices there {quoted} ")?;
         write!(
             f,
-            "compared in two stores {compared} by both callers {by_both} images in both {written_in_both} "
+            "compared in two stores {compared} by both callers {by_both} since differs {since_differs} "
         )?;
-        write!(f, "batches {batches}")
+        write!(f, "images in both {written_in_both} batches {batches}")
     }
 }
 
@@ -100,16 +113,17 @@ fn against_plain(seed: u64, report: &mut Report) -> Result<(), String> {
     let Some(mut pair) = load_both(&mut draw, report)? else {
         return Ok(());
     };
-    let weights = if draw.rng.percent(20) { MANY_COMMITS } else { MIXED };
+    let weights = draw.rng.pick(&[MIXED, MIXED, MIXED, MANY_COMMITS, LOOKUPS, LOOKUPS]);
     for _ in 0..draw.rng.within(20, 200) {
         let call = draw_call(&mut draw, &weights, &mut pair.unit);
         let reply = pair.step(&call).map_err(|difference| format!("{call:?}: {difference}"))?;
         report.note(&call, reply.answer);
+        report.looked_up.extend(LookedUp::of(&call, reply.answer, &pair.unit.store));
         if draw.rng.percent(10) {
-            pair.compare_maps()?;
+            pair.compare_states()?;
         }
     }
-    pair.compare_maps()?;
+    pair.compare_states()?;
     pair.load_images_elsewhere(report)
 }
 
@@ -150,9 +164,11 @@ fn load_both(draw: &mut Draw, report: &mut Report) -> Result<Option<Pair>, Strin
     }
 }
 
-/// How often each call is drawn, in the order of [`draw_call`]: all of them, or so many commits that the steps run out.
+/// How often each call is drawn, in the order of [`draw_call`]: all of them, so many commits that the steps run out, or lookups
+/// while slots that stay open hold the steps below the checkpoint.
 const MIXED: [usize; 9] = [30, 0, 5, 8, 20, 12, 12, 4, 8];
 const MANY_COMMITS: [usize; 9] = [2, 80, 2, 2, 10, 4, 2, 1, 3];
+const LOOKUPS: [usize; 9] = [25, 5, 5, 6, 50, 6, 1, 1, 3];
 
 /// Draws one of the named calls, most of them to be accepted.
 fn draw_call(draw: &mut Draw, weights: &[usize; 9], unit: &mut Unit) -> Call {
@@ -160,12 +176,11 @@ fn draw_call(draw: &mut Draw, weights: &[usize; 9], unit: &mut Unit) -> Call {
     let state = draw.state(head);
     let caller = draw.caller();
     match draw.rng.weighted(weights) {
-        0 if draw.rng.percent(95) => Call::Commit { list: draw.changes() },
-        0 => Call::Commit { list: draw.broken_list() },
+        0 => Call::Commit { list: draw_list(draw, &unit.store) },
         1 => Call::Commit { list: draw.short_changes() },
         2 => Call::RollBack { state },
         3 => Call::Flush { state },
-        4 if draw.rng.percent(95) => Call::LookUp { caller, offer: draw.offer(), state },
+        4 if draw.rng.percent(95) => Call::LookUp { caller, offer: draw.offer_in(&unit.store), state },
         4 => Call::LookUp { caller, offer: draw.offer() + word::OFFERS, state },
         5 => {
             let (caller, slot) = draw.slot(&head.held, false);
@@ -184,6 +199,15 @@ fn draw_call(draw: &mut Draw, weights: &[usize; 9], unit: &mut Unit) -> Call {
             unit.bytes = vec![0xEE; draw_room(draw, &unit.store, named)];
             Call::WriteImage { state: named }
         }
+    }
+}
+
+/// A list for a commit: at times with words that leave the tip as it is, or with words that are no list.
+fn draw_list(draw: &mut Draw, store: &Store) -> Vec<u64> {
+    match draw.rng.weighted(&[70, 25, 5]) {
+        0 => draw.changes(),
+        1 => draw.repeats(&store.map_at(store.head.tip)),
+        _ => draw.broken_list(),
     }
 }
 
@@ -233,9 +257,7 @@ impl Pair {
             Call::Commit { list } => plain.commit(list).map(|()| Answer::Done),
             Call::RollBack { state } => plain.roll_back(*state).map(|()| Answer::Done),
             Call::Flush { state } => plain.flush(*state).map(|()| Answer::Done),
-            Call::LookUp { caller: _, offer, state } => {
-                plain.look_up(*offer, *state).map(|price| price.map_or(Answer::NoPrice, Answer::Price))
-            }
+            Call::LookUp { caller: _, offer, state } => plain.look_up(*offer, *state).map(Answer::from),
             Call::Issue { caller, slot, list } => {
                 words = list.clone();
                 plain.issue(*caller, *slot, list).map(|filled| {
@@ -284,11 +306,23 @@ impl Pair {
         expect("equation of the tally", tally.committed, tally.rolled_back + tally.flushed + above)
     }
 
-    /// The map of every state from the checkpoint to the tip.
-    fn compare_maps(&self) -> Result<(), String> {
-        let head = &self.unit.store.head;
-        for state in head.checkpoint..=head.tip {
-            expect("map", &self.unit.store.map_at(state), self.plain.map_at(state))?;
+    /// Every offer of table and journal, and the least that is in neither.
+    fn offers(&self) -> BTreeSet<u32> {
+        let Store { table, journal, .. } = &self.unit.store;
+        let mut offers: BTreeSet<u32> = table.iter().chain(journal).map(|&word| word::offer(word)).collect();
+        offers.extend((0..).find(|offer| !offers.contains(offer)));
+        offers
+    }
+
+    /// The map of every state from the checkpoint to the tip, and since when each offer stands as it does there.
+    fn compare_states(&self) -> Result<(), String> {
+        let store = &self.unit.store;
+        let offers = self.offers();
+        for state in store.head.checkpoint..=store.head.tip {
+            expect("map", &store.map_at(state), self.plain.map_at(state))?;
+            for &offer in &offers {
+                expect("since", store.since(offer, state), self.plain.since(offer, state))?;
+            }
         }
         Ok(())
     }
@@ -313,13 +347,12 @@ impl Pair {
     }
 
     /// Writes the image of every state from the checkpoint to the tip and loads it into memory that just holds it: every offer
-    /// of table and steps, put or removed, then has there the price that the plain list has for that state. A table that is one
-    /// word shorter has no room.
+    /// of table and steps, put or removed, then has there the price that the plain list has for that state, and the table
+    /// answers. A table that is one word shorter has no room.
     fn load_images_elsewhere(&self, report: &mut Report) -> Result<(), String> {
-        let Store { head, table, journal, .. } = &self.unit.store;
-        let states = head.checkpoint..=head.tip;
-        let offers: BTreeSet<u32> = table.iter().chain(journal).map(|&word| word::offer(word)).collect();
-        for state in states {
+        let Store { head, table, .. } = &self.unit.store;
+        let offers = self.offers();
+        for state in head.checkpoint..=head.tip {
             let told = |difference: String| format!("image of state {state}: {difference}");
             let count = self.plain.map_at(state).len();
             let mut bytes = vec![0xEE; image::length(count)];
@@ -327,8 +360,9 @@ impl Pair {
             expect("written", written, Ok(bytes.len())).map_err(told)?;
             let elsewhere = loaded_elsewhere(&bytes, state, count).map_err(told)?;
             for &offer in &offers {
-                let price = elsewhere.look_up(offer, state);
-                expect("price", price, self.plain.look_up(offer, state)).map_err(told)?;
+                let price = self.plain.map_at(state).get(&offer).copied();
+                let quote = Quote { price, since: Since::Table };
+                expect("quote", elsewhere.look_up(offer, state), Ok(quote)).map_err(told)?;
             }
             report.images += 1;
             report.large_images += u64::from(count > table.len());
@@ -374,7 +408,7 @@ fn runs_after(pair: &Pair, calls: &[Call], length: usize) -> Result<u64, String>
         let reply = next.step(call).map_err(told)?;
         count += 1;
         if !matches!(reply.answer, Answer::Refused(_)) {
-            next.compare_maps().map_err(told)?;
+            next.compare_states().map_err(told)?;
             next.compare_images().map_err(told)?;
             if length > 1 {
                 count += runs_after(&next, calls, length - 1)?;
@@ -425,9 +459,10 @@ fn two_stores(seed: u64, report: &mut Report) -> Result<(), String> {
         }
         let other = same_call(&mut draw, &call);
         match step_both(&mut units, [&call, &other])? {
-            Some(Compared::Quotes) => {
+            Some(Compared::Quotes { since_differs }) => {
                 report.compared += 1;
                 report.by_both += u64::from(call != other);
+                report.since_differs += u64::from(since_differs);
             }
             Some(Compared::Nothing) => {
                 report.written_in_both += u64::from(matches!(call, Call::WriteImage { .. }));
@@ -440,8 +475,10 @@ fn two_stores(seed: u64, report: &mut Report) -> Result<(), String> {
 
 /// What two stores that accept a call are held to.
 enum Compared {
-    /// They show the same price or forwarded read.
-    Quotes,
+    /// They show the same price or forwarded read. Since when a price stands may differ.
+    Quotes {
+        since_differs: bool,
+    },
     Nothing,
 }
 
@@ -479,8 +516,17 @@ fn step_both(units: &mut [Unit; 2], calls: [&Call; 2]) -> Result<Option<Compared
     if !matches!(calls[0], Call::LookUp { .. } | Call::Forward { .. }) {
         return Ok(Some(Compared::Nothing));
     }
-    expect(&format!("two stores: {calls:?}"), &replies[0], &replies[1])?;
-    Ok(Some(Compared::Quotes))
+    expect(&format!("two stores: {calls:?}"), shown(&replies[0]), shown(&replies[1]))?;
+    Ok(Some(Compared::Quotes { since_differs: replies[0] != replies[1] }))
+}
+
+/// The price, or none, and the words that a call shows.
+fn shown(reply: &Reply) -> (Option<u32>, &[u64]) {
+    let price = match reply.answer {
+        Answer::Price(price, _) => Some(price),
+        _ => None,
+    };
+    (price, &reply.words)
 }
 
 // Batches.

@@ -1,9 +1,10 @@
 //! Drawing arguments: offers, prices, lists, states, slots and callers, with their ends drawn often.
 
 use crate::caller::{Caller, FOYER_WORDS};
-use crate::changes::Changes;
+use crate::changes::{Changes, Map};
 use crate::head::{Head, SLOTS};
 use crate::rng::Rng;
+use crate::store::Store;
 use crate::word;
 use std::collections::BTreeSet;
 
@@ -62,6 +63,20 @@ impl Draw {
         }
     }
 
+    /// An offer to look up: often one that a word of table or journal has.
+    pub fn offer_in(&mut self, store: &Store) -> u32 {
+        let words = match self.rng.weighted(&[1, 2, 2]) {
+            0 => &store.table,
+            1 => &store.journal,
+            _ => return self.offer(),
+        };
+        let used: Vec<u64> = words.iter().copied().filter(|&word| word != 0).collect();
+        if used.is_empty() {
+            return self.offer();
+        }
+        word::offer(self.rng.pick(&used))
+    }
+
     /// Up to so many different offers of the pool, rising.
     pub fn offers(&mut self, count: usize) -> Vec<u32> {
         let mut left = self.pool.clone();
@@ -86,6 +101,15 @@ impl Draw {
     pub fn changes(&mut self) -> Vec<u64> {
         let length = self.list_length();
         self.offers(length).into_iter().map(|offer| word::entry(offer, self.maybe_price())).collect()
+    }
+
+    /// A list of changes of which many words say what a map has already: they name their offers and leave it as it is.
+    pub fn repeats(&mut self, map: &Map) -> Vec<u64> {
+        let mut list = self.changes();
+        for word in list.iter_mut().filter(|_| self.rng.percent(70)) {
+            *word = word::entry(word::offer(*word), map.get(&word::offer(*word)).copied());
+        }
+        list
     }
 
     /// A list of changes of at most one word.

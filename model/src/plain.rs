@@ -6,6 +6,7 @@ use crate::caller::Caller;
 use crate::changes::{apply, changes_of, map_of, map_words, read, Map};
 use crate::ground::{unless, Ground};
 use crate::head::{SLOTS, STEPS};
+use crate::quote::{Quote, Since};
 use crate::{image, word};
 
 /// An open slot: its number and its offers.
@@ -68,6 +69,17 @@ impl Plain {
         &self.lists[(self.oldest() - self.first) as usize..]
     }
 
+    /// Since when an offer stands as the map of a state has it: of the lists that lead to states above the checkpoint and up to
+    /// that state, the last one with a word of the offer.
+    pub fn since(&self, offer: u32, state: u32) -> Since {
+        let [from, to] = [self.checkpoint, state].map(|number| (number - self.first) as usize);
+        let of_offer = |list: &Vec<u64>| list.iter().any(|&word| word::offer(word) == offer);
+        match self.lists[from..to].iter().rposition(of_offer) {
+            Some(index) => Since::State(self.checkpoint + 1 + index as u32),
+            None => Since::Table,
+        }
+    }
+
     /// Grounds 3 and 19, and the slot as an index.
     fn test_slot(&self, caller: Caller, slot: u64) -> Result<usize, Ground> {
         let index = usize::try_from(slot).ok().filter(|&index| index < SLOTS).ok_or(Ground::Slot)?;
@@ -116,11 +128,11 @@ impl Plain {
         Ok(())
     }
 
-    /// A lookup reads the map of the state named, whoever asks.
-    pub fn look_up(&self, offer: u32, state: u32) -> Result<Option<u32>, Ground> {
+    /// A lookup reads the map of the state named, and the lists that led to it, whoever asks.
+    pub fn look_up(&self, offer: u32, state: u32) -> Result<Quote, Ground> {
         unless(offer < word::OFFERS, Ground::List)?;
         self.test_state(state)?;
-        Ok(self.map_at(state).get(&offer).copied())
+        Ok(Quote { price: self.map_at(state).get(&offer).copied(), since: self.since(offer, state) })
     }
 
     /// An issue opens its slot with the checkpoint's number and its list's offers. Gives the list as filled.

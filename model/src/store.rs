@@ -4,6 +4,7 @@ use crate::caller::Caller;
 use crate::changes::{apply, changes_of, compose, map_of, map_words, read, Changes, Map};
 use crate::ground::{unless, Ground};
 use crate::head::{count_on, Head, Tally, SLOTS, STEPS};
+use crate::quote::{Quote, Since};
 use crate::{image, sound, word};
 
 /// The most words of a table and of a journal; the least is 1 for both.
@@ -114,6 +115,19 @@ impl Store {
     /// The map of a state from the checkpoint to the tip: the table with the steps up to it applied.
     pub fn map_at(&self, state: u32) -> Map {
         apply(&map_of(self.used_words()), &self.net_changes(self.head.checkpoint, state))
+    }
+
+    /// Whether an offer is named by the step that leads to a state above the oldest: whether it puts the offer's price or
+    /// removes it.
+    pub fn is_named(&self, offer: u32, state: u32) -> bool {
+        self.step_to(state).iter().any(|&word| word::offer(word) == offer)
+    }
+
+    /// The state to which the last step naming an offer leads, of the steps above the checkpoint and up to a state, or that the
+    /// table answered.
+    pub fn since(&self, offer: u32, state: u32) -> Since {
+        let above = (self.head.checkpoint..=state).skip(1);
+        above.filter(|&to| self.is_named(offer, to)).last().map_or(Since::Table, Since::State)
     }
 
     // The calls of a store at rest.
@@ -227,12 +241,12 @@ impl Store {
 
     // Reads.
 
-    /// An offer's price, or none, at a state, whoever asks.
-    pub fn look_up(&self, offer: u32, state: u32) -> Result<Option<u32>, Ground> {
+    /// An offer's price, or none, at a state, and since when, whoever asks.
+    pub fn look_up(&self, offer: u32, state: u32) -> Result<Quote, Ground> {
         self.test_store()?;
         unless(offer < word::OFFERS, Ground::List)?;
         self.test_state(state)?;
-        Ok(self.map_at(state).get(&offer).copied())
+        Ok(Quote { price: self.map_at(state).get(&offer).copied(), since: self.since(offer, state) })
     }
 
     /// Fills a list of kind 0 words from the table and opens a slot.

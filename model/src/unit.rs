@@ -4,8 +4,11 @@ use crate::batch;
 use crate::caller::Caller;
 use crate::ground::Ground;
 use crate::head::SLOTS;
+use crate::quote::Quote;
 use crate::store::Store;
 use std::fmt;
+
+pub use crate::quote::Since;
 
 /// A call, with its arguments besides the store and the lent bytes.
 #[derive(Clone, Debug, PartialEq, Eq)]
@@ -104,10 +107,10 @@ pub enum Answer {
     Done,
     /// Accepted, with a count of what was written.
     Count(usize),
-    /// A price.
-    Price(u32),
-    /// No price at that state.
-    NoPrice,
+    /// A price, and since when.
+    Price(u32, Since),
+    /// No price at that state, and since when.
+    NoPrice(Since),
     /// Turned away.
     Refused(Ground),
 }
@@ -117,9 +120,30 @@ impl fmt::Display for Answer {
         match self {
             Answer::Done => write!(f, "ok"),
             Answer::Count(count) => write!(f, "ok {count}"),
-            Answer::Price(price) => write!(f, "ok {price}"),
-            Answer::NoPrice => write!(f, "none"),
+            Answer::Price(price, since) => write!(f, "ok {price} {since}"),
+            Answer::NoPrice(since) => write!(f, "none {since}"),
             Answer::Refused(ground) => write!(f, "refused {}", ground.number()),
+        }
+    }
+}
+
+impl From<Quote> for Answer {
+    fn from(Quote { price, since }: Quote) -> Answer {
+        match price {
+            Some(price) => Answer::Price(price, since),
+            None => Answer::NoPrice(since),
+        }
+    }
+}
+
+impl Answer {
+    /// The answer without its values: `ok`, `none since`, `refused 13`.
+    pub fn kind(&self) -> String {
+        match self {
+            Answer::Done | Answer::Count(_) => "ok".to_string(),
+            Answer::Price(_, since) => format!("ok {}", since.word()),
+            Answer::NoPrice(since) => format!("none {}", since.word()),
+            Answer::Refused(_) => self.to_string(),
         }
     }
 }
@@ -217,10 +241,6 @@ fn counted(outcome: Result<usize, Ground>) -> Answer {
     outcome.map_or_else(Answer::Refused, Answer::Count)
 }
 
-fn quoted(outcome: Result<Option<u32>, Ground>) -> Answer {
-    match outcome {
-        Ok(Some(price)) => Answer::Price(price),
-        Ok(None) => Answer::NoPrice,
-        Err(ground) => Answer::Refused(ground),
-    }
+fn quoted(outcome: Result<Quote, Ground>) -> Answer {
+    outcome.map_or_else(Answer::Refused, Answer::from)
 }

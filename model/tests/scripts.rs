@@ -33,7 +33,7 @@ fn stored_scripts_answer_as_worked_out_by_hand() {
             count += 1;
         }
     }
-    assert!(count > 900, "{count} expectations");
+    assert!(count > 1300, "{count} expectations");
 }
 
 /// What the scripts of a folder print, which must be the output stored beside each.
@@ -50,14 +50,14 @@ fn printed_as_stored(folder: &str) -> Vec<String> {
 /// The stored output is what the model prints today.
 #[test]
 fn stored_output_is_the_models() {
-    assert!(printed_as_stored("scripts").len() >= 8);
+    assert!(printed_as_stored("scripts").len() >= 9);
 }
 
-/// The output of the lines that are no call, of the images and of the sixteenths comes from the comments of their scripts and not
-/// from the model.
+/// The output of the lines that are no call, of the images, of the sixteenths and of since when comes from the comments of their
+/// scripts and not from the model.
 #[test]
 fn outputs_that_are_worked_out_by_hand() {
-    let names = ["no_calls.script", "images.script", "sixteenths.script"];
+    let names = ["no_calls.script", "images.script", "sixteenths.script", "since.script"];
     let by_hand = |file: &Path| names.iter().any(|name| file.ends_with(name));
     let scripts = files("scripts", "script").into_iter().filter(|(file, _)| by_hand(file));
     let mut count = 0;
@@ -87,17 +87,21 @@ fn expected_answers(name: &str) -> BTreeSet<String> {
     let answer_of = |(number, answer): (usize, String)| {
         let Line::Command(Command::Call(call)) = parse(text[number - 1]) else { return None };
         let words: Vec<&str> = answer.split(' ').collect();
-        let kind = if words[0] == "refused" { words[..2].join(" ") } else { words[0].to_string() };
+        let kind = match (words[0], words.iter().find(|word| ["since", "table"].contains(word))) {
+            ("refused", _) => words[..2].join(" "),
+            (said, Some(since)) => format!("{said} {since}"),
+            (said, None) => said.to_string(),
+        };
         Some(format!("{} {kind}", call.form()))
     };
     expected(&script).into_iter().filter_map(answer_of).collect()
 }
 
-/// The scripts of refusals, of callers and of images have every answer of every call among what their comments expect, from the
-/// desk and from the foyer, with a state and without one.
+/// The scripts of refusals, of callers, of images and of since when have every answer of every call among what their comments
+/// expect, from the desk and from the foyer, with a state and without one.
 #[test]
 fn refusals_are_complete() {
-    let scripts = ["refusals.script", "callers.script", "images.script"];
+    let scripts = ["refusals.script", "callers.script", "images.script", "since.script"];
     let met: BTreeSet<String> = scripts.iter().flat_map(|name| expected_answers(name)).collect();
     let missing: Vec<String> = all_answers().into_iter().filter(|answer| !met.contains(answer)).collect();
     assert!(missing.is_empty(), "{missing:?}");

@@ -4,6 +4,7 @@ use model::batch::{order, price_batch};
 use model::caller::Caller::{Desk, Foyer};
 use model::ground::Ground;
 use model::head::Head;
+use model::quote::{Quote, Since};
 use model::sound::{first_broken, Clause};
 use model::store::Store;
 use model::unit::{Answer, Call, Unit};
@@ -182,6 +183,25 @@ fn a_read_keeps_its_own_offers() {
     assert_eq!(reads, [entry(4, Some(9)), entry(7, Some(1)), entry(8, Some(1))]);
 }
 
+/// The step to 11 is held and not above the checkpoint; the step to 12 removes offer 5 and puts offer 8.
+#[test]
+fn lookups_say_since_when() {
+    let store = sample();
+    let quotes = [
+        ((5, 11), Some(1), Since::Table),
+        ((7, 11), Some(1), Since::Table),
+        ((8, 11), None, Since::Table),
+        ((5, 12), None, Since::State(12)),
+        ((7, 12), Some(1), Since::Table),
+        ((8, 12), Some(1), Since::State(12)),
+        ((9, 12), Some(700), Since::Table),
+        ((0, 12), None, Since::Table),
+    ];
+    for ((offer, state), price, since) in quotes {
+        assert_eq!(store.look_up(offer, state), Ok(Quote { price, since }), "{offer} at {state}");
+    }
+}
+
 #[test]
 fn sixty_four_steps_of_sixty_four_words_fill_the_journal() {
     let mut store = Store::of_lengths(8000, 4096);
@@ -191,10 +211,15 @@ fn sixty_four_steps_of_sixty_four_words_fill_the_journal() {
         assert_eq!(store.commit(&list), Ok(()));
     }
     assert_eq!(store.commit(&[]), Err(Ground::Steps));
+    for offer in (0..4096).step_by(63) {
+        let quote = Quote { price: Some(offer / 64), since: Since::State(offer / 64 + 1) };
+        assert_eq!(store.look_up(offer, 64), Ok(quote), "{offer}");
+    }
+    assert_eq!(store.look_up(4095, 63), Ok(Quote { price: None, since: Since::Table }));
     assert_eq!(store.flush(64), Ok(()));
     assert_eq!(store.head.used, 4096);
     assert_eq!(store.journal, vec![0; 4096]);
-    assert_eq!(store.look_up(4095, 64), Ok(Some(63)));
+    assert_eq!(store.look_up(4095, 64), Ok(Quote { price: Some(63), since: Since::Table }));
 }
 
 #[test]

@@ -14,8 +14,8 @@ static uint64_t commit_put(uint32_t offer, uint32_t price)
 
 static void hold_price(const struct cechnuol_store *of, uint32_t offer, uint32_t price)
 {
-    uint64_t quoted = 0;
-    ANSWERS(cechnuol_store_look_up(of, CECHNUOL_DESK, offer, cechnuol_store_tip(of), &quoted), OK);
+    uint64_t quoted = 0, since = 0;
+    ANSWERS(cechnuol_store_look_up(of, CECHNUOL_DESK, offer, cechnuol_store_tip(of), &quoted, &since), OK);
     IS(quoted, price);
 }
 
@@ -239,14 +239,14 @@ static void longer_table(void)
 {
     struct cechnuol_store other = {longer, 2, journal + 64, 8, {0}, {0}};
     struct cechnuol_store shorter = {longer, 1, journal + 64, 8, {0}, {0}};
-    uint64_t count = 0;
+    uint64_t count = 0, price = 0, since = 0;
     begin_with_table_full();
     IS(cechnuol_store_checkpoint(&store) - cechnuol_store_oldest(&store), 1);
     ANSWERS(cechnuol_store_write_state_image(&store, cechnuol_store_checkpoint(&store), image, sizeof image, &count), OK);
     IS(count, CECHNUOL_IMAGE_BYTES_OF(store.head[CECHNUOL_USED]));
     ANSWERS(cechnuol_store_load(&other, image, count), OK);
     hold_price(&other, 1, 10);
-    ANSWERS(cechnuol_store_look_up(&other, CECHNUOL_DESK, 2, cechnuol_store_tip(&other), &count), NO_PRICE);
+    ANSWERS(cechnuol_store_look_up(&other, CECHNUOL_DESK, 2, cechnuol_store_tip(&other), &price, &since), NO_PRICE);
     commit_again(&other);
     IS(cechnuol_store_tip(&other), cechnuol_store_tip(&store));
     ANSWERS(cechnuol_store_flush(&other, 3), OK);

@@ -2,13 +2,16 @@
  * line names all of them that the header has (tools/test_header.py compares the two). */
 #include "lent.h"
 
-/* An accepted call, on the store that `begin` makes. */
-#define CHANGES(call, parts) \
+/* A call that gives this answer, on the store that `begin` makes. */
+#define CHANGES_AT(call, answer, parts) \
     do { \
         before = lent; \
-        ANSWERS(call, OK); \
+        ANSWERS(call, answer); \
         hold((uint64_t)changed(), (parts), "parts changed by " #call); \
     } while (0)
+
+/* An accepted call. */
+#define CHANGES(call, parts) CHANGES_AT(call, OK, parts)
 
 static void of_resets(void)
 {
@@ -48,7 +51,20 @@ static void of_steps(void)
 static void of_reads(void)
 {
     begin();
-    CHANGES(cechnuol_look_up(TO_READ, CECHNUOL_DESK, 5, 7, &lent.value), VALUE);
+    CHANGES(cechnuol_look_up(TO_READ, CECHNUOL_DESK, 5, 7, &lent.value, &lent.since), VALUE | SINCE);
+    IS(lent.value, 1200);
+    IS(lent.since, CECHNUOL_BY_TABLE);
+    begin();
+    CHANGES(cechnuol_look_up(TO_READ, CECHNUOL_DESK, 9, 9, &lent.value, &lent.since), VALUE | SINCE);
+    IS(lent.value, 700);
+    IS(lent.since, 8);
+    /* where there is no price, the word for it stays */
+    begin();
+    CHANGES_AT(cechnuol_look_up(TO_READ, CECHNUOL_DESK, 5, 9, &lent.value, &lent.since), NO_PRICE, SINCE);
+    IS(lent.since, 9);
+    begin();
+    CHANGES_AT(cechnuol_look_up(TO_READ, CECHNUOL_DESK, 4, 9, &lent.value, &lent.since), NO_PRICE, SINCE);
+    IS(lent.since, CECHNUOL_BY_TABLE);
     begin();
     lent.words[0] = cechnuol_ask(5);
     lent.words[1] = cechnuol_ask(6);

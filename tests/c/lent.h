@@ -8,12 +8,12 @@ enum { TABLE_LENGTH = 4, JOURNAL_LENGTH = 8 };
 
 static struct {
     uint64_t table[TABLE_LENGTH], journal[JOURNAL_LENGTH], head[CECHNUOL_HEAD_WORDS], tally[CECHNUOL_TALLY_WORDS];
-    uint64_t words[CECHNUOL_LIST_WORDS + 1], out[4], value;
+    uint64_t words[CECHNUOL_LIST_WORDS + 1], out[4], value, since;
     uint8_t bytes[64];
 } lent, before;
 
 /* The parts, as bits. */
-enum { TABLE = 1, JOURNAL = 2, HEAD = 4, TALLY = 8, WORDS = 16, OUT = 32, BYTES = 64, VALUE = 128 };
+enum { TABLE = 1, JOURNAL = 2, HEAD = 4, TALLY = 8, WORDS = 16, OUT = 32, BYTES = 64, VALUE = 128, SINCE = 256 };
 
 #define TO_READ lent.table, TABLE_LENGTH, lent.journal, JOURNAL_LENGTH, lent.head
 #define STORE TO_READ, lent.tally
@@ -28,7 +28,8 @@ static inline int changed(void)
 {
     return PART_CHANGED(table, TABLE) | PART_CHANGED(journal, JOURNAL) | PART_CHANGED(head, HEAD) |
            PART_CHANGED(tally, TALLY) | PART_CHANGED(words, WORDS) | PART_CHANGED(out, OUT) |
-           PART_CHANGED(bytes, BYTES) | (lent.value != before.value ? VALUE : 0);
+           PART_CHANGED(bytes, BYTES) | (lent.value != before.value ? VALUE : 0) |
+           (lent.since != before.since ? SINCE : 0);
 }
 
 /* A store loaded as state 7 with offer 5 at 1200 and offer 6 at 900; state 8 has offer 9 at 700 too, state 9 offer 5 no

@@ -10,7 +10,7 @@ static uint64_t table[4], journal[16], head[CECHNUOL_HEAD_WORDS], tally[CECHNUOL
 
 static void on_nothing(void)
 {
-    uint64_t value = 7;
+    uint64_t value = 7, since = 8;
     ANSWERS(cechnuol_clear(NOTHING), LENGTHS);
     ANSWERS(cechnuol_load(NOTHING, NULL, 0), LENGTHS);
     ANSWERS(cechnuol_write_image(NOTHING_TO_READ, NULL, 0, &value), LENGTHS);
@@ -19,11 +19,12 @@ static void on_nothing(void)
     ANSWERS(cechnuol_commit(NOTHING, NULL, 0), LENGTHS);
     ANSWERS(cechnuol_roll_back(NOTHING, 0), LENGTHS);
     ANSWERS(cechnuol_flush(NOTHING, 0), LENGTHS);
-    ANSWERS(cechnuol_look_up(NOTHING_TO_READ, CECHNUOL_DESK, 0, 0, &value), LENGTHS);
+    ANSWERS(cechnuol_look_up(NOTHING_TO_READ, CECHNUOL_DESK, 0, 0, &value, &since), LENGTHS);
     ANSWERS(cechnuol_issue(NOTHING, CECHNUOL_DESK, 0, NULL, 0), LENGTHS);
     ANSWERS(cechnuol_forward(NOTHING, CECHNUOL_DESK, 0, 0, NULL, 0), LENGTHS);
     ANSWERS(cechnuol_release(NOTHING, CECHNUOL_DESK, 0), LENGTHS);
     IS(value, 7);
+    IS(since, 8);
 }
 
 static void of_no_length(void)
@@ -58,7 +59,8 @@ static void on_any_words(void)
 /* Memory of random words, by a generator of 64 bits (Marsaglia's xorshift): no call but clear takes it. */
 static void on_noise(void)
 {
-    uint64_t x = 1, value = 7;
+    const uint32_t desk = CECHNUOL_DESK;
+    uint64_t x = 1, value = 7, since = 8;
     int round, i;
     for (round = 0; round < 1000; round++) {
         for (i = 0; i < CECHNUOL_HEAD_WORDS; i++) {
@@ -66,9 +68,11 @@ static void on_noise(void)
             head[i] = table[i % 4] = journal[i % 16] = x;
         }
         ANSWERS(cechnuol_flush(STORE, cechnuol_low_bits(x)), UNSOUND);
-        ANSWERS(cechnuol_look_up(table, 4, journal, 16, head, CECHNUOL_DESK, 5, cechnuol_low_bits(x), &value), UNSOUND);
+        ANSWERS(cechnuol_look_up(table, 4, journal, 16, head, desk, 5, cechnuol_low_bits(x), &value, &since), UNSOUND);
         IS(head[CECHNUOL_HEAD_WORDS - 1], x);
     }
+    IS(value, 7);
+    IS(since, 8);
     ANSWERS(cechnuol_clear(STORE), OK);
     ANSWERS(cechnuol_flush(STORE, 0), OK);
 }

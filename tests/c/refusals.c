@@ -43,15 +43,14 @@ static void of_queries(void)
     REFUSED(cechnuol_write_state_image(TO_READ, 10, lent.bytes, 64, &lent.value), STATE_RANGE);
     REFUSED(cechnuol_write_state_image(TO_READ, 7, lent.bytes, 21, &lent.value), OUTPUT_SHORT);
     REFUSED(cechnuol_write_state_image(TO_READ, 8, lent.bytes, 29, &lent.value), OUTPUT_SHORT);
-    REFUSED(cechnuol_look_up(NOTHING_TO_READ, CECHNUOL_DESK, 5, 7, &lent.value), LENGTHS);
-    REFUSED(cechnuol_look_up(TO_READ, CECHNUOL_DESK, UINT32_C(1) << 31, 6, &lent.value), BAD_LIST);
-    REFUSED(cechnuol_look_up(TO_READ, CECHNUOL_DESK, 5, 6, &lent.value), STATE_RANGE);
-    REFUSED(cechnuol_look_up(TO_READ, CECHNUOL_DESK, 5, 10, &lent.value), STATE_RANGE);
-    REFUSED(cechnuol_look_up(TO_READ, CECHNUOL_DESK, 5, 9, &lent.value), NO_PRICE);
+    REFUSED(cechnuol_look_up(NOTHING_TO_READ, CECHNUOL_DESK, 5, 7, &lent.value, &lent.since), LENGTHS);
+    REFUSED(cechnuol_look_up(TO_READ, CECHNUOL_DESK, UINT32_C(1) << 31, 6, &lent.value, &lent.since), BAD_LIST);
+    REFUSED(cechnuol_look_up(TO_READ, CECHNUOL_DESK, 5, 6, &lent.value, &lent.since), STATE_RANGE);
+    REFUSED(cechnuol_look_up(TO_READ, CECHNUOL_DESK, 5, 10, &lent.value, &lent.since), STATE_RANGE);
     damage();
     REFUSED(cechnuol_write_image(TO_READ, lent.bytes, 21, &lent.value), UNSOUND);
     REFUSED(cechnuol_write_state_image(TO_READ, 6, lent.bytes, 21, &lent.value), UNSOUND);
-    REFUSED(cechnuol_look_up(TO_READ, CECHNUOL_DESK, UINT32_C(1) << 31, 6, &lent.value), UNSOUND);
+    REFUSED(cechnuol_look_up(TO_READ, CECHNUOL_DESK, UINT32_C(1) << 31, 6, &lent.value, &lent.since), UNSOUND);
 }
 
 /* Makes the store one at the last state number. */

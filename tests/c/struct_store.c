@@ -7,7 +7,7 @@ enum { TABLE_LENGTH = 4, JOURNAL_LENGTH = 4000 };
 
 static struct {
     uint64_t table[TABLE_LENGTH], journal[JOURNAL_LENGTH], head[CECHNUOL_HEAD_WORDS], tally[CECHNUOL_TALLY_WORDS];
-    uint64_t words[3], value;
+    uint64_t words[3], value, since;
     uint8_t bytes[64];
 } plain, other;
 static struct cechnuol_store store = {other.table, TABLE_LENGTH, other.journal, JOURNAL_LENGTH, {0}, {0}};
@@ -68,10 +68,21 @@ static void reads(void)
                "issue of nothing");
     hold_alike(cechnuol_release(STORE, desk, 6), cechnuol_store_release(&store, desk, 6), "release of another's slot");
     hold_alike(cechnuol_release(STORE, foyer, 6), cechnuol_store_release(&store, foyer, 6), "release");
-    hold_alike(cechnuol_look_up(TO_READ, desk, 2, 2, &plain.value),
-               cechnuol_store_look_up(&store, desk, 2, 2, &other.value), "look_up of a price");
-    hold_alike(cechnuol_look_up(TO_READ, foyer, 7, 2, &plain.value),
-               cechnuol_store_look_up(&store, foyer, 7, 2, &other.value), "look_up of none");
+    hold_alike(cechnuol_look_up(TO_READ, desk, 2, 2, &plain.value, &plain.since),
+               cechnuol_store_look_up(&store, desk, 2, 2, &other.value, &other.since), "look_up of a price");
+    IS(other.value, 20);
+    IS(other.since, CECHNUOL_BY_TABLE);
+    hold_alike(cechnuol_look_up(TO_READ, foyer, 7, 2, &plain.value, &plain.since),
+               cechnuol_store_look_up(&store, foyer, 7, 2, &other.value, &other.since), "look_up of none");
+    give(cechnuol_put(1, 11), cechnuol_remove(3), 0);
+    ALIKE(commit, other.words, 2);
+    hold_alike(cechnuol_look_up(TO_READ, desk, 1, 3, &plain.value, &plain.since),
+               cechnuol_store_look_up(&store, desk, 1, 3, &other.value, &other.since), "look_up of a new price");
+    IS(other.value, 11);
+    IS(other.since, 3);
+    hold_alike(cechnuol_look_up(TO_READ, foyer, 3, 3, &plain.value, &plain.since),
+               cechnuol_store_look_up(&store, foyer, 3, 3, &other.value, &other.since), "look_up of a removed price");
+    ALIKE(roll_back, 2);
 }
 
 static void images(void)

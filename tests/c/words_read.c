@@ -13,20 +13,23 @@ enum { CORNERS = sizeof corners / sizeof *corners };
 static void hold_entry(uint32_t offer, uint32_t price)
 {
     const uint64_t put = cechnuol_put(offer, price), removal = cechnuol_remove(offer);
-    uint64_t asked = cechnuol_ask(offer), quoted = 7;
+    uint64_t asked = cechnuol_ask(offer), quoted = 7, since = 7;
     ANSWERS(cechnuol_store_clear(&store), OK);
-    ANSWERS(cechnuol_store_look_up(&store, CECHNUOL_DESK, offer, 0, &quoted), NO_PRICE);
+    ANSWERS(cechnuol_store_look_up(&store, CECHNUOL_DESK, offer, 0, &quoted, &since), NO_PRICE);
     IS(quoted, 7);
+    IS(since, CECHNUOL_BY_TABLE);
     ANSWERS(cechnuol_store_commit(&store, &put, 1), OK);
-    ANSWERS(cechnuol_store_look_up(&store, CECHNUOL_DESK, offer, 1, &quoted), OK);
+    ANSWERS(cechnuol_store_look_up(&store, CECHNUOL_DESK, offer, 1, &quoted, &since), OK);
     IS(quoted, price);
+    IS(since, 1);
     ANSWERS(cechnuol_store_flush(&store, 1), OK);
     ANSWERS(cechnuol_store_issue(&store, CECHNUOL_DESK, 0, &asked, 1), OK);
     IS(cechnuol_has_price(asked) != 0, 1);
     IS(cechnuol_offer(asked), offer);
     IS(cechnuol_price(asked), price);
     ANSWERS(cechnuol_store_commit(&store, &removal, 1), OK);
-    ANSWERS(cechnuol_store_look_up(&store, CECHNUOL_DESK, offer, 2, &quoted), NO_PRICE);
+    ANSWERS(cechnuol_store_look_up(&store, CECHNUOL_DESK, offer, 2, &quoted, &since), NO_PRICE);
+    IS(since, 2);
     ANSWERS(cechnuol_store_forward(&store, CECHNUOL_DESK, 0, 2, &asked, 1), OK);
     IS(cechnuol_has_price(asked) != 0, 0);
     IS(cechnuol_offer(asked), offer);
@@ -36,15 +39,16 @@ static void hold_entry(uint32_t offer, uint32_t price)
 /* Offers at the corners stand in one list in their order. */
 static void hold_list(void)
 {
-    uint64_t words[CORNERS], quoted;
+    uint64_t words[CORNERS], quoted, since;
     size_t i;
     for (i = 0; i < CORNERS; i++)
         words[i] = cechnuol_put(corners[i], prices[i]);
     ANSWERS(cechnuol_store_clear(&store), OK);
     ANSWERS(cechnuol_store_commit(&store, words, CORNERS), OK);
     for (i = 0; i < CORNERS; i++) {
-        ANSWERS(cechnuol_store_look_up(&store, CECHNUOL_DESK, corners[i], 1, &quoted), OK);
+        ANSWERS(cechnuol_store_look_up(&store, CECHNUOL_DESK, corners[i], 1, &quoted, &since), OK);
         IS(quoted, prices[i]);
+        IS(since, 1);
     }
 }
 
@@ -121,7 +125,7 @@ static void hold_effects(uint32_t offer)
 int main(void)
 {
     size_t i, j;
-    uint64_t order = cechnuol_order(CECHNUOL_LIST, 1, 0x80000000), read = cechnuol_ask(0), out = 7, count = 7;
+    uint64_t order = cechnuol_order(CECHNUOL_LIST, 1, 0x80000000), read = cechnuol_ask(0), out = 7, count = 7, since;
     for (i = 0; i < CORNERS; i++) {
         hold_effects(corners[i]);
         for (j = 0; j < CORNERS; j++)
@@ -130,6 +134,6 @@ int main(void)
     hold_list();
     /* an offer that does not fit is no order on the offer that its lowest bits are */
     ANSWERS(cechnuol_price_batch(&read, 1, &order, 1, &out, 1, &count), BAD_ORDER);
-    ANSWERS(cechnuol_store_look_up(&store, CECHNUOL_DESK, 0x80000000, 1, &count), BAD_LIST);
+    ANSWERS(cechnuol_store_look_up(&store, CECHNUOL_DESK, 0x80000000, 1, &count, &since), BAD_LIST);
     return differences != 0;
 }

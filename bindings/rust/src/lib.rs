@@ -1,25 +1,27 @@
 //! The price unit: a store of prices in memory that its caller lends.
 //!
-//! A store is fed lists of price changes and answers what an offer costs in any recent state. It steps back when the feed
-//! is corrected, lets a read start before the state that it serves exists, prices batches of orders, and writes and loads
-//! images. It is a C library whose functions are proved to do what is said of them, for every content and length of what
-//! they are lent; this crate is that library with Rust's types, and adds no rule of its own.
+//! A store is fed lists of price changes and answers what an offer costs in any recent state, and how fresh that is. It
+//! steps back when the feed is corrected, lets a read start before the state that it serves exists, prices batches of
+//! orders, and writes and loads images. It is a C library whose functions are proved to do what is said of them, for every
+//! content and length of what they are lent; this crate is that library with Rust's types, and adds no rule of its own.
 //!
 //! ```
-//! use cechnuol::{price_batch, Caller, Entry, Order, Refusal, Store};
+//! use cechnuol::{price_batch, Caller, Entry, Order, Refusal, Since, Store};
 //!
 //! # fn main() -> Result<(), Refusal> {
 //! // An empty store, as state 0: room for 1,000 offers in the table, and for 500 entries of steps in the journal.
 //! let mut store = Store::new(1000, 500)?;
 //!
 //! // A list of changes leads to state 1. Each state from the checkpoint to the tip can be quoted, at the desk and in the
-//! // foyer.
+//! // foyer, and a quote says which state named the offer last.
 //! store.commit(&[Entry::put(5, 1200), Entry::put(9, 700)])?;
-//! assert_eq!(store.look_up(Caller::Desk, 5, 1)?, Some(1200));
-//! assert_eq!(store.look_up(Caller::Foyer, 5, 0)?, None);
+//! let quote = store.look_up(Caller::Desk, 5, 1)?;
+//! assert_eq!((quote.price, quote.since), (Some(1200), Since::State(1)));
+//! assert_eq!(store.look_up(Caller::Foyer, 5, 0)?.price, None);
 //!
 //! // A flush makes state 1 the checkpoint: the table holds its map, and the step to it is no longer needed.
 //! store.flush(1)?;
+//! assert_eq!(store.look_up(Caller::Desk, 5, 1)?.since, Since::Table);
 //!
 //! // The desk's read of offers 5 and 7 starts now, in slot 0, and is to serve a state that does not exist yet.
 //! let mut reads = [Entry::ask(5), Entry::ask(7)];
@@ -41,7 +43,7 @@
 //! let count = price_batch(&reads, &[Order::raise(7, 50), Order::withdraw(5)], &mut changes)?;
 //! assert_eq!(changes[..count], [Entry::remove(5), Entry::put(7, 350)]);
 //! store.commit(&changes[..count])?;
-//! assert_eq!(store.look_up(Caller::Desk, 7, 3)?, Some(350));
+//! assert_eq!(store.look_up(Caller::Desk, 7, 3)?.price, Some(350));
 //! # Ok(())
 //! # }
 //! ```
@@ -53,6 +55,9 @@
 //! that has started and not ended: [`Store::issue`] opens it, and [`Store::forward`] or [`Store::release`] closes it. The
 //! *oldest* state is the least of the checkpoint and the states at which the open slots were issued, and the steps above
 //! it are held in the journal. [`Head`] has all of these.
+//!
+//! A lookup ([`Store::look_up`]) gives a [`Quote`]: the price of an offer at a state, or none, and the state to which the
+//! last step leads that names the offer, or that the table answered ([`Since`]).
 //!
 //! Every lookup, issue, forward and release says who calls ([`Caller`]): the desk at the counter, or a display in the foyer
 //! that reads the same store. Each has slots of its own, and the foyer's lists are shorter. Lookups are open to both.
@@ -116,6 +121,7 @@ mod caller;
 mod entry;
 mod head;
 mod order;
+mod quote;
 #[allow(unsafe_code)]
 pub mod raw;
 mod refusal;
@@ -125,6 +131,7 @@ pub use caller::Caller;
 pub use entry::Entry;
 pub use head::{Head, Tally};
 pub use order::Order;
+pub use quote::{Quote, Since};
 pub use refusal::Refusal;
 pub use store::Store;
 
@@ -153,7 +160,7 @@ pub const HEAD_WORDS: usize = 84;
 pub const TALLY_WORDS: usize = 3;
 
 /// The version of this crate as a number: major * 1,000,000 + minor * 1,000 + patch.
-pub const VERSION: u64 = 4_000_000;
+pub const VERSION: u64 = 5_000_000;
 
 /// The version of the library that is linked, as a number. It differs from [`VERSION`] where crate and library are not of
 /// one release.

@@ -6,7 +6,8 @@
 //! A call is a method of what it is lent: [`StoreMut`] where it may change the store, [`StoreRef`] where it only reads
 //! it. It answers [`OK`], the number of a [`Refusal`](crate::Refusal), or, a lookup alone, [`NO_PRICE`];
 //! [`Refusal::check`](crate::Refusal::check) turns a code into a `Result`. Where a call is refused, everything that it
-//! was lent is as it came. A price or a count goes to the word that is lent for it, on [`OK`] only.
+//! was lent is as it came. A price or a count goes to the word that is lent for it, on [`OK`] only; what a lookup gives
+//! beside the price, a state or [`BY_TABLE`], goes to its word on [`NO_PRICE`] too.
 //!
 //! # What C asks of a caller, and why a borrow gives it
 //!
@@ -28,6 +29,8 @@ use std::slice;
 pub const OK: u64 = 0;
 /// The code of a lookup that finds no price.
 pub const NO_PRICE: u64 = 100;
+/// What a lookup gives in place of a state where the table answered: a number that no state has.
+pub const BY_TABLE: u64 = 1 << 32;
 
 /// The number of the desk as a caller.
 pub const DESK: u32 = 0;
@@ -119,7 +122,7 @@ declare_calls! {
 declare_queries! {
     cechnuol_write_image(bytes: *mut u8, byte_count: usize, count: *mut u64);
     cechnuol_write_state_image(state: u32, bytes: *mut u8, byte_count: usize, count: *mut u64);
-    cechnuol_look_up(caller: u32, offer: u32, state: u32, price: *mut u64);
+    cechnuol_look_up(caller: u32, offer: u32, state: u32, price: *mut u64, since: *mut u64);
 }
 
 extern "C" {
@@ -232,10 +235,12 @@ impl StoreRef<'_> {
         query!(self, cechnuol_write_state_image, state, bytes.as_mut_ptr(), bytes.len(), count)
     }
 
-    /// Writes an offer's price at a state to the price, where there is one. Who calls makes no difference.
+    /// Writes an offer's price at a state to the price, where there is one, and to `since` the state to which the last step
+    /// above the checkpoint leads that names the offer, or [`BY_TABLE`], whether there is a price or not. Who calls makes no
+    /// difference.
     #[inline]
-    pub fn look_up(self, caller: u32, offer: u32, state: u32, price: &mut u64) -> u64 {
-        query!(self, cechnuol_look_up, caller, offer, state, price)
+    pub fn look_up(self, caller: u32, offer: u32, state: u32, price: &mut u64, since: &mut u64) -> u64 {
+        query!(self, cechnuol_look_up, caller, offer, state, price, since)
     }
 }
 

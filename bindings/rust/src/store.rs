@@ -1,7 +1,8 @@
 //! A store: its memory, and the calls on it.
 
 use crate::raw::{self, StoreMut, StoreRef};
-use crate::{image_bytes_of, Caller, Entry, Head, Refusal, Tally, IMAGE_BYTES, JOURNAL_WORDS, TABLE_WORDS};
+use crate::{image_bytes_of, Caller, Entry, Head, Quote, Refusal, Since, Tally};
+use crate::{IMAGE_BYTES, JOURNAL_WORDS, TABLE_WORDS};
 use std::fmt;
 
 /// A store of prices: states numbered one after another, each a map from offers to prices.
@@ -76,7 +77,7 @@ impl<T, J> Store<T, J> {
     /// store.commit(&[Entry::put(5, 1200)])?;
     /// let (table, journal, head, tally) = store.into_parts();
     /// let store = Store::from_parts(table, journal, head, tally);
-    /// assert_eq!(store.look_up(Caller::Desk, 5, 1), Ok(Some(1200)));
+    /// assert_eq!(store.look_up(Caller::Desk, 5, 1)?.price, Some(1200));
     /// # Ok::<(), Refusal>(())
     /// ```
     ///
@@ -90,7 +91,8 @@ impl<T, J> Store<T, J> {
     ///     Head::from_words([0; HEAD_WORDS]),
     ///     Tally::from_words([0; TALLY_WORDS]),
     /// ));
-    /// assert_eq!(PRICES.read().unwrap().look_up(Caller::Foyer, 5, 0), Ok(None));
+    /// assert_eq!(PRICES.read().unwrap().look_up(Caller::Foyer, 5, 0)?.price, None);
+    /// # Ok::<(), cechnuol::Refusal>(())
     /// ```
     pub const fn from_parts(table: T, journal: J, head: Head, tally: Tally) -> Store<T, J> {
         Store { table, journal, head, tally }
@@ -157,31 +159,34 @@ impl<T: AsRef<[u64]>, J: AsRef<[u64]>> Store<T, J> {
         StoreRef { table: self.table.as_ref(), journal: self.journal.as_ref(), head: self.head.words() }
     }
 
-    /// The price of an offer at a state from the checkpoint to the tip, or none. Lookups are open to both callers, and answer
-    /// both alike.
+    /// The price of an offer at a state from the checkpoint to the tip, or none; and the state to which the last step leads
+    /// that names the offer, of those above the checkpoint and up to the state, or that the table answered ([`Since`]).
+    /// Lookups are open to both callers, and answer both alike.
     ///
     /// Refused: [`Refusal::Lengths`], [`Refusal::Unsound`], [`Refusal::BadList`] (an offer of 2^31 or more),
     /// [`Refusal::StateRange`].
     ///
     /// ```
-    /// use cechnuol::{Caller, Entry, Refusal, Store};
+    /// use cechnuol::{Caller, Entry, Quote, Refusal, Since, Store};
     ///
     /// let mut store = Store::new(4, 16)?;
     /// store.commit(&[Entry::put(5, 0)])?;
-    /// assert_eq!(store.look_up(Caller::Desk, 5, 0), Ok(None));
-    /// assert_eq!(store.look_up(Caller::Desk, 5, 1), Ok(Some(0)));
-    /// assert_eq!(store.look_up(Caller::Foyer, 5, 1), Ok(Some(0)));
-    /// assert_eq!(store.look_up(Caller::Desk, 5, 2), Err(Refusal::StateRange));
+    /// store.commit(&[])?;
+    /// assert_eq!(store.look_up(Caller::Desk, 5, 0), Ok(Quote { price: None, since: Since::Table }));
+    /// assert_eq!(store.look_up(Caller::Desk, 5, 1), Ok(Quote { price: Some(0), since: Since::State(1) }));
+    /// assert_eq!(store.look_up(Caller::Foyer, 5, 2), Ok(Quote { price: Some(0), since: Since::State(1) }));
+    /// assert_eq!(store.look_up(Caller::Desk, 5, 3), Err(Refusal::StateRange));
     /// # Ok::<(), Refusal>(())
     /// ```
     #[inline]
-    pub fn look_up(&self, caller: Caller, offer: u32, state: u32) -> Result<Option<u32>, Refusal> {
-        let mut price = 0;
-        match self.as_raw().look_up(caller.number(), offer, state, &mut price) {
-            raw::NO_PRICE => Ok(None),
+    pub fn look_up(&self, caller: Caller, offer: u32, state: u32) -> Result<Quote, Refusal> {
+        let (mut price, mut since) = (0, raw::BY_TABLE);
+        let price = match self.as_raw().look_up(caller.number(), offer, state, &mut price, &mut since) {
+            raw::NO_PRICE => None,
             // A price has 32 bits; it comes in a word.
-            code => Refusal::check(code).map(|()| Some(price as u32)),
-        }
+            code => Refusal::check(code).map(|()| Some(price as u32))?,
+        };
+        Ok(Quote { price, since: Since::of_word(since) })
     }
 
     /// Writes the image of the tip to the start of the bytes, and gives its length: 6 bytes and 8 for each offer
@@ -208,7 +213,7 @@ impl<T: AsRef<[u64]>, J: AsRef<[u64]>> Store<T, J> {
     /// let mut longer = Store::new(2, 16)?;
     /// longer.load(&bytes[..length])?;
     /// assert_eq!(longer.head().tip(), 1);
-    /// assert_eq!(longer.look_up(Caller::Desk, 9, 1), Ok(Some(700)));
+    /// assert_eq!(longer.look_up(Caller::Desk, 9, 1)?.price, Some(700));
     /// # Ok::<(), Refusal>(())
     /// ```
     #[inline]
@@ -239,7 +244,7 @@ impl<T: AsRef<[u64]>, J: AsRef<[u64]>> Store<T, J> {
     /// let length = store.write_state_image(1, &mut bytes)?;
     /// let mut then = Store::new(4, 16)?;
     /// then.load(&bytes[..length])?;
-    /// assert_eq!(then.look_up(Caller::Desk, 5, 1), Ok(Some(1200)));
+    /// assert_eq!(then.look_up(Caller::Desk, 5, 1)?.price, Some(1200));
     ///
     /// assert_eq!(store.write_state_image(3, &mut bytes), Err(Refusal::StateRange));
     /// # Ok::<(), Refusal>(())
@@ -293,7 +298,7 @@ impl<T: AsMut<[u64]>, J: AsMut<[u64]>> Store<T, J> {
     ///
     /// let mut store = Store::new(4, 16)?;
     /// store.load(&[0, 0, 0, 7, 0, 1, 0x80, 0, 0, 5, 0, 0, 0x04, 0xB0])?;
-    /// assert_eq!(store.look_up(Caller::Desk, 5, 7), Ok(Some(1200)));
+    /// assert_eq!(store.look_up(Caller::Desk, 5, 7)?.price, Some(1200));
     /// # Ok::<(), Refusal>(())
     /// ```
     #[inline]
@@ -315,7 +320,7 @@ impl<T: AsMut<[u64]>, J: AsMut<[u64]>> Store<T, J> {
     /// store.commit(&[Entry::put(5, 1200)])?;
     /// store.restart(&mut vec![0; image_bytes_of(store.head().used())])?;
     /// assert_eq!(store.head().tip(), 0);
-    /// assert_eq!(store.look_up(Caller::Desk, 5, 0), Ok(None));
+    /// assert_eq!(store.look_up(Caller::Desk, 5, 0)?.price, None);
     /// # Ok::<(), Refusal>(())
     /// ```
     #[inline]
@@ -366,7 +371,7 @@ impl<T: AsMut<[u64]>, J: AsMut<[u64]>> Store<T, J> {
     /// for price in 0..100 {
     ///     commit(&mut store, &[Entry::put(5, price)])?;
     /// }
-    /// assert_eq!(store.look_up(Caller::Desk, 5, 100), Ok(Some(99)));
+    /// assert_eq!(store.look_up(Caller::Desk, 5, 100)?.price, Some(99));
     /// assert!(!store.head().is_open(3));
     ///
     /// // No read is given up in vain: here the table is too short for a flush to the tip.
@@ -397,7 +402,7 @@ impl<T: AsMut<[u64]>, J: AsMut<[u64]>> Store<T, J> {
     /// store.commit(&[Entry::put(5, 1100)])?;
     /// store.roll_back(0)?;
     /// store.commit(&[Entry::put(5, 1300)])?;
-    /// assert_eq!(store.look_up(Caller::Desk, 5, 1), Ok(Some(1300)));
+    /// assert_eq!(store.look_up(Caller::Desk, 5, 1)?.price, Some(1300));
     /// # Ok::<(), Refusal>(())
     /// ```
     #[inline]
@@ -406,7 +411,8 @@ impl<T: AsMut<[u64]>, J: AsMut<[u64]>> Store<T, J> {
     }
 
     /// Makes a state from the checkpoint to the tip the checkpoint: the table becomes the map at that state. Steps that no
-    /// open slot needs go, and make room for commits; states below it can no longer be looked up or rolled back to.
+    /// open slot needs go, and make room for commits; states below it can no longer be looked up or rolled back to, and no
+    /// quote is since a state up to it any more ([`Since`]).
     ///
     /// Needs up to 160 KiB of stack.
     ///

@@ -2,11 +2,11 @@
 
 mod common;
 
-use cechnuol::raw::{ENDS, TAKEN, TIP};
+use cechnuol::raw::{self, ENDS, TAKEN, TIP};
 use cechnuol::Caller::{Desk, Foyer};
 use cechnuol::Refusal::{self, *};
 use cechnuol::{image_bytes_of, price_batch, Entry, Head, Order, Store, Tally};
-use common::{of_lengths, refused, store, with_head, CALLS, IMAGE, TIP_IMAGE};
+use common::{by_table, of_lengths, refused, since, store, with_head, CALLS, IMAGE, TIP_IMAGE};
 
 #[test]
 fn every_call_tests_the_lengths() {
@@ -150,8 +150,8 @@ fn restart_beside_a_tip_of_another_length() {
 fn commit() {
     let mut store = store();
     assert_eq!(store.commit(&[Entry::put(5, 1000)]), Ok(()));
-    assert_eq!(store.look_up(Desk, 5, 3), Ok(Some(1000)));
-    assert_eq!(store.look_up(Desk, 5, 2), Ok(Some(1100)));
+    assert_eq!(store.look_up(Desk, 5, 3), since(3, Some(1000)));
+    assert_eq!(store.look_up(Desk, 5, 2), since(2, Some(1100)));
     assert_eq!((store.head().held_steps(), store.head().ends()), (2, &[3, 4][..]));
     refused(&store, BadList, |store| store.commit(&[Entry::put(5, 1), Entry::put(5, 2)]));
     refused(&store, BadList, |store| store.commit(&[Entry::put(5, 1), Entry::put(4, 2)]));
@@ -207,10 +207,18 @@ fn flush() {
 #[test]
 fn look_up() {
     let store = store();
-    let prices = [(5, 1, Some(1200)), (9, 1, Some(700)), (11, 1, None), (9, 2, None), (11, 2, Some(0))];
+    let quotes = [
+        (5, 1, by_table(Some(1200))),
+        (9, 1, by_table(Some(700))),
+        (11, 1, by_table(None)),
+        (5, 2, since(2, Some(1100))),
+        (9, 2, since(2, None)),
+        (11, 2, since(2, Some(0))),
+        (7, 2, by_table(None)),
+    ];
     for caller in [Desk, Foyer] {
-        for (offer, state, price) in prices {
-            assert_eq!(store.look_up(caller, offer, state), Ok(price), "offer {offer} at {state}");
+        for (offer, state, quote) in quotes {
+            assert_eq!(store.look_up(caller, offer, state), quote, "offer {offer} at {state}");
         }
         for state in [0, 3, u32::MAX] {
             assert_eq!(store.look_up(caller, 5, state), Err(StateRange));
@@ -218,8 +226,80 @@ fn look_up() {
         for offer in [1 << 31, u32::MAX] {
             assert_eq!(store.look_up(caller, offer, 1), Err(BadList));
         }
-        assert_eq!(store.look_up(caller, (1 << 31) - 1, 1), Ok(None));
+        assert_eq!(store.look_up(caller, (1 << 31) - 1, 1), by_table(None));
     }
+}
+
+/// Offer 5 is put, left alone, put at the price that it has, and removed; offer 9 comes between. What a flush makes the table's
+/// is by the table, and what lies above it has the number that it had.
+#[test]
+fn since_when() {
+    let mut store = of_lengths(4, 16);
+    assert_eq!(store.commit(&[Entry::put(5, 1200)]), Ok(()));
+    assert_eq!(store.flush(1), Ok(()));
+    let lists = [&[][..], &[Entry::put(9, 700)], &[Entry::put(5, 1200)], &[Entry::remove(5)], &[]];
+    lists.iter().for_each(|list| assert_eq!(store.commit(list), Ok(())));
+    let quoted = |store: &Store, offer| [1, 2, 3, 4, 5, 6].map(|state| store.look_up(Desk, offer, state));
+    let (early, put) = (by_table(Some(1200)), since(4, Some(1200)));
+    assert_eq!(quoted(&store, 5), [early, early, early, put, since(5, None), since(5, None)]);
+    let (none, put) = (by_table(None), since(3, Some(700)));
+    assert_eq!(quoted(&store, 9), [none, none, put, put, put, put]);
+    assert_eq!(quoted(&store, 7), [none; 6]);
+
+    assert_eq!(store.flush(4), Ok(()));
+    let gone = Err(StateRange);
+    assert_eq!(quoted(&store, 5), [gone, gone, gone, early, since(5, None), since(5, None)]);
+    assert_eq!(quoted(&store, 9)[3..], [by_table(Some(700)); 3]);
+    assert_eq!(store.flush(6), Ok(()));
+    assert_eq!(store.look_up(Desk, 5, 6), none);
+}
+
+/// Steps that an open slot holds below the checkpoint are not searched.
+#[test]
+fn since_when_beside_a_read() {
+    let mut store = store();
+    assert_eq!(store.flush(2), Ok(()));
+    assert_eq!((store.head().oldest(), store.head().held_steps()), (1, 1));
+    assert_eq!(store.look_up(Desk, 5, 2), by_table(Some(1100)));
+    assert_eq!(store.look_up(Desk, 9, 2), by_table(None));
+    assert_eq!(store.commit(&[Entry::put(9, 1)]), Ok(()));
+    assert_eq!(store.look_up(Desk, 9, 3), since(3, Some(1)));
+}
+
+/// A number that a rollback made free is that of the next commit, and the last number is a state's.
+#[test]
+fn since_when_at_other_numbers() {
+    let mut store = store();
+    assert_eq!((store.roll_back(1), store.commit(&[Entry::put(5, 1)])), (Ok(()), Ok(())));
+    assert_eq!(store.look_up(Desk, 5, 2), since(2, Some(1)));
+    assert_eq!(store.look_up(Desk, 9, 2), by_table(Some(700)));
+    assert_eq!(store.load(&[0xFF, 0xFF, 0xFF, 0xFE, 0, 0]), Ok(()));
+    assert_eq!(store.commit(&[Entry::put(5, 1)]), Ok(()));
+    assert_eq!(store.look_up(Desk, 5, u32::MAX - 1), by_table(None));
+    assert_eq!(store.look_up(Desk, 5, u32::MAX), since(u32::MAX, Some(1)));
+}
+
+/// What the plain function writes: both words where there is a price, the second alone where there is none, and neither where it
+/// is refused.
+#[test]
+fn words_of_a_lookup() {
+    let (store, short) = (store(), of_lengths(0, 16));
+    let damaged = with_head(&store, &[(TAKEN, 2)]);
+    let said = |store: &Store, offer, state| {
+        [raw::DESK, raw::FOYER].map(|caller| {
+            let (mut price, mut since) = (7, 8);
+            (store.as_raw().look_up(caller, offer, state, &mut price, &mut since), price, since)
+        })
+    };
+    assert_eq!(said(&store, 5, 1), [(raw::OK, 1200, raw::BY_TABLE); 2]);
+    assert_eq!(said(&store, 5, 2), [(raw::OK, 1100, 2); 2]);
+    assert_eq!(said(&store, 9, 2), [(raw::NO_PRICE, 7, 2); 2]);
+    assert_eq!(said(&store, 11, 1), [(raw::NO_PRICE, 7, raw::BY_TABLE); 2]);
+    assert_eq!(said(&short, 5, 1), [(1, 7, 8); 2]);
+    assert_eq!(said(&damaged, 5, 1), [(2, 7, 8); 2]);
+    assert_eq!(said(&store, 1 << 31, 1), [(6, 7, 8); 2]);
+    assert_eq!(said(&store, 5, 0), [(11, 7, 8); 2]);
+    assert_eq!(said(&store, 5, 3), [(11, 7, 8); 2]);
 }
 
 #[test]

@@ -106,17 +106,32 @@ fn constants_are_those_of_the_header() {
     header.for_each(|(name, number)| assert_eq!(ours.get(&name), Some(&number), "{name}"));
 }
 
+/// What the header defines a name as, by a macro.
+fn defined(name: &str) -> String {
+    let code = code();
+    let mut lines =
+        code.lines().filter_map(|line| line.strip_prefix("#define CECHNUOL_")?.strip_prefix(name));
+    lines.find_map(|rest| rest.strip_prefix(' ')).expect("a macro of that name").to_string()
+}
+
 #[test]
 fn one_version() {
     let text = env!("CARGO_PKG_VERSION");
     let parts: Vec<u64> = text.split('.').map(|part| part.parse().expect("a number")).collect();
     let number = parts.iter().fold(0, |sum, part| sum * 1000 + part);
     assert_eq!((cechnuol::VERSION, cechnuol::version(), parts.len()), (number, number, 3));
-    let code = code();
-    let defined =
-        |name: &str| code.lines().find_map(|line| line.strip_prefix("#define ")?.strip_prefix(name));
-    assert_eq!(defined("CECHNUOL_VERSION "), Some(&*number.to_string()));
-    assert_eq!(defined("CECHNUOL_VERSION_TEXT "), Some(&*format!("{text:?}")));
+    assert_eq!(defined("VERSION"), number.to_string());
+    assert_eq!(defined("VERSION_TEXT"), format!("{text:?}"));
+}
+
+/// What says that the table answered: a power of two, and the least number that no state has.
+#[test]
+fn the_word_for_the_table() {
+    let text = defined("BY_TABLE");
+    let power = text.strip_prefix("(UINT64_C(1) << ").and_then(|text| text.strip_suffix(')'));
+    let power: u32 = power.and_then(|power| power.parse().ok()).expect("a power of two");
+    assert_eq!(cechnuol::raw::BY_TABLE, 1 << power);
+    assert_eq!(cechnuol::raw::BY_TABLE, u64::from(u32::MAX) + 1);
 }
 
 #[test]

@@ -4,7 +4,7 @@ mod common;
 
 use cechnuol::Caller::Desk;
 use cechnuol::{Entry, Head, Refusal, Store, Tally};
-use common::{store, IMAGE, TIP_IMAGE};
+use common::{by_table, since, store, IMAGE, TIP_IMAGE};
 use std::thread;
 
 const ENTRY: Entry = Entry::put(5, 1200);
@@ -20,7 +20,7 @@ fn lent_memory() {
     assert_eq!((table[0], &journal), (ENTRY.word(), &[0; 16]));
     // taken up again, over the same memory
     let again = Store::from_parts(&mut table[..], &mut journal[..], head, tally);
-    assert_eq!(again.look_up(Desk, 5, 1), Ok(Some(1200)));
+    assert_eq!(again.look_up(Desk, 5, 1), by_table(Some(1200)));
 }
 
 #[test]
@@ -37,11 +37,11 @@ fn arrays_and_boxes() {
     assert_eq!(arrays.commit(&[ENTRY]), Err(Refusal::Unsound));
     assert_eq!(
         (arrays.clear(), arrays.commit(&[ENTRY]), arrays.look_up(Desk, 5, 1)),
-        (Ok(()), Ok(()), Ok(Some(1200)))
+        (Ok(()), Ok(()), since(1, Some(1200)))
     );
     let (table, journal) = (vec![0; 4].into_boxed_slice(), vec![0; 16]);
     let mut boxed = Store::from_parts(table, journal, Head::default(), Tally::default());
-    assert_eq!((boxed.commit(&[ENTRY]), boxed.look_up(Desk, 5, 1)), (Ok(()), Ok(Some(1200))));
+    assert_eq!((boxed.commit(&[ENTRY]), boxed.look_up(Desk, 5, 1)), (Ok(()), since(1, Some(1200))));
 }
 
 /// A store over slices that cannot be written has the queries, and only those.
@@ -49,7 +49,10 @@ fn arrays_and_boxes() {
 fn memory_to_read() {
     let kept = store();
     let reader = Store::from_parts(kept.table(), kept.journal(), kept.head().clone(), *kept.tally());
-    assert_eq!(reader.look_up(Desk, 5, 2), Ok(Some(1100)));
+    assert_eq!(reader.look_up(Desk, 5, 1), by_table(Some(1200)));
+    assert_eq!(reader.look_up(Desk, 5, 2), since(2, Some(1100)));
+    assert_eq!(reader.look_up(Desk, 9, 2), since(2, None));
+    assert_eq!(reader.look_up(Desk, 7, 2), by_table(None));
     let mut bytes = vec![0; reader.image_bytes()];
     assert_eq!((reader.write_image(&mut bytes), &bytes[..22]), (Ok(22), &TIP_IMAGE[..]));
     assert_eq!((reader.write_state_image(1, &mut bytes), &bytes[..22]), (Ok(22), &IMAGE[..]));
@@ -61,7 +64,9 @@ fn queries_from_several_threads() {
     let store = store();
     thread::scope(|scope| {
         for _ in 0..4 {
-            scope.spawn(|| (0..1000).for_each(|_| assert_eq!(store.look_up(Desk, 5, 2), Ok(Some(1100)))));
+            scope.spawn(|| {
+                (0..1000).for_each(|_| assert_eq!(store.look_up(Desk, 5, 2), since(2, Some(1100))))
+            });
         }
         scope.spawn(|| {
             for _ in 0..1000 {
@@ -72,7 +77,7 @@ fn queries_from_several_threads() {
         });
     });
     let moved = thread::spawn(move || store.look_up(Desk, 9, 1));
-    assert_eq!(moved.join().expect("a lookup"), Ok(Some(700)));
+    assert_eq!(moved.join().expect("a lookup"), by_table(Some(700)));
 }
 
 /// What is printed of a store for those who look for a fault: every word of head and tally, and no table of 8,000 words.

@@ -4,10 +4,9 @@
 mod common;
 
 use cechnuol::Caller::{Desk, Foyer};
-use cechnuol::{
-    price_batch, Entry, Head, Order, Refusal, Store, Tally, HEAD_WORDS, IMAGE_BYTES, TALLY_WORDS,
-};
-use common::{of_lengths, store, Rng, CALLS};
+use cechnuol::{price_batch, Entry, Head, Order, Refusal, Since, Store, Tally};
+use cechnuol::{HEAD_WORDS, IMAGE_BYTES, TALLY_WORDS};
+use common::{by_table, of_lengths, since, store, Rng, CALLS};
 
 fn entries(rng: &mut Rng) -> Vec<Entry> {
     let count = rng.below(70);
@@ -42,7 +41,7 @@ fn random_bytes_as_images() {
     assert!((1000..19_000).contains(&accepted), "{accepted}");
 }
 
-/// A commit takes a list by the rules of a list, and its entries are then those that are looked up.
+/// A commit takes a list by the rules of a list, and its entries are then those that are looked up, since the state that it makes.
 #[test]
 fn random_words_as_lists() {
     let (mut rng, mut accepted) = (Rng(2), 0);
@@ -56,7 +55,9 @@ fn random_words_as_lists() {
         }
         accepted += 1;
         assert_eq!(store.commit(&list), Ok(()));
-        list.iter().for_each(|entry| assert_eq!(store.look_up(Desk, entry.offer(), 1), Ok(entry.price())));
+        let quotes =
+            list.iter().map(|entry| (store.look_up(Desk, entry.offer(), 1), since(1, entry.price())));
+        quotes.for_each(|(quote, wanted)| assert_eq!(quote, wanted));
     }
     assert!((100..4900).contains(&accepted), "{accepted}");
 }
@@ -137,12 +138,26 @@ fn random_stores() {
     assert!(accepted > 2000 && refused > 2000, "{accepted} accepted, {refused} refused");
 }
 
+/// Which step above the checkpoint and up to a state is the last in the journal that has the offer.
+fn last_named(store: &Store, offer: u32, state: u32) -> Since {
+    let (head, mut start, mut since) = (store.head(), 0, Since::Table);
+    for (number, &end) in (head.oldest() + 1..=state).zip(head.ends()) {
+        let list = Entry::from_words(&store.journal()[start..end as usize]);
+        if number > head.checkpoint() && list.iter().any(|entry| entry.offer() == offer) {
+            since = Since::State(number);
+        }
+        start = end as usize;
+    }
+    since
+}
+
 /// Random commits, rollbacks, flushes and reads: the image of every state from the checkpoint to the tip fits into
-/// [`Store::image_bytes`], and loaded elsewhere it quotes what the store quotes.
+/// [`Store::image_bytes`], and loaded elsewhere it quotes the prices that the store quotes, all by the table. In the store they
+/// are since the last step that names the offer.
 #[test]
 fn images_of_random_stores() {
     let mut rng = Rng(7);
-    let (mut images, mut large) = (0, 0);
+    let (mut images, mut large, mut changed) = (0, 0, 0);
     for _ in 0..300 {
         let mut store = of_lengths(1 + rng.below(12), 200);
         for _ in 0..rng.below(40) {
@@ -172,17 +187,20 @@ fn images_of_random_stores() {
             let length = store.write_state_image(state, &mut bytes).expect("bytes enough for each state");
             let mut elsewhere = of_lengths(20, 1);
             assert_eq!(elsewhere.load(&bytes[..length]), Ok(()));
-            let quotes =
-                |store: &Store| (0..20).map(|offer| store.look_up(Desk, offer, state)).collect::<Vec<_>>();
-            assert_eq!(quotes(&elsewhere), quotes(&store), "state {state}");
+            for offer in 0..20 {
+                let quote = store.look_up(Desk, offer, state).expect("a state that is kept");
+                assert_eq!(quote.since, last_named(&store, offer, state), "offer {offer} at state {state}");
+                assert_eq!(elsewhere.look_up(Desk, offer, state), by_table(quote.price), "offer {offer}");
+                changed += usize::from(quote.since != Since::Table);
+            }
             assert_eq!(length, 6 + 8 * elsewhere.entries().len());
             images += 1;
             large += usize::from(elsewhere.entries().len() > store.table().len());
         }
     }
     assert!(
-        images > 1000 && large > 100,
-        "{images} images, {large} with more offers than the table has words"
+        images > 1000 && large > 100 && changed > 1000,
+        "{images} images, {large} with more offers than the table has words, {changed} quotes since a state"
     );
 }
 

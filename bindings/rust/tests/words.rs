@@ -1,8 +1,8 @@
-//! Entry and order words at the corners of their fields and past them, and what is displayed of them.
+//! Entry and order words at the corners of their fields and past them, and what is displayed of them and of quotes.
 
 mod common;
 
-use cechnuol::{price_batch, Entry, Order, Refusal};
+use cechnuol::{price_batch, Entry, Order, Quote, Refusal, Since};
 use common::Rng;
 
 const OFFERS: [u32; 4] = [0, 1, 5, (1 << 31) - 1];
@@ -109,6 +109,15 @@ fn what_is_displayed() {
     ];
     for (order, text) in orders {
         assert_eq!((order.to_string(), format!("{order:?}")), (text.into(), format!("Order({text})")));
+    }
+    let quotes = [
+        (Some(1200), Since::State(3), "price 1200, since state 3"),
+        (Some(0), Since::Table, "price 0, by the table"),
+        (None, Since::State(u32::MAX), "none, since state 4294967295"),
+        (None, Since::Table, "none, by the table"),
+    ];
+    for (price, since, text) in quotes {
+        assert_eq!(Quote { price, since }.to_string(), text);
     }
 }
 

@@ -38,7 +38,7 @@ not-count n h = miss (othersThan (Count n)) _ tt h
 -- only a refusal has a ground
 pub no-ground : (ground : Ground) (answer : Answer) → Unlike (Refused ground) answer → groundIn (saidBy answer) ≡ 0
 no-ground ground Done h = refl
-no-ground ground (Price p) h = refl
-no-ground ground NoPrice h = refl
+no-ground ground (Price p since) h = refl
+no-ground ground (NoPrice since) h = refl
 no-ground ground (Count n) h = refl
 no-ground ground (Refused other) h = absurd (not-refused other h)

@@ -1,4 +1,4 @@
--- What a call answers, and what the answer says in document 01's terms.
+-- What a call answers, and what the answer says in the papers' terms.
 -- Assumes nothing.
 use mathlib.Core.Path.{_≡_}
 use mathlib.Core.Bool.{Bool, true, false}
@@ -7,20 +7,32 @@ use Rattle.answers.specs.declared.answer.Answer.{Answer}
 use Rattle.answers.specs.declared.answer.Answer.the-variants.{Done, Price, NoPrice, Count, Refused}
 use Rattle.answers.specs.declared.answer.Check.{Check}
 use Rattle.answers.specs.declared.answer.Check.the-variants.{Passed, Refused as Stopped}
+use Rattle.answers.specs.declared.answer.Since.{Since}
+use Rattle.answers.specs.declared.answer.Since.the-variants.{State, Table}
 use Rattle.answers.specs.Numbers.{numberOf}
+
+-- since when, of a lookup: "the state to which the last step naming the offer leads", "or, if none did, that the book answered"
+pub data When : Type 0 where
+  byStep : ℕ → When
+  byBook : When
 
 -- a value where the call is accepted, "the number alone" where it is turned away
 pub data Said : Type 0 where
   accepted : ℕ → Said
   refused : ℕ → Said
-  -- a lookup of an offer that has no price
-  without : Said
+  -- a lookup: the price, or that the offer has none, and since when
+  priced : ℕ → When → Said
+  without : When → Said
 
--- a price, a count or nothing but that the call was accepted, or the number of the ground
+abbrev pub saidBySince : Since → When
+saidBySince (State n) = byStep n
+saidBySince Table = byBook
+
+-- a price or none with since when, a count, nothing but that the call was accepted, or the number of the ground
 abbrev pub saidBy : Answer → Said
 saidBy Done = accepted 0
-saidBy (Price p) = accepted p
-saidBy NoPrice = without
+saidBy (Price p since) = priced p (saidBySince since)
+saidBy (NoPrice since) = without (saidBySince since)
 saidBy (Count n) = accepted n
 saidBy (Refused ground) = refused (numberOf ground)
 
@@ -33,22 +45,33 @@ saidByCheck (Stopped ground) = refused (numberOf ground)
 abbrev pub grantedB : Said → Bool
 grantedB (accepted n) = true
 grantedB (refused n) = false
-grantedB without = true
+grantedB (priced p since) = true
+grantedB (without since) = true
 
 abbrev pub valuedB : Said → Bool
 valuedB (accepted n) = true
 valuedB (refused n) = false
-valuedB without = false
+valuedB (priced p since) = true
+valuedB (without since) = false
 
 abbrev pub valueIn : Said → ℕ
 valueIn (accepted n) = n
 valueIn (refused n) = 0
-valueIn without = 0
+valueIn (priced p since) = p
+valueIn (without since) = 0
+
+-- since when, of an accepted call: a lookup alone names a step. A call that is turned away says nothing of it.
+abbrev pub whenIn : Said → When
+whenIn (accepted n) = byBook
+whenIn (refused n) = byBook
+whenIn (priced p since) = since
+whenIn (without since) = since
 
 abbrev pub groundIn : Said → ℕ
 groundIn (accepted n) = 0
 groundIn (refused n) = n
-groundIn without = 0
+groundIn (priced p since) = 0
+groundIn (without since) = 0
 
 abbrev pub acceptedB : Answer → Bool
 acceptedB answer = grantedB (saidBy answer)

@@ -2,7 +2,7 @@
 use crate::ground::Ground;
 use crate::ground::number;
 ghost use mathlib.Core.Path.{_≡_};
-ghost use Rattle.answers.specs.Answers.{saidBy, grantedB, valuedB, valueIn, groundIn, acceptedB};
+ghost use Rattle.answers.specs.Answers.{saidBySince, saidBy, grantedB, valuedB, valueIn, whenIn, groundIn, acceptedB};
 
 // What a check finds: no ground, or the first one that turns the call away.
 pub enum Check {
@@ -10,54 +10,68 @@ pub enum Check {
     Refused(Ground),
 }
 
-// What a call answers: done, the price of a lookup or that there is none, the count of the words or bytes written, or
-// why it was turned away. Price 0 is a price.
+// How fresh a quote is: the state to which the last step naming the offer leads, or that the table answered.
+pub enum Since {
+    State(u32),
+    Table,
+}
+
+// What a call answers: done, the price of a lookup or that there is none, each with since when, the count of the words or
+// bytes written, or why it was turned away. Price 0 is a price.
 pub enum Answer {
     Done,
-    Price(u32),
-    NoPrice,
+    Price(u32, Since),
+    NoPrice(Since),
     Count(usize),
     Refused(Ground),
 }
 
-// What an answer comes to, whatever was asked: whether the call was accepted, and its value if it has one.
+// What an answer comes to, whatever was asked: whether the call was accepted, its value if it has one, and since when, which is the
+// table's where no step was named.
 pub struct Status {
     pub accepted: bool,
     pub valued: bool,
     pub value: u64,
+    pub since: Since,
 }
 
 // The one place where accepted answers are told apart.
 pub fn status_of(answer: Answer) -> Status
     ensures { λ r. ⌜ (r .accepted ≡ grantedB (saidBy answer))
         × (r .valued ≡ valuedB (saidBy answer))
-        × (r .value ≡ valueIn (saidBy answer)) ⌝ }
+        × (r .value ≡ valueIn (saidBy answer))
+        × (saidBySince (r .since) ≡ whenIn (saidBy answer)) ⌝ }
 {
     match answer {
         Answer::Done => Status {
             accepted: true,
             valued: true,
             value: 0,
+            since: Since::Table,
         },
-        Answer::Price(price) => Status {
+        Answer::Price(price, since) => Status {
             accepted: true,
             valued: true,
             value: price as u64,
+            since,
         },
-        Answer::NoPrice => Status {
+        Answer::NoPrice(since) => Status {
             accepted: true,
             valued: false,
             value: 0,
+            since,
         },
         Answer::Count(count) => Status {
             accepted: true,
             valued: true,
             value: count as u64,
+            since: Since::Table,
         },
         Answer::Refused(_) => Status {
             accepted: false,
             valued: false,
             value: 0,
+            since: Since::Table,
         },
     }
 }

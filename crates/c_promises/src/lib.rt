@@ -17,7 +17,6 @@ use cechnuol::store::cechnuol_write_state_image;
 use head_words::HEAD_WORDS;
 use lent::storing::TALLY_WORDS;
 ghost use mathlib.Core.Bool.{cond};
-ghost use mathlib.Core.List.{[]};
 ghost use lib.Dec.{eqb};
 ghost use Rattle.answers.specs.declared.call.Call.the-variants.{Reset, Step, Read};
 ghost use Rattle.answers.specs.declared.call.Caller.the-variants.{Desk, Foyer};
@@ -25,8 +24,7 @@ ghost use Rattle.answers.specs.declared.call.Query.the-variants.{LookUp, WriteI
 ghost use Rattle.answers.specs.declared.call.Read.the-variants.{Issue, Forward, Release};
 ghost use Rattle.answers.specs.declared.call.Reset.the-variants.{Clear, Load, Restart};
 ghost use Rattle.answers.specs.declared.call.Step.the-variants.{Commit, RollBack, Flush};
-ghost use Rattle.lent.specs.Lent.{bytesWritten};
-ghost use Rattle.conditions.specs.CCalls.{StoreKeeps, WordsKeep, BytesKeep, QueryKeeps, PricesC};
+ghost use Rattle.conditions.specs.CCalls.{StoreKeeps, WordsKeep, BytesKeep, QueryKeeps, LookUpKeeps, PricesC};
 
 // `cechnuol_clear`.
 pub fn clear(
@@ -177,14 +175,13 @@ pub fn look_up(
     offer: u32,
     state: u32,
     price: &mut u64,
+    since: &mut u64,
 ) -> u64
-    ensures { λ r. ⌜ QueryKeeps (LookUp (record { caller = cond (eqb caller 0) Desk Foyer; offer = offer; state = state }))
+    ensures { λ r. ⌜ LookUpKeeps (LookUp (record { caller = cond (eqb caller 0) Desk Foyer; offer = offer; state = state }))
         (now (table .entry)) (now (journal .entry)) (now (head .entry))
-        [] r (now (price .entry)) (now (price .exit))
-        (bytesWritten (now (table .entry)) (now (journal .entry)) [] [] (now (head .entry))
-        (LookUp (record { caller = cond (eqb caller 0) Desk Foyer; offer = offer; state = state }))) ⌝ }
+        r (now (price .entry)) (now (price .exit)) (now (since .entry)) (now (since .exit)) ⌝ }
 {
-    cechnuol_look_up(table, journal, head, caller, offer, state, price)
+    cechnuol_look_up(table, journal, head, caller, offer, state, price, since)
 }
 
 // `cechnuol_write_image`.

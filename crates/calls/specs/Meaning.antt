@@ -31,7 +31,7 @@ use Rattle.restarts.specs.Restart.{restartGrounds, restartImage}
 use Rattle.commits.specs.Commit.{commitGrounds, usedOf, withList, withStep}
 use Rattle.rollbacks.specs.RollBack.{rollGrounds, keptOf, cutAt, cutTo}
 use Rattle.flushes.specs.Flush.{flushGrounds, flushedHead}
-use Rattle.lookups.specs.LookUp.{lookUpGrounds, quoteOf}
+use Rattle.lookups.specs.LookUp.{lookUpGrounds, quoteOf, sinceHere}
 use Rattle.issues.specs.Issue.{issueGrounds}
 use Rattle.forwards.specs.Forward.{forwardGrounds, stepsFor}
 use Rattle.releases.specs.Release.{releaseGrounds}
@@ -104,7 +104,8 @@ module _ (l : Lent) where
   abbrev pub queryOf : Query → Asking
   queryOf (LookUp asked) = record {
     grounds = lookUpGrounds (l .table) (l .journal) (l .head) asked;
-    answer = quoteOf (find (asked .offer) (mapHere (l .table) (l .journal) (l .head) (asked .state)));
+    answer =
+        quoteOf (find (asked .offer) (mapHere (l .table) (l .journal) (l .head) (asked .state))) (sinceHere (l .journal) (l .head) asked);
     words = l .words;
     bytes = l .bytes;
   }

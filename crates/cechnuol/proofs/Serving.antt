@@ -22,8 +22,8 @@ use Rattle.unit.specs.declared.serve.Served.{Served}
 use Rattle.unit.specs.Serve as Unit
 use Rattle.unit.specs.Serve.{served}
 use Rattle.head_words.specs.HeadWords.{headOf, headB, wordsOf}
-use Rattle.lent.specs.Codes.{codeOf, valueOf}
-use Rattle.lent.specs.Lent.{fitB, unfit, tallyOf, tallyWords, answerTo, Leaves, Serves, wordsAfter, Asks, Tells}
+use Rattle.lent.specs.Codes.{codeOf, valueOf, sinceOf}
+use Rattle.lent.specs.Lent.{fitB, unfit, tallyOf, tallyWords, answerTo, Leaves, Serves, wordsAfter, Asks, Tells, TellsSince}
 use Rattle.lent.proofs.Choices.{chosen, passed}
 
 refused-by : (t : Bool) → acceptedB (cond t (Refused Unsound) (Refused Lengths)) ≡ false
@@ -115,6 +115,13 @@ module _ (table journal words bytes head : List ℕ) (query : Query) where
     valued ∙ ap (λ (a : Answer). valueOf (saidBy a) old) (asked .0 .0),
   )
 
+  -- and since when
+  pub tells-since : {r : Answer} {since : ℕ} {w b : List ℕ} (old : ℕ)
+      → since ≡ sinceOf (saidBy r) old
+      → Asks table journal words bytes head query r w b
+      → TellsSince table journal words bytes head query since old
+  tells-since old told asked = told ∙ ap (λ (a : Answer). sinceOf (saidBy a) old) (asked .0 .0)
+
 -- and the same of a query
 module _ (table journal words bytes head : List ℕ) {c d : Query} (e : c ≡ d) where
   pub tells-same : {r : Answer} {code value : ℕ} {w b : List ℕ} (old : ℕ)
@@ -125,3 +132,11 @@ module _ (table journal words bytes head : List ℕ) {c d : Query} (e : c ≡ d)
   tells-same {r} {code} {value} old coded valued asked =
       subst (λ (x : Query). Tells table journal words bytes head x code value old) e
       (tells table journal words bytes head c old coded valued asked)
+
+  pub since-same : {r : Answer} {since : ℕ} {w b : List ℕ} (old : ℕ)
+      → since ≡ sinceOf (saidBy r) old
+      → Asks table journal words bytes head c r w b
+      → TellsSince table journal words bytes head d since old
+  since-same {r} {since} old told asked =
+      subst (λ (x : Query). TellsSince table journal words bytes head x since old) e
+      (tells-since table journal words bytes head c old told asked)

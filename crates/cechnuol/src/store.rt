@@ -16,13 +16,14 @@ use answers::call::Step;
 use head_words::HEAD_WORDS;
 use lent::callers::caller_of;
 use lent::codes::code_of;
+use lent::codes::since_of;
 use lent::codes::value_of;
 use lent::storing::TALLY_WORDS;
 ghost use mathlib.Core.Path.{_≡_};
 ghost use mathlib.Core.List.{[]};
 ghost use Rattle.lent.specs.Asked.{clear, load, restart, commit, rollBack, flush, issue, forward, release, lookUp};
 ghost use Rattle.lent.specs.Asked.{writeImage, writeStateImage};
-ghost use Rattle.lent.specs.Lent.{Serves, Tells, wordsAfter, bytesAfter, bytesWritten};
+ghost use Rattle.lent.specs.Lent.{Serves, Tells, TellsSince, wordsAfter, bytesAfter, bytesWritten};
 
 // The empty map as state 0.
 #[no_mangle]
@@ -190,7 +191,8 @@ pub extern "C" fn cechnuol_flush(
     serve_store(table, journal, head, tally, Call::Step(Step::Flush(state)))
 }
 
-// Writes the price of an offer at a state to `price`, or finds none, whoever calls.
+// Writes the price of an offer at a state to `price`, or finds none, whoever calls; and to `since` the state to which the last step
+// naming the offer leads, or that the table answered.
 #[no_mangle]
 pub extern "C" fn cechnuol_look_up(
     table: &[u64],
@@ -200,9 +202,12 @@ pub extern "C" fn cechnuol_look_up(
     offer: u32,
     state: u32,
     price: &mut u64,
+    since: &mut u64,
 ) -> u64
     ensures { λ r. ⌜ Tells (now (table .entry)) (now (journal .entry)) [] [] (now (head .entry)) (lookUp caller offer state) r
-        (now (price .exit)) (now (price .entry)) ⌝ }
+        (now (price .exit)) (now (price .entry))
+        × TellsSince (now (table .entry)) (now (journal .entry)) [] [] (now (head .entry)) (lookUp caller offer state)
+        (now (since .exit)) (now (since .entry)) ⌝ }
 {
     let mut words = [0u64; 0];
     let mut bytes = [0u8; 0];
@@ -220,6 +225,7 @@ pub extern "C" fn cechnuol_look_up(
         Query::LookUp(asked),
     );
     *price = value_of(answer, *price);
+    *since = since_of(answer, *since);
     code_of(answer)
 }
 

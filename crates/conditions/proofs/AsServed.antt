@@ -15,13 +15,13 @@ use Rattle.calls.specs.Meaning.{performed}
 use Rattle.head_words.specs.HeadWords.{headOf, wordsOf, headB}
 use Rattle.head_words.proofs.Theorems.{words-back}
 use Rattle.unit.specs.Carried.{Asked, lentTo}
-use Rattle.lent.specs.Codes.{codeOf, valueOf}
+use Rattle.lent.specs.Codes.{codeOf, valueOf, sinceOf}
 use Rattle.lent.specs.Lent.{fitB, tallyWords}
 use Rattle.conditions.specs.CCalls.{Memory, carriedIn, Result, ChangesStore, AnswersQuery, Promise, CallOfC, lendsTally, AsServed}
 use Rattle.conditions.specs.Runs.{lending}
 use Rattle.conditions.specs.Serving.{Seen, CallOfServe}
 use Rattle.conditions.proofs.CCalls.{answer-on, table-on, journal-on, tally-on, code-is, words-are, bytes-are}
-use Rattle.conditions.proofs.CCalls.{code-asked, value-asked}
+use Rattle.conditions.proofs.CCalls.{code-asked, value-asked, since-asked}
 use Rattle.conditions.proofs.CCalls.{words-asked, bytes-asked, query-left}
 
 -- one of two that are the same
@@ -47,6 +47,7 @@ module _ (m : Memory) (words bytes : List ℕ) (r : Result) (s : Seen) where
             ∙ sym (ap (λ (x : Reply). cond (acceptedB (x .answer)) (wordsOf (x .head)) (m .head)) (serves .0 .0));
         tally = λ lent. p .0 .4 ∙ tally-on m words bytes call fit ∙ ap tallyWords (sym (serves .1));
         value = λ asks. absurd (let z : _≡_ {A = Bool} true false = sym lends ∙ asks in let z : _≡_ {A = ℕ} 0 1 = cc in omega arith);
+        since = λ asks. absurd (let z : _≡_ {A = Bool} true false = sym lends ∙ asks in let z : _≡_ {A = ℕ} 0 1 = cc in omega arith);
       }
 
   asked : (query : Query) → headB (m .head) ≡ true → AnswersQuery m words bytes r query
@@ -66,6 +67,7 @@ module _ (m : Memory) (words bytes : List ℕ) (r : Result) (s : Seen) where
             (ap (λ (x : Reply). wordsOf (x .head)) (serves .0 .0) ∙ ap wordsOf (left .2) ∙ back);
         tally = λ lent. absurd (let z : _≡_ {A = ℕ} 0 1 = cc in omega arith);
         value = λ asks. value-asked m words bytes r query p e ∙ ap (λ (x : Said). valueOf x (r .before)) (sym (serves .0 .1));
+        since = λ asks. since-asked m words bytes r query p e ∙ ap (λ (x : Said). sinceOf x (r .since-before)) (sym (serves .0 .1));
       }
 
 pub as-served : (m : Memory) (a : Asked) (r : Result) (s : Seen)

@@ -27,7 +27,7 @@ use Rattle.head_words.proofs.Theorems.{head-back, head-words-fit, words-fits}
 use Rattle.unit.specs.Carried.{Carried, Asked, lentTo, next}
 use Rattle.unit.specs.Serve.{tallyOn}
 use Rattle.unit.proofs.Theorems.{others-keep}
-use Rattle.lent.specs.Codes.{codeOf, valueOf}
+use Rattle.lent.specs.Codes.{codeOf, valueOf, sinceOf}
 use Rattle.lent.specs.Lent.{testsStore, fitB, tallyOf, tallyWords, answerTo, tableAfter, journalAfter, wordsAfter, bytesAfter}
 use Rattle.lent.specs.Lent.{unfit, headAfter, tallyWordsAfter}
 use Rattle.lent.proofs.Choices.{chosen}
@@ -102,6 +102,9 @@ module _ (m : Memory) (words bytes : List ℕ) (r : Result) (call : Call) (p : C
   pub bytes-are : r .bytes ≡ performed (lentTo (carriedIn m) (lending call words bytes)) call .lent .bytes
   bytes-are = p .2 ∙ bytes-on m words bytes call fit
 
+  pub since-is : r .since ≡ sinceOf (saidBy (performed (lentTo (carriedIn m) (lending call words bytes)) call .answer)) (r .since-before)
+  since-is = p .4 ∙ ap (λ (a : Answer). sinceOf (saidBy a) (r .since-before)) (answer-on m words bytes call fit)
+
   pub memory-is : (acceptedB (performed (lentTo (carriedIn m) (lending call words bytes)) call .answer) ≡ false
       → wordsOf (headOf (m .head)) ≡ m .head)
       → r .memory ≡ memoryOf (next (carriedIn m) (lending call words bytes))
@@ -125,6 +128,9 @@ module _ (m : Memory) (words bytes : List ℕ) (r : Result) (query : Query) (p :
 
   pub value-asked : r .value ≡ valueOf (saidBy (performed reads (Ask query) .answer)) (r .before)
   value-asked = p .0 .1 ∙ ap (λ (a : Answer). valueOf (saidBy a) (r .before)) (chosen fit _ _)
+
+  pub since-asked : r .since ≡ sinceOf (saidBy (performed reads (Ask query) .answer)) (r .since-before)
+  since-asked = p .4 ∙ ap (λ (a : Answer). sinceOf (saidBy a) (r .since-before)) (chosen fit _ _)
 
   pub words-asked : r .words ≡ performed reads (Ask query) .lent .words
   words-asked = p .1 ∙ chosen fit _ _
@@ -229,8 +235,8 @@ stands-after m k a r w c = record {
 -- an answer by its code
 pub code-accepted : (answer : Answer) → codeOf (saidBy answer) ≡ 0 → acceptedB answer ≡ true
 code-accepted Done e = refl
-code-accepted (Price p) e = refl
-code-accepted NoPrice e = refl
+code-accepted (Price p since) e = refl
+code-accepted (NoPrice since) e = refl
 code-accepted (Count n) e = refl
 code-accepted (Away ground) e = absurd (omega (arith, number-range ground .0))
 

@@ -27,5 +27,11 @@ c-layout = record {
   caller-foyer = foyer;
   code-accepted = λ n. refl;
   code-refused = λ n. refl;
-  code-no-price = refl;
+  code-priced = λ p since. refl;
+  code-no-price = λ since. refl;
+  price-told = λ p old since. refl;
+  price-kept = λ old since. refl;
+  since-told = λ p n old. (refl, refl);
+  since-table = λ p old. (refl, refl);
+  refusal-kept = λ n old. (refl, refl);
 }

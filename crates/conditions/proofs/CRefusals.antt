@@ -27,7 +27,7 @@ use Rattle.execution.specs.Executing.{Executed, done, fails, priced}
 use Rattle.batch.specs.Batches.{batchGrounds, checked, batch, answer, output}
 use Rattle.unit.specs.Carried.{Asked, lentTo}
 use Rattle.unit.proofs.Theorems.{refused-keeps}
-use Rattle.lent.specs.Codes.{codeOf, valueOf, noPrice}
+use Rattle.lent.specs.Codes.{codeOf, valueOf, noPrice, sinceOf}
 use Rattle.lent.specs.Lent.{fitB, tallyOf, tallyWords, unfit, answerTo, answerToQuery}
 use Rattle.lent.proofs.Choices.{chosen, passed}
 use Rattle.lent.proofs.TallyWords.{tally-back}
@@ -47,17 +47,19 @@ pub record Turned (answer : Answer) : Type 0 where
   pub least : 1 ≤ codeOf (saidBy answer)
   pub most : codeOf (saidBy answer) ≤ highest
   pub value : (old : ℕ) → valueOf (saidBy answer) old ≡ old
+  pub since : (old : ℕ) → sinceOf (saidBy answer) old ≡ old
 
 turned : (answer : Answer) → (codeOf (saidBy answer) ≡ 0 → ⊥) → (codeOf (saidBy answer) ≡ noPrice → ⊥) → Turned answer
 turned Done z h = absurd (z refl)
-turned (Price p) z h = absurd (z refl)
-turned NoPrice z h = absurd (h refl)
+turned (Price p since) z h = absurd (z refl)
+turned (NoPrice since) z h = absurd (h refl)
 turned (Count n) z h = absurd (z refl)
 turned (Away ground) z h = record {
   not-accepted = refl;
   least = number-range ground .0;
   most = number-range ground .1;
   value = λ old. refl;
+  since = λ old. refl;
 }
 
 -- "gives one number of document 01 and leaves memory, tally and head as they came"
@@ -68,6 +70,7 @@ pub record AsItCame (m : Memory) (words bytes : List ℕ) (r : Result) : Type 0 
   pub words-same : r .words ≡ words
   pub bytes-same : r .bytes ≡ bytes
   pub value-same : r .value ≡ r .before
+  pub since-same : r .since ≡ r .since-before
 
 module _ (m : Memory) (words bytes : List ℕ) (r : Result) (z : r .code ≡ 0 → ⊥) (h : r .code ≡ noPrice → ⊥) where
   module _ (call : Call) (p : ChangesStore m words bytes r call) (three : length (m .tally) ≡ 3) where
@@ -94,6 +97,7 @@ module _ (m : Memory) (words bytes : List ℕ) (r : Result) (z : r .code ≡ 0 �
           words-same = p .1 ∙ passed e _ _;
           bytes-same = p .2 ∙ passed e _ _;
           value-same = p .3;
+          since-same = p .4 ∙ told .since (r .since-before);
         }
     changed-by true e =
         let l = lentBy m words bytes call e in
@@ -114,6 +118,7 @@ module _ (m : Memory) (words bytes : List ℕ) (r : Result) (z : r .code ≡ 0 �
           words-same = p .1 ∙ words-on m words bytes call e ∙ ap (λ (x : Lent). x .words) same;
           bytes-same = p .2 ∙ bytes-on m words bytes call e ∙ ap (λ (x : Lent). x .bytes) same;
           value-same = p .3;
+          since-same = p .4 ∙ told .since (r .since-before);
         }
 
     changed-as : AsItCame m words bytes r
@@ -147,6 +152,7 @@ module _ (m : Memory) (words bytes : List ℕ) (r : Result) (z : r .code ≡ 0 �
           words-same = came .0;
           bytes-same = came .1;
           value-same = p .0 .1 ∙ told-query .value (r .before);
+          since-same = p .4 ∙ told-query .since (r .since-before);
         }
 
   as-it-came : (call : Call) → Promise m words bytes r call → length (m .tally) ≡ 3 → AsItCame m words bytes r
@@ -159,7 +165,7 @@ pub c-refused : (m : Memory) (a : Asked) (r : Result) → CallOfC m a r → (r .
     → (1 ≤ r .code) × (r .code ≤ highest) × UntouchedC m a r
 c-refused m a r c z h =
     let came = as-it-came m (a .words) (a .bytes) r z h (a .call) (c .promise) (c .tally-words) in
-    (came .least, came .most, (came .memory, came .words-same, came .bytes-same, came .value-same))
+    (came .least, came .most, (came .memory, came .words-same, came .bytes-same, came .value-same, came .since-same))
 
 -- what a code says of the grounds
 pub number-low : (ground : Ground) → (eqb (numberOf ground) 0 ≡ false) × (eqb (numberOf ground) noPrice ≡ false)
@@ -170,8 +176,8 @@ number-low ground =
 code-says : (answer : Answer) → (acceptedCode (codeOf (saidBy answer)) ≡ acceptedB answer)
     × (groundCode (codeOf (saidBy answer)) ≡ groundIn (saidBy answer))
 code-says Done = (refl, refl)
-code-says (Price p) = (refl, refl)
-code-says NoPrice = (refl, refl)
+code-says (Price p since) = (refl, refl)
+code-says (NoPrice since) = (refl, refl)
 code-says (Count n) = (refl, refl)
 code-says (Away ground) =
     let low = number-low ground in

@@ -1,6 +1,6 @@
 -- Condition 2, proved.
 -- Assumes nothing.
-use Rattle.moments.proofs.Theorem.{moments-follow, callers-follow, images-follow, batches-follow}
+use Rattle.moments.proofs.Theorem.{moments-follow, callers-follow, images-follow, batches-follow, since-follows}
 use Rattle.conditions.specs.Condition2.{Condition2}
 use Rattle.conditions.proofs.Batches.{batches}
 use Rattle.conditions.proofs.AsServed.{as-served}
@@ -8,6 +8,7 @@ use Rattle.conditions.proofs.CLayout.{c-layout}
 use Rattle.conditions.proofs.FlushToAnchor.{flush-to-the-anchor}
 use Rattle.conditions.proofs.Images.{images}
 use Rattle.conditions.proofs.Laws.{laws}
+use Rattle.conditions.proofs.Lookups.{lookups}
 use Rattle.conditions.proofs.QueriesKeep.{query-keeps}
 use Rattle.conditions.proofs.Tallies.{tallies}
 
@@ -17,6 +18,7 @@ condition-2 = record {
   tallies = tallies;
   batches = batches;
   images = images;
+  lookups = lookups;
   flush-to-the-anchor = flush-to-the-anchor;
   queries-change-nothing = query-keeps;
   c-as-served = as-served;
@@ -25,4 +27,5 @@ condition-2 = record {
   desk-and-foyer = callers-follow;
   images-of-states = images-follow;
   batch-table = batches-follow;
+  since-when = since-follows;
 }

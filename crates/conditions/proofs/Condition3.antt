@@ -3,7 +3,7 @@
 use mathlib.Core.Path.{_≡_, refl}
 use mathlib.Core.Bool.{cond}
 use mathlib.Core.List.{List, [], _∷_, _++_}
-use Rattle.history.specs.Named.{Call, Response, Quote, quote, compared, acceptedB, acceptedCalls, quotes}
+use Rattle.history.specs.Named.{Call, Response, compared, acceptedB, acceptedCalls, quoteIn, quotes}
 use Rattle.conditions.specs.CCalls.{CallOnStoreC, memoryAfter, tellsC, CLoads, lengthsC}
 use Rattle.conditions.specs.Serving.{CallOnStore, handed, tells, lengthsIn, Loads}
 use Rattle.conditions.specs.Condition3.{Condition3}
@@ -16,9 +16,9 @@ accepted-one : (c : Call) (calls : List Call) (r : Response) (responses : List R
 unfolding acceptedCalls
 accepted-one c calls r responses = refl
 
-quoted-one : (q : Quote) (responses : List Response) → quotes (quote q ∷ responses) ≡ quote q ∷ quotes responses
+quoted-one : (r : Response) (responses : List Response) → quotes (r ∷ responses) ≡ quoteIn r ++ quotes responses
 unfolding quotes
-quoted-one q responses = refl
+quoted-one r responses = refl
 
 pub condition-3 : Condition3
 condition-3 = record {
@@ -26,7 +26,10 @@ condition-3 = record {
   caller-not-compared = λ a b slot offer n list. (refl, refl, refl, refl);
   flushes-apart = λ n. refl;
   accepted-count = accepted-one;
+  lookups-respond = λ asked p since words bytes. (refl, refl);
   quotes-count = quoted-one;
+  forwards-count = λ q. refl;
+  lookups-count = λ q since. refl;
   serve-loads-as-plain = loads-as-plain;
   c-loads-as-plain = loads-c-as-plain;
   serve-answers-as-plain = answers CallOnStore handed tells Loads lengthsIn Follows store-steps starts;

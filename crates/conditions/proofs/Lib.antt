@@ -14,6 +14,7 @@ pub mod HeadsFit
 pub mod Images
 pub mod InTurn
 pub mod Laws
+pub mod Lookups
 pub mod QueriesKeep
 pub mod Lent
 pub mod Ranges

@@ -21,16 +21,18 @@ use Rattle.answers.specs.declared.ground.Ground.the-variants.{Lengths, Unsound,
 use Rattle.answers.specs.declared.ground.Ground.the-variants.{BadOrder, OfferNotRead, OrderNoPrice, PriceRange, StateRange}
 use Rattle.answers.specs.declared.ground.Ground.the-variants.{LastState, StepsFull, JournalFull, BadImage, TableFull, OutputShort}
 use Rattle.answers.specs.declared.ground.Ground.the-variants.{LongList, OthersSlot}
-use Rattle.answers.specs.Answers.{saidBy, groundIn, acceptedB, answered}
+use Rattle.answers.specs.Answers.{saidBy, groundIn, whenIn, acceptedB, answered}
 use Rattle.answers.specs.First.{Test, met, first}
 use Rattle.answers.specs.Numbers.{numberOf}
-use Rattle.calls.specs.Lent.{Lent, Left, Meaning, settledBy}
+use Rattle.answers.specs.declared.answer.Since.{Since}
+use Rattle.answers.specs.Counts.{counts}
+use Rattle.calls.specs.Lent.{Lent, Left, Meaning, checkOf, settledBy}
 use Rattle.calls.specs.Meaning.{meaning, performed}
 use Rattle.changes.specs.declared.search.Found.{Found}
 use Rattle.changes.specs.declared.search.Found.the-variants.{Word, Nothing}
 use Rattle.changes.specs.Calculus.{find}
 use Rattle.layout.specs.States.{mapHere}
-use Rattle.lookups.specs.LookUp.{quoteOf}
+use Rattle.lookups.specs.LookUp.{quoteOf, sinceHere}
 use Rattle.soundness.specs.Checks.{lengthGrounds, storeGrounds}
 use Rattle.lent.specs.Lent.{testsStore}
 use Rattle.unit.specs.Carried.{Carried, Asked, lentTo}
@@ -38,6 +40,7 @@ use Rattle.unit.proofs.Theorems.{refused-keeps}
 use Rattle.conditions.specs.Grounds.{highest, groundsOf, numbers, once, firstNumber, noneMet}
 use Rattle.conditions.specs.Serving.{Seen, CallOfServe, Untouched}
 use Rattle.conditions.specs.Condition1.{OneNumber}
+use Rattle.conditions.proofs.Lookups.{Within, since-within}
 
 -- the numbers of the grounds begin with 1 and end with the highest
 pub number-range : (ground : Ground) → (1 ≤ numberOf ground) × (numberOf ground ≤ highest)
@@ -63,14 +66,14 @@ number-range OthersSlot = (omega arith, omega arith)
 
 one-number : (answer : Answer) → acceptedB answer ≡ false → OneNumber (saidBy answer)
 one-number Done e = absurd (let z : _≡_ {A = ℕ} 0 1 = cc in omega arith)
-one-number (Price p) e = absurd (let z : _≡_ {A = ℕ} 0 1 = cc in omega arith)
-one-number NoPrice e = absurd (let z : _≡_ {A = ℕ} 0 1 = cc in omega arith)
+one-number (Price p since) e = absurd (let z : _≡_ {A = ℕ} 0 1 = cc in omega arith)
+one-number (NoPrice since) e = absurd (let z : _≡_ {A = ℕ} 0 1 = cc in omega arith)
 one-number (Count n) e = absurd (let z : _≡_ {A = ℕ} 0 1 = cc in omega arith)
 one-number (Away ground) e = record { alone = refl; least = number-range ground .0; most = number-range ground .1 }
 
-quote-granted : (found : Found) → acceptedB (quoteOf found) ≡ true
-quote-granted (Word w) = refl
-quote-granted Nothing = refl
+quote-granted : (found : Found) (since : Since) → acceptedB (quoteOf found since) ≡ true
+quote-granted (Word w) since = refl
+quote-granted Nothing since = refl
 
 -- grounds 1 and 2 stand before all others at a call that tests the store, and 1 at any
 pub record Begins (l : Lent) (both : Bool) (tests : List Test) : Type 0 where
@@ -78,25 +81,36 @@ pub record Begins (l : Lent) (both : Bool) (tests : List Test) : Type 0 where
   pub is : tests
       ≡ cond both (storeGrounds (l .table) (l .journal) (l .head)) (lengthGrounds (length (l .table)) (length (l .journal))) ++ rest
 
--- each call: where it is accepted it answers what is no refusal, its tests are those of the table, and they begin with those of the store
+-- what a call is lent of a store, as it is carried; the tally is no matter here
+abbrev storeOf : Lent → Carried
+storeOf l = record { tally = counts 0 0 0; table = l .table; journal = l .journal; head = l .head }
+
+-- each call: where it is accepted it answers what is no refusal, its tests are those of the table, they begin with those of the store, and
+-- it names no state above the tip as since when
 by-table : (l : Lent) (call : Call)
     → (acceptedB (meaning l call .accepted .answer) ≡ true)
     × (once (numbers (meaning l call .grounds)) ≡ groundsOf call)
     × Begins l (testsStore call) (meaning l call .grounds)
+    × (checkOf (meaning l call) ≡ Passed → Within (l .head .tip) (whenIn (saidBy (meaning l call .accepted .answer))))
 unfolding once numbers
-by-table l (Reset Clear) = (refl, refl, record { rest = _; is = refl })
-by-table l (Reset Load) = (refl, refl, record { rest = _; is = refl })
-by-table l (Reset Restart) = (refl, refl, record { rest = _; is = refl })
-by-table l (Step Commit) = (refl, refl, record { rest = _; is = refl })
-by-table l (Step (RollBack state)) = (refl, refl, record { rest = _; is = refl })
-by-table l (Step (Flush state)) = (refl, refl, record { rest = _; is = refl })
-by-table l (Read (Issue reader)) = (refl, refl, record { rest = _; is = refl })
-by-table l (Read (Forward reader state)) = (refl, refl, record { rest = _; is = refl })
-by-table l (Read (Release reader)) = (refl, refl, record { rest = _; is = refl })
+by-table l (Reset Clear) = (refl, refl, record { rest = _; is = refl }, λ e. tt)
+by-table l (Reset Load) = (refl, refl, record { rest = _; is = refl }, λ e. tt)
+by-table l (Reset Restart) = (refl, refl, record { rest = _; is = refl }, λ e. tt)
+by-table l (Step Commit) = (refl, refl, record { rest = _; is = refl }, λ e. tt)
+by-table l (Step (RollBack state)) = (refl, refl, record { rest = _; is = refl }, λ e. tt)
+by-table l (Step (Flush state)) = (refl, refl, record { rest = _; is = refl }, λ e. tt)
+by-table l (Read (Issue reader)) = (refl, refl, record { rest = _; is = refl }, λ e. tt)
+by-table l (Read (Forward reader state)) = (refl, refl, record { rest = _; is = refl }, λ e. tt)
+by-table l (Read (Release reader)) = (refl, refl, record { rest = _; is = refl }, λ e. tt)
 by-table l (Ask (LookUp asked)) =
-    (quote-granted (find (asked .offer) (mapHere (l .table) (l .journal) (l .head) (asked .state))), refl, record { rest = _; is = refl })
-by-table l (Ask WriteImage) = (refl, refl, record { rest = _; is = refl })
-by-table l (Ask (WriteStateImage state)) = (refl, refl, record { rest = _; is = refl })
+    let found = find (asked .offer) (mapHere (l .table) (l .journal) (l .head) (asked .state)) in (
+      quote-granted found (sinceHere (l .journal) (l .head) asked),
+      refl,
+      record { rest = _; is = refl },
+      since-within (storeOf l) asked found,
+    )
+by-table l (Ask WriteImage) = (refl, refl, record { rest = _; is = refl }, λ e. tt)
+by-table l (Ask (WriteStateImage state)) = (refl, refl, record { rest = _; is = refl }, λ e. tt)
 
 pub granted : (l : Lent) (call : Call) → acceptedB (meaning l call .accepted .answer) ≡ true
 granted l call = by-table l call .0
@@ -106,6 +120,15 @@ tests-are l call = by-table l call .1
 
 pub begins : (l : Lent) (call : Call) → Begins l (testsStore call) (meaning l call .grounds)
 begins l call = by-table l call .2
+
+-- since when, of what a call answers
+pub within : (l : Lent) (call : Call) → Within (l .head .tip) (whenIn (saidBy (performed l call .answer)))
+within l call = go (checkOf (meaning l call)) refl
+  where
+    go : (c : Check) → checkOf (meaning l call) ≡ c
+        → Within (l .head .tip) (whenIn (saidBy (answered c (meaning l call .accepted .answer))))
+    go Passed e = by-table l call .3 e
+    go (Refused ground) e = tt
 
 -- a call by its tests
 module _ (made : Left) (l : Lent) where
@@ -122,8 +145,8 @@ module _ (made : Left) (l : Lent) where
 
   no-number : (answer : Answer) → acceptedB answer ≡ true → groundIn (saidBy answer) ≡ 0
   no-number Done y = refl
-  no-number (Price p) y = refl
-  no-number NoPrice y = refl
+  no-number (Price p since) y = refl
+  no-number (NoPrice since) y = refl
   no-number (Count n) y = refl
   no-number (Away ground) y = absurd (let z : _≡_ {A = ℕ} 0 1 = cc in omega arith)
 

@@ -1,5 +1,5 @@
--- What a C program reads by position and by number: the words of a head and of a tally, the callers and the codes
--- (include/cechnuol.h).
+-- What a C program reads by position and by number: the words of a head and of a tally, the callers, the codes, and a lookup's words for
+-- the price and for since when (include/cechnuol.h).
 -- Assumes nothing.
 use mathlib.Core.Path.{_≡_}
 use mathlib.Core.List.{[], _∷_, map}
@@ -7,11 +7,11 @@ use Prim.Native.Nat.{ℕ, _≤_}
 use lib.ListN.{length, getD}
 use Rattle.answers.specs.declared.call.Caller.the-variants.{Desk, Foyer}
 use Rattle.answers.specs.declared.tally.Tally.{Tally}
-use Rattle.answers.specs.Answers.{accepted, refused, without}
+use Rattle.answers.specs.Answers.{When, byStep, byBook, accepted, refused, priced, without}
 use Rattle.layout.specs.declared.head.Head.{Head}
 use Rattle.head_words.specs.HeadWords.{wordsOf, wordOf, from, Fits}
 use Rattle.lent.specs.Callers.{callerOf}
-use Rattle.lent.specs.Codes.{codeOf}
+use Rattle.lent.specs.Codes.{codeOf, valueOf, sinceOf}
 use Rattle.lent.specs.Lent.{tallyWords}
 
 pub record CLayout : Type 0 where
@@ -32,4 +32,12 @@ pub record CLayout : Type 0 where
   -- the codes
   pub code-accepted : (n : ℕ) → codeOf (accepted n) ≡ 0
   pub code-refused : (n : ℕ) → codeOf (refused n) ≡ n
-  pub code-no-price : codeOf without ≡ 100
+  pub code-priced : (p : ℕ) (since : When) → codeOf (priced p since) ≡ 0
+  pub code-no-price : (since : When) → codeOf (without since) ≡ 100
+  -- the words for a price and for since when: both where there is a price, since when alone where there is none, neither on a refusal; a
+  -- state as its number, and 2^32 where the table answered
+  pub price-told : (p old : ℕ) (since : When) → valueOf (priced p since) old ≡ p
+  pub price-kept : (old : ℕ) (since : When) → valueOf (without since) old ≡ old
+  pub since-told : (p n old : ℕ) → (sinceOf (priced p (byStep n)) old ≡ n) × (sinceOf (without (byStep n)) old ≡ n)
+  pub since-table : (p old : ℕ) → (sinceOf (priced p byBook) old ≡ 4294967296) × (sinceOf (without byBook) old ≡ 4294967296)
+  pub refusal-kept : (n old : ℕ) → (valueOf (refused n) old ≡ old) × (sinceOf (refused n) old ≡ old)

@@ -20,12 +20,14 @@ use Rattle.moments.specs.Batches.{batches as batchTable}
 use Rattle.moments.specs.Callers.{deskAndFoyer}
 use Rattle.moments.specs.Images.{imagesOfStates}
 use Rattle.moments.specs.Moments.{computed, expected}
+use Rattle.moments.specs.Since.{sinceWhen}
 use Rattle.moments.specs.Table.{twelve}
 use Rattle.conditions.specs.Batches.{Batches}
 use Rattle.conditions.specs.CCalls.{Memory, carriedIn, Result, CallOfC, AsServed}
 use Rattle.conditions.specs.CLayout.{CLayout}
 use Rattle.conditions.specs.Images.{Images}
 use Rattle.conditions.specs.Laws.{Laws}
+use Rattle.conditions.specs.Lookups.{Lookups}
 use Rattle.conditions.specs.Runs.{lending}
 use Rattle.conditions.specs.Serving.{Seen, CallOfServe, handed, Untouched, Of64Bits}
 use Rattle.conditions.specs.Tallies.{Tallies}
@@ -40,6 +42,8 @@ pub record Condition2 : Type 0 where
   -- "every image written loads, into a book that holds it, as the same map and state number, and every image accepted is written back
   -- byte for byte"
   pub images : Images
+  -- lookups: the price at the state named, or none, and since when
+  pub lookups : Lookups
   -- "A flush to the anchor changes nothing.", of a head whose arrays have their lengths and a tally of 64 bits, as their types have them
   pub flush-to-the-anchor : (k : Carried) (words bytes : List ℕ) (s : Seen) → Shaped (k .head) → Of64Bits (k .tally)
       → let flush = lending (Step (Flush (k .head .checkpoint))) words bytes in
@@ -54,7 +58,9 @@ pub record Condition2 : Type 0 where
   pub c-layout : CLayout
   -- document 01's "Twelve moments at the counter", moment 10 as document 02 has it, by the definitions and by the table
   pub moments : map computed twelve ≡ map expected twelve
-  -- and tables of what document 02 brought, desk and foyer and the images of states, and of batches, sixteenths to the nearest unit first
+  -- and tables of what document 02 brought, desk and foyer and the images of states, of batches, sixteenths to the nearest unit first, and
+  -- of lookups with since when
   pub desk-and-foyer : map computed deskAndFoyer ≡ map expected deskAndFoyer
   pub images-of-states : map computed imagesOfStates ≡ map expected imagesOfStates
   pub batch-table : map computed batchTable ≡ map expected batchTable
+  pub since-when : map computed sinceWhen ≡ map expected sinceWhen

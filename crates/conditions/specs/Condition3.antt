@@ -15,14 +15,17 @@ use mathlib.Core.List.{List, [], _∷_, _++_}
 use Prim.Native.Nat.{ℕ}
 use lib.ListN.{length}
 use mathlib.Core.Bool.{true, cond}
-use Rattle.answers.specs.Answers.{saidBy}
+use Rattle.answers.specs.Answers.{When, priced as pricedBy, without, saidBy}
+use Rattle.answers.specs.declared.call.LookUp.{LookUp as Lookup}
+use Rattle.answers.specs.declared.call.Query.the-variants.{LookUp}
 use Rattle.layout.specs.Clauses.{lengthsB}
 use Rattle.lent.specs.Codes.{codeOf}
 use Rattle.views.specs.View.{Limits}
 use Rattle.unit.specs.Carried.{Carried, Asked}
 use Rattle.answers.specs.declared.call.Caller.{Caller}
-use Rattle.history.specs.Named.{Named, Call, Response, Quote, quote, calling, lookUp, issue, forward, release, flush}
-use Rattle.history.specs.Named.{compared, acceptedB, acceptedCalls, quotes}
+use Rattle.history.specs.Named.{Named, ask, Call, Response, Quote, priced, unpriced, quote, dated, responseTo}
+use Rattle.history.specs.Named.{calling, lookUp, issue, forward, release, flush}
+use Rattle.history.specs.Named.{compared, acceptedB, acceptedCalls, quoteIn, quotes}
 use Rattle.history.specs.Plain.{loadChecked, loadedPlain}
 use Rattle.history.specs.Traces.{Asked as AskedIn3, plainResponses}
 use Rattle.conditions.specs.CCalls.{Memory, Result, CallOfC, CallOnStoreC, memoryAfter, tellsC, CLoads, lengthsC}
@@ -33,7 +36,7 @@ use Rattle.conditions.specs.Serving.{Seen, CallOfServe, CallOnStore, han
 module _ {M S : Type 0} (Does : M → Asked → S → Type 0) (left : S → M) (tells : Named → S → Response)
     (Loads : M → List ℕ → S → Type 0) (lengths : M → Limits) where
   -- "Then in each store each call is accepted exactly when the plain list .. accepts it, and else refused by the same number", with
-  -- each read set, image, price and forwarded read
+  -- each read set, image, price, since when and forwarded read
   abbrev pub AnswersAsPlain : Type 0
   AnswersAsPlain =
       (m : M) (image : List ℕ) (load : S) (turns : List (Turn AskedIn3 S))
@@ -59,10 +62,17 @@ pub record Condition3 : Type 0 where
       × (compared (forward a slot n) ≡ compared (forward b slot n))
       × (compared (release a slot) ≡ compared (release b slot))
   pub flushes-apart : (n : ℕ) → compared (flush n) ≡ []
-  -- of the calls of a run just those count that were accepted, and of its answers every price, or none, and every forwarded read
+  -- a lookup's response has the price or none, and since when: the number is compared with the plain list's;
+  pub lookups-respond : (asked : Lookup) (p : ℕ) (since : When) (words bytes : List ℕ)
+      → (responseTo (ask (LookUp asked)) (pricedBy p since) words bytes ≡ dated (priced p) since)
+      × (responseTo (ask (LookUp asked)) (without since) words bytes ≡ dated unpriced since)
+  -- of the calls of a run just those count that were accepted, and of its answers every price, or none, and every forwarded read; of a
+  -- lookup since when is left out: "Two stores with different flushes may differ in this number; prices still agree."
   pub accepted-count : (c : Call) (calls : List Call) (r : Response) (responses : List Response)
       → acceptedCalls (c ∷ calls) (r ∷ responses) ≡ cond (acceptedB r) (compared c) [] ++ acceptedCalls calls responses
-  pub quotes-count : (q : Quote) (responses : List Response) → quotes (quote q ∷ responses) ≡ quote q ∷ quotes responses
+  pub quotes-count : (r : Response) (responses : List Response) → quotes (r ∷ responses) ≡ quoteIn r ++ quotes responses
+  pub forwards-count : (q : Quote) → quoteIn (quote q) ≡ q ∷ []
+  pub lookups-count : (q : Quote) (since : When) → quoteIn (dated q since) ≡ q ∷ []
   -- a load into memory of lengths in range is accepted exactly when the plain list accepts it, and else refused by the same number
   pub serve-loads-as-plain : (k : Carried) (words image : List ℕ) (s : Seen)
       → lengthsB (length (k .table)) (length (k .journal)) ≡ true → CallOfServe k (loading words image) s

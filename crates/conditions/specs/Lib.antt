@@ -6,6 +6,7 @@ pub mod CCalls
 pub mod CLayout
 pub mod Laws
 pub mod Images
+pub mod Lookups
 pub mod Batches
 pub mod Tallies
 pub mod Condition1

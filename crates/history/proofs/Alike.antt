@@ -5,18 +5,20 @@ use mathlib.Core.Path.{_≡_, refl, sym, ap, ap₂, _∙_}
 use mathlib.Core.List.{List, [], _∷_, map}
 use Prim.Native.Nat.{ℕ, zero, suc}
 use lib.ListN.{getD, set, List·getD-map}
-use Rattle.entry.specs.Word.{offerOf}
+use Rattle.entry.specs.Word.{offerOf, priceOf}
 use Rattle.changes.specs.declared.search.Found.{Found}
 use Rattle.changes.specs.declared.search.Found.the-variants.{Word, Nothing}
 use Rattle.changes.specs.Calculus.{find}
 use Rattle.views.specs.View.{Limits}
+use Rattle.answers.specs.Answers.{When}
 use Rattle.answers.specs.declared.call.LookUp.{LookUp as Asked}
 use Rattle.answers.specs.declared.call.Query.the-variants.{LookUp, WriteImage, WriteStateImage}
 use Rattle.answers.specs.declared.call.Read.the-variants.{Issue, Forward, Release}
 use Rattle.answers.specs.declared.call.Step.the-variants.{Commit, RollBack, Flush}
-use Rattle.history.specs.Named.{Named, step, read, ask, Call, calling, Response, done, forwarded, acceptedCalls, quotes}
+use Rattle.history.specs.Named.{Named, step, read, ask, Call, calling, priced, unpriced, brought, Response}
+use Rattle.history.specs.Named.{done, forwarded, acceptedCalls, quotes}
 use Rattle.history.specs.Plain.{Verdict, accept, refuse, responseBy, leftBy, Line, Place, closed, reading, Plain, mapAt}
-use Rattle.history.specs.Plain.{shown, quoted, offersIn, grown, cutAbove, withPlace, checked, stepped, answerTo, givenBy}
+use Rattle.history.specs.Plain.{shown, quoted, sinceAt, offersIn, grown, cutAbove, withPlace, checked, stepped, answerTo, givenBy}
 use Rattle.history.specs.Plain.{given, changedBy, changed, loadedPlain}
 use Rattle.history.specs.Traces.{plainResponses}
 
@@ -84,11 +86,12 @@ module _ (calls : List Call) (rest : (q : Plain) → Told q calls (plainResponse
       ∙ ap (λ (s : Sketch). quotes (again s (acceptedCalls calls (plainResponses (withPlace p slot x) calls)))) (sketch-set p slot x)
 
   -- a lookup quotes a price or none, and leaves the sketch
-  looked : (p : Plain) (asked : Asked) (list bytes : List ℕ) (f : Found) → find (asked .offer) (mapAt (p .line) (asked .state)) ≡ f
-      → Told p (calling (ask (LookUp asked)) list bytes ∷ calls) (quoted f ∷ plainResponses p calls)
+  looked : (p : Plain) (asked : Asked) (list bytes : List ℕ) (since : When) (f : Found)
+      → find (asked .offer) (mapAt (p .line) (asked .state)) ≡ f
+      → Told p (calling (ask (LookUp asked)) list bytes ∷ calls) (quoted f since ∷ plainResponses p calls)
   unfolding quotes acceptedCalls again
-  looked p asked list bytes (Word w) e = rw e (ap (_∷_ (quoted (Word w))) (rest p))
-  looked p asked list bytes Nothing e = rw e (ap (_∷_ (quoted Nothing)) (rest p))
+  looked p asked list bytes since (Word w) e = rw e (ap (_∷_ (priced (priceOf w))) (rest p))
+  looked p asked list bytes since Nothing e = rw e (ap (_∷_ unpriced) (rest p))
 
   -- an accepted call leaves the sketch that its name does, and quotes what its name tells; a flush has no name and leaves it
   accepted : (p : Plain) (named : Named) (list bytes : List ℕ)
@@ -100,11 +103,12 @@ module _ (calls : List Call) (rest : (q : Plain) → Told q calls (plainResponse
   accepted p (read (Issue reader)) list bytes = after-set p (reader .slot) (reading (p .checkpoint) (map offerOf list))
   accepted p (read (Forward reader state)) list bytes =
       ap₂ _∷_
-      (ap (λ (offers : List ℕ). forwarded (shown (mapAt (p .line) state) offers))
+      (ap (λ (offers : List ℕ). brought (shown (mapAt (p .line) state) offers))
       (sym (List·getD-map offersIn (p .places) (reader .slot) closed)))
       (after-set p (reader .slot) closed)
   accepted p (read (Release reader)) list bytes = after-set p (reader .slot) closed
-  accepted p (ask (LookUp asked)) list bytes = looked p asked list bytes (find (asked .offer) (mapAt (p .line) (asked .state))) refl
+  accepted p (ask (LookUp asked)) list bytes =
+      looked p asked list bytes (sinceAt p (asked .offer) (asked .state)) (find (asked .offer) (mapAt (p .line) (asked .state))) refl
   accepted p (ask WriteImage) list bytes = rest p
   accepted p (ask (WriteStateImage state)) list bytes = rest p
 

@@ -3,7 +3,7 @@
 use mathlib.Core.Path.{_≡_, refl, sym, ap, ap₂, subst, _∙_}
 use mathlib.Core.Bool.{Bool, true, false, not, _&&_}
 use mathlib.Core.List.{List, [], _∷_, _++_, map}
-use Prim.Native.Nat.{ℕ, _+_, _^_, _≤_}
+use Prim.Native.Nat.{ℕ, suc, _+_, _-_, _^_, _≤_}
 use native.Mathlib.Omega.{arith}
 use borrow.Author.Tests.{le-leb}
 use lib.Dec.{ltb, leb}
@@ -22,29 +22,35 @@ use Rattle.answers.specs.declared.call.LookUp.{LookUp as Asked}
 use Rattle.answers.specs.declared.call.Query.the-variants.{LookUp}
 use Rattle.answers.specs.declared.call.Read.the-variants.{Issue, Forward, Release}
 use Rattle.answers.specs.declared.call.Reader.{Reader}
-use Rattle.answers.specs.Answers.{saidBy}
+use Rattle.answers.specs.Answers.{When, byStep, saidBySince, saidBy}
 use Rattle.answers.specs.declared.answer.Check.the-variants.{Passed}
-use Rattle.layout.specs.States.{mapHere}
+use Rattle.answers.specs.declared.answer.Since.{Since}
+use Rattle.layout.specs.States.{stepsBetween, mapHere}
 use Rattle.views.specs.Trim.{trimmed}
 use Rattle.views.specs.View.{Store, View, closed as closedSlot, holding, issuedOf, encode, decode, Good, mapAt as viewMapAt}
 use Rattle.forwards.specs.Forward.{forwardCheck, stepsFor}
 use Rattle.issues.specs.Issue.{issueCheck}
-use Rattle.lookups.specs.LookUp.{lookUpCheck, quoteOf}
+use Rattle.last_changes.specs.declared.Last.{Last}
+use Rattle.last_changes.specs.declared.Last.the-variants.{Word as Last-Word, Nothing as Last-Nothing}
+use Rattle.last_changes.specs.Last.{onward, lastIn}
+use Rattle.lookups.specs.LookUp.{lookUpCheck, quoteOf, sinceOf, sinceHere}
 use Rattle.read_views.specs.OnView.{withSlot, between}
 use Rattle.releases.specs.Release.{releaseCheck}
 use Rattle.lookups.proofs.LookUpAccepted.{look-up-ok}
 use Rattle.issues.proofs.IssueAccepted.{issue-ok}
 use Rattle.forwards.proofs.ForwardAccepted.{ForwardOk, forward-ok}
 use Rattle.read_views.proofs.ClosingViews.{release-leaves, forward-leaves, forward-shows}
-use Rattle.read_views.proofs.OnViews.{look-up-shows, issue-leaves, issue-shows}
+use Rattle.read_views.proofs.OnViews.{look-up-shows, look-up-steps, issue-leaves, issue-shows}
 use Rattle.slots.specs.Callers.{mostWords}
 use Rattle.history.specs.Named.{read, ask, calling, Response, responseTo, Transition, done, filled, forwarded}
 use Rattle.history.specs.Traces.{storeTransition}
 use Rattle.history.specs.Plain.{Test, met, accept, firstOf, Line, Place, closed, reading, Plain, tipOf}
-use Rattle.history.specs.Plain.{mapAt, floorOf, listsBetween, shown, quoted, openB, openAt, offersIn}
+use Rattle.history.specs.Plain.{mapAt, floorOf, listsBetween, shown, quoted, namedAt, laterOr, lastNaming}
+use Rattle.history.specs.Plain.{sinceAt, openB, openAt, offersIn}
 use Rattle.history.specs.Plain.{offersAt, slotTests, longTests, stateTests, readTests, queryTests, checked, withPlace}
 use Rattle.history.proofs.Lines.{Whole, map-at, carried, between-changes, between-same, between-join}
-use Rattle.history.proofs.Views.{viewOf, Fit, slotOf, place-range, view-map, view-between, issue-view, close-view}
+use Rattle.history.proofs.Views.{viewOf, Fit, slotOf, place-range, view-since, view-map, view-between, issue-view}
+use Rattle.history.proofs.Views.{close-view}
 use Rattle.history.proofs.Views.{floor-same, floor-up}
 use Rattle.history.proofs.Stored.{storeOf, stored, verdictOf, verdict-of, accepted-done, transitionBy, settle, view-back}
 use Rattle.history.proofs.Stored.{store-shaped, past-two, checkpoint-is, tip-is, state-same, open-same}
@@ -132,10 +138,24 @@ no-six [] true c long long′ gs h = rw (h refl .0, h refl .1)
 no-six (met true n ∷ before) b c long long′ gs h = refl
 no-six (met false n ∷ before) b c long long′ gs h = no-six before b c long long′ gs h
 
-quote-same : (asked : Asked) (found : Found) (words bytes : List ℕ)
-    → responseTo (ask (LookUp asked)) (saidBy (quoteOf found)) words bytes ≡ quoted found
-quote-same asked (Word w) words bytes = refl
-quote-same asked Nothing words bytes = refl
+quote-same : (asked : Asked) (found : Found) (since : Since) (words bytes : List ℕ)
+    → responseTo (ask (LookUp asked)) (saidBy (quoteOf found since)) words bytes ≡ quoted found (saidBySince since)
+quote-same asked (Word w) since words bytes = refl
+quote-same asked Nothing since words bytes = refl
+
+-- the last step naming an offer, by how many steps lead up to it and by the state to which it leads
+onward-same : (from : ℕ) (last : Last) (found : Found)
+    → saidBySince (sinceOf from (onward last found)) ≡ laterOr (saidBySince (sinceOf (suc from) last)) (namedAt (suc from) found)
+onward-same from (Last-Word w n) found = ap byStep (omega arith)
+onward-same from Last-Nothing (Word w) = ap byStep (omega arith)
+onward-same from Last-Nothing Nothing = refl
+
+last-same : (offer from : ℕ) (lists : List (List ℕ)) → saidBySince (sinceOf from (lastIn offer lists)) ≡ lastNaming offer from lists
+unfolding lastIn lastNaming
+last-same offer from [] = refl
+last-same offer from (list ∷ lists) =
+    onward-same from (lastIn offer lists) (find offer list)
+    ∙ ap (λ (later : When). laterOr later (namedAt (suc from) (find offer list))) (last-same offer (suc from) lists)
 
 module _ (p : Plain) (f : Fit p) where
   abbrev T : List ℕ
@@ -162,15 +182,25 @@ module _ (p : Plain) (f : Fit p) where
         ∙ ap (λ (v : View). viewMapAt v (asked .state)) (view-back p f)
         ∙ view-map p f (asked .state) (omega (arith, checkpoint-is p f, ok .low)) (omega (arith, tip-is p f, ok .high))
 
+    since-there : lookUpCheck T J (s .head) asked ≡ Passed
+        → saidBySince (sinceHere J (s .head) asked) ≡ sinceAt p (asked .offer) (asked .state)
+    since-there e =
+        let ok = look-up-ok T J (s .head) asked e in
+        let lists : stepsBetween J (s .head) (s .head .checkpoint) (asked .state) ≡ listsBetween (p .line) (p .checkpoint) (asked .state) =
+        look-up-steps T J (s .head) asked e
+        ∙ ap₂ (λ (c : ℕ) (v : View). take (asked .state - c) (v .steps)) (checkpoint-is p f) (view-back p f)
+        ∙ view-since p f (asked .state) (omega (arith, checkpoint-is p f, ok .low)) (omega (arith, tip-is p f, ok .high)) in
+        ap₂ (λ (c : ℕ) (ds : List (List ℕ)). saidBySince (sinceOf c (lastIn (asked .offer) ds))) (checkpoint-is p f) lists
+        ∙ last-same (asked .offer) (p .checkpoint) (listsBetween (p .line) (p .checkpoint) (asked .state))
+
     pub look-up-agrees : (list bytes : List ℕ)
         → let call = calling (ask (LookUp asked)) list bytes in storeTransition s call list ≡ transitionBy p call (checked p call)
     look-up-agrees list bytes =
         settle p (calling (ask (LookUp asked)) list bytes) list look-up-checks
         (λ e.
         let respond : Response → Transition Store = λ r. record { response = r; next = s } in
-        let named = ask (LookUp asked) in
-        ap (λ (m : List ℕ). respond (responseTo named (saidBy (quoteOf (find (asked .offer) m))) list bytes)) (map-there e)
-        ∙ ap respond (quote-same asked (find (asked .offer) (mapAt (p .line) (asked .state))) list bytes))
+        ap respond (quote-same asked (find (asked .offer) (mapHere T J (s .head) (asked .state))) (sinceHere J (s .head) asked) list bytes)
+        ∙ ap₂ (λ (m : List ℕ) (since : When). respond (quoted (find (asked .offer) m) since)) (map-there e) (since-there e))
 
   -- issue
   module _ (reader : Reader) (list : List ℕ) where

@@ -119,11 +119,15 @@ module _ (p : Plain) (f : Fit p) where
   unfolding viewOf
   held-lists = between-join l floor c (tipOf l) (f .low) most (f .high) ∙ sym (between-all l floor (f .low) (omega (arith, most, f .high)))
 
-  -- the map of a state from the checkpoint on
+  -- the steps from the checkpoint to a state, and the map of that state
+  pub view-since : (s : ℕ) → c ≤ s → s ≤ tipOf l → take (s - c) (viewOf p .steps) ≡ listsBetween l c s
+  unfolding viewOf
+  view-since s h k = between-take l c s (tipOf l) h k
+
   pub view-map : (s : ℕ) → c ≤ s → s ≤ tipOf l → viewMapAt (viewOf p) s ≡ mapAt l s
   unfolding viewOf viewMapAt
   view-map s h k =
-      ap (λ (ds : List (List ℕ)). apply (mapAt l c) (composeAll ds)) (between-take l c s (tipOf l) h k)
+      ap (λ (ds : List (List ℕ)). apply (mapAt l c) (composeAll ds)) (view-since s h k)
       ∙ carried (f .whole) c s (omega (arith, f .low, most)) h k
 
   -- the held steps from a state on, also below the checkpoint

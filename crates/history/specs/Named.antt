@@ -14,7 +14,7 @@ use Rattle.answers.specs.declared.call.Read.{Read as ReadCall}
 use Rattle.answers.specs.declared.call.Read.the-variants.{Issue, Forward, Release}
 use Rattle.answers.specs.declared.call.Step.{Step as StepCall}
 use Rattle.answers.specs.declared.call.Step.the-variants.{Commit, RollBack, Flush}
-use Rattle.answers.specs.Answers.{Said, accepted, refused as refusedBy, without}
+use Rattle.answers.specs.Answers.{When, byBook, Said, accepted, refused as refusedBy, priced as pricedBy, without}
 use Rattle.slots.specs.Callers.{readerOf}
 
 -- the calls of condition 3 with their numbers: all but clear, load and restart
@@ -93,16 +93,18 @@ pub data Response : Type 0 where
   done : Response
   -- an issue: the list as it was filled
   filled : List ℕ → Response
-  -- a lookup or a forward
+  -- a forward: what it quotes
   quote : Quote → Response
+  -- a lookup: what it quotes, and since when
+  dated : Quote → When → Response
   -- any other query
   report : Report → Response
 
-abbrev pub price : ℕ → Response
-price p = quote (priced p)
+abbrev pub price : ℕ → When → Response
+price p since = dated (priced p) since
 
-abbrev pub noPrice : Response
-noPrice = quote unpriced
+abbrev pub noPrice : When → Response
+noPrice since = dated unpriced since
 
 abbrev pub forwarded : List ℕ → Response
 forwarded words = quote (brought words)
@@ -110,20 +112,22 @@ forwarded words = quote (brought words)
 abbrev pub written : ℕ → List ℕ → Response
 written count bytes = report (image count bytes)
 
--- an accepted call with its value, and the words and bytes that it leaves
-abbrev pub acceptedAs : Named → ℕ → List ℕ → List ℕ → Response
-acceptedAs (step call) value words bytes = done
-acceptedAs (read (Issue reader)) value words bytes = filled words
-acceptedAs (read (Forward reader state)) value words bytes = forwarded words
-acceptedAs (read (Release reader)) value words bytes = done
-acceptedAs (ask (LookUp asked)) value words bytes = price value
-acceptedAs (ask WriteImage) value words bytes = written value bytes
-acceptedAs (ask (WriteStateImage state)) value words bytes = written value bytes
+-- an accepted call with its value, with since when if it is a lookup, and the words and bytes that it leaves
+abbrev pub acceptedAs : Named → ℕ → When → List ℕ → List ℕ → Response
+acceptedAs (step call) value since words bytes = done
+acceptedAs (read (Issue reader)) value since words bytes = filled words
+acceptedAs (read (Forward reader state)) value since words bytes = forwarded words
+acceptedAs (read (Release reader)) value since words bytes = done
+acceptedAs (ask (LookUp asked)) value since words bytes = price value since
+acceptedAs (ask WriteImage) value since words bytes = written value bytes
+acceptedAs (ask (WriteStateImage state)) value since words bytes = written value bytes
 
+-- a lookup says since when (`pricedBy`, `without`), and no other call does
 abbrev pub responseTo : Named → Said → List ℕ → List ℕ → Response
-responseTo named (accepted value) words bytes = acceptedAs named value words bytes
+responseTo named (accepted value) words bytes = acceptedAs named value byBook words bytes
 responseTo named (refusedBy n) words bytes = refused n
-responseTo named without words bytes = noPrice
+responseTo named (pricedBy value since) words bytes = acceptedAs named value since words bytes
+responseTo named (without since) words bytes = noPrice since
 
 -- what a call answers and leaves
 pub record Transition (S : Type 0) : Type 0 where
@@ -135,6 +139,7 @@ acceptedB (refused n) = false
 acceptedB done = true
 acceptedB (filled l) = true
 acceptedB (quote q) = true
+acceptedB (dated q since) = true
 acceptedB (report r) = true
 
 -- the list among a call's arguments
@@ -185,11 +190,17 @@ acceptedCalls [] responses = []
 acceptedCalls (c ∷ calls) [] = []
 acceptedCalls (c ∷ calls) (r ∷ responses) = cond (acceptedB r) (compared c) [] ++ acceptedCalls calls responses
 
+-- what of a response two stores must have alike. "Two stores with different flushes may differ in this number; prices still agree": of a
+-- lookup since when is left out.
+abbrev pub quoteIn : Response → List Quote
+quoteIn (refused n) = []
+quoteIn done = []
+quoteIn (filled l) = []
+quoteIn (quote q) = q ∷ []
+quoteIn (dated q since) = q ∷ []
+quoteIn (report r) = []
+
 -- the prices of the lookups and the forwarded reads, in their order
-unfoldable pub quotes : List Response → List Response
+unfoldable pub quotes : List Response → List Quote
 quotes [] = []
-quotes (refused n ∷ responses) = quotes responses
-quotes (done ∷ responses) = quotes responses
-quotes (filled l ∷ responses) = quotes responses
-quotes (quote q ∷ responses) = quote q ∷ quotes responses
-quotes (report r ∷ responses) = quotes responses
+quotes (r ∷ responses) = quoteIn r ++ quotes responses

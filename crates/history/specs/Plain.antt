@@ -1,11 +1,11 @@
 -- The plain list of whole maps (document 01, "The plain list"): what the calls mean, with no memory and no head.
--- It shares with the unit the entry word, the rules of a list, search and application, and the form of an image; what holds of
--- these is in changes/proofs/Laws.antt and image/proofs/Theorems.antt. It shares what a caller has, which stands in one place
+-- It shares with the unit the entry word, the rules of a list, search and application, the form of an image, and how since when is said;
+-- what holds of these is in changes/proofs/Laws.antt and image/proofs/Theorems.antt. It shares what a caller has, which stands in one place
 -- (slots/specs/Callers.antt). The numbers of the grounds are its own.
 -- Assumes nothing.
 use mathlib.Core.Bool.{Bool, true, false, not}
 use mathlib.Core.List.{List, [], _∷_, _++_, map}
-use Prim.Native.Nat.{ℕ, _+_, _-_, _^_, min}
+use Prim.Native.Nat.{ℕ, suc, _+_, _-_, _^_, min}
 use lib.Dec.{eqb, ltb, leb}
 use lib.ListN.{length, take, drop, getD, set, replicate}
 use Rattle.entry.specs.Word.{offerOf, priceOf, noneOf}
@@ -17,6 +17,7 @@ use Rattle.changes.specs.ReadSets.{foundOr}
 use Rattle.image.specs.Image.{imageB, numberIn, wordsIn, imageOf}
 use Rattle.views.specs.View.{Limits, flat}
 use Rattle.slots.specs.Callers.{hasB, mostWords}
+use Rattle.answers.specs.Answers.{When, byStep, byBook}
 use Rattle.answers.specs.declared.call.Query.{Query}
 use Rattle.answers.specs.declared.call.Query.the-variants.{LookUp, WriteImage, WriteStateImage}
 use Rattle.answers.specs.declared.call.Read.{Read as ReadCall}
@@ -104,10 +105,28 @@ listsBetween line from to = take (to - from) (drop (from - line .start) (line .l
 abbrev pub shown : List ℕ → List ℕ → List ℕ
 shown m = map (λ offer. foundOr (find offer m) (noneOf offer))
 
--- the price of an offer in a map, or none
-abbrev pub quoted : Found → Response
-quoted (Word w) = price (priceOf w)
-quoted Nothing = noPrice
+-- the price of an offer in a map, or none, and since when
+abbrev pub quoted : Found → When → Response
+quoted (Word w) since = price (priceOf w) since
+quoted Nothing since = noPrice since
+
+-- a list names an offer by a word of either kind: then the state to which it leads
+abbrev pub namedAt : ℕ → Found → When
+namedAt state (Word w) = byStep state
+namedAt state Nothing = byBook
+
+abbrev pub laterOr : When → When → When
+laterOr (byStep state) earlier = byStep state
+laterOr byBook earlier = earlier
+
+-- "the state to which the last step naming the offer leads", of lists that lead on from a state, "or, if none did, that the book answered"
+unfoldable pub lastNaming : ℕ → ℕ → List (List ℕ) → When
+lastNaming offer from [] = byBook
+lastNaming offer from (list ∷ lists) = laterOr (lastNaming offer (suc from) lists) (namedAt (suc from) (find offer list))
+
+-- "searched among the steps above the anchor and up to the state named"
+abbrev pub sinceAt : Plain → ℕ → ℕ → When
+sinceAt p offer state = lastNaming offer (p .checkpoint) (listsBetween (p .line) (p .checkpoint) state)
 
 abbrev pub openB : Place → Bool
 openB closed = false
@@ -182,10 +201,10 @@ module _ (p : Plain) where
 
   -- a query changes nothing: its grounds, and what it gives where it is accepted
   abbrev pub asking : Query → List ℕ → Asking
-  -- "A lookup reads the map of the state named."
+  -- "A lookup reads the map of the state named.", and says since when from the lists above the anchor that lead to that state
   asking (LookUp asked) bytes = record {
     tests = met (leb (2 ^ 31) (asked .offer)) 6 ∷ stateTests p (asked .state);
-    gives = quoted (find (asked .offer) (mapAt (p .line) (asked .state)));
+    gives = quoted (find (asked .offer) (mapAt (p .line) (asked .state))) (sinceAt p (asked .offer) (asked .state));
   }
   -- "With no state named, the tip is now written instead of the anchor."
   asking WriteImage bytes = writing [] (tipOf (p .line)) bytes

@@ -8,11 +8,12 @@ use lib.ListN.{length, getD, set, replicate}
 use Rattle.answers.specs.declared.call.Call.the-variants.{Reset}
 use Rattle.answers.specs.declared.call.Read.the-variants.{Issue, Forward, Release}
 use Rattle.answers.specs.declared.call.Reset.the-variants.{Load}
-use Rattle.answers.specs.Answers.{Said, accepted, refused as refusedBy, without, saidBy}
+use Rattle.answers.specs.Answers.{Said, accepted, refused as refusedBy, priced, without, saidBy}
 use Rattle.views.specs.View.{Store, Limits}
 use Rattle.calls.specs.Lent.{Lent, lent, Left}
 use Rattle.calls.specs.Meaning.{performed}
-use Rattle.history.specs.Named.{Named, step, read, ask, unitCall, Call, Response, refused, done, noPrice, filled, quote, report}
+use Rattle.history.specs.Named.{Named, step, read, ask, unitCall, Call, Response, refused, done, price}
+use Rattle.history.specs.Named.{noPrice, filled, quote, dated, report}
 use Rattle.history.specs.Named.{responseTo, Transition, acceptedB}
 use Rattle.history.specs.Plain.{Plain, plainTransition}
 
@@ -48,6 +49,7 @@ openedBy (filled l) sets slot = set sets slot (holds l)
 openedBy (refused n) sets slot = sets
 openedBy done sets slot = sets
 openedBy (quote q) sets slot = sets
+openedBy (dated q since) sets slot = sets
 openedBy (report r) sets slot = sets
 
 abbrev pub readSetsAfter : List ReadSet → Named → Response → List ReadSet
@@ -95,7 +97,8 @@ pub record Answers : Type 0 where
 abbrev pub afterLoad : Said → List Response → Answers
 afterLoad (accepted value) responses = record { load = done; responses = responses }
 afterLoad (refusedBy n) responses = record { load = refused n; responses = [] }
-afterLoad without responses = record { load = noPrice; responses = [] }
+afterLoad (priced p since) responses = record { load = price p since; responses = [] }
+afterLoad (without since) responses = record { load = noPrice since; responses = [] }
 
 -- a load into lent memory that holds anything, and then the calls
 abbrev pub loaded : Store → List ℕ → Left

@@ -18,11 +18,18 @@ ghost use Rattle.changes.specs.ReadSets.{foundOr, over};
 ghost use Rattle.changes.specs.Runs.{stepOf, runOf, Marked};
 ghost use Rattle.lists.specs.Searches.{Finds};
 ghost use Rattle.last_changes.specs.Filter.{Noted};
+ghost use Rattle.last_changes.specs.Last.{lastIn, wordIn, LastIs};
 ghost use Rattle.last_changes.specs.Steps.{Rising};
 
 // The searches up to which a read set is brought forward without a filter. Measured: up to 16 are quicker than a filter of CELLS
 // cells, whatever the steps hold, and 32 are not always.
 const FEW_SEARCHES: usize = 16;
+
+// The last change of an offer among some steps: its word, and how many of the steps lead up to it, its own included.
+pub enum Last {
+    Word(u64, usize),
+    Nothing,
+}
 
 // The word of one step at the offer.
 fn find_in_step(journal: &[u64], ends: &[u16], step: usize, offer: u32) -> Found
@@ -35,20 +42,21 @@ fn find_in_step(journal: &[u64], ends: &[u16], step: usize, offer: u32) -> Found
 }
 
 // The last change of the offer among the steps from `from` up to `to`, exclusive, sought from the newest back.
-pub fn last_change(journal: &[u64], ends: &[u16], from: usize, to: usize, offer: u32) -> Found
+pub fn last_change(journal: &[u64], ends: &[u16], from: usize, to: usize, offer: u32) -> Last
     requires { ⌜ Rising (now journal) (now ends) from to ⌝ }
-    ensures { λ r. ⌜ Finds r (found offer (composeAll (runOf (now (journal .entry)) (now (ends .entry)) from (to - from)))) ⌝ }
+    ensures { λ r. ⌜ Finds (wordIn r) (found offer (composeAll (runOf (now (journal .entry)) (now (ends .entry)) from (to - from))))
+        × LastIs r (lastIn offer (runOf (now (journal .entry)) (now (ends .entry)) from (to - from))) ⌝ }
 {
     let mut k = to;
     while from < k {
         let step = k - 1;
         let found = find_in_step(journal, ends, step, offer);
-        let Found::Nothing = found else {
-            return found;
-        };
+        if let Found::Word(word) = found {
+            return Last::Word(word, k - from);
+        }
         k = step;
     }
-    Found::Nothing
+    Last::Nothing
 }
 
 // The last change of the word's offer among the steps, or the word itself.
@@ -58,8 +66,8 @@ fn changed_word(word: u64, journal: &[u64], ends: &[u16], from: usize, to: usize
         (found (offerOf word) (composeAll (runOf (now (journal .entry)) (now (ends .entry)) from (to - from)))) word ⌝ }
 {
     match last_change(journal, ends, from, to, Entry::offer_of(word)) {
-        Found::Word(later) => later,
-        Found::Nothing => word,
+        Last::Word(later, _) => later,
+        Last::Nothing => word,
     }
 }
 

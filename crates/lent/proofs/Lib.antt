@@ -1,3 +1,3 @@
 pub mod Choices
 pub mod TallyWords
-mod Coded
+pub mod Coded

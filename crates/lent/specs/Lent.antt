@@ -21,7 +21,7 @@ use Rattle.calls.specs.Lent.{Left, lent}
 use Rattle.calls.specs.Meaning.{performed}
 use Rattle.unit.specs.Serve.{tallyOn}
 use Rattle.head_words.specs.HeadWords.{headOf, wordsOf, headB}
-use Rattle.lent.specs.Codes.{codeOf, valueOf}
+use Rattle.lent.specs.Codes.{codeOf, valueOf, sinceOf}
 
 -- "The store isn't sound (clear and load don't test this)."
 abbrev pub resetTests : ResetCall → Bool
@@ -114,6 +114,10 @@ module _ (table journal words bytes head : List ℕ) (query : Query) where
   abbrev pub Asks : Answer → List ℕ → List ℕ → Type 0
   Asks answer words' bytes' = Gives answer answerToQuery × (words' ≡ wordsWritten) × (bytes' ≡ bytesWritten)
 
-  -- The promise of its function for C: its code, and its value in the word that is lent for it.
+  -- The promise of its function for C: its code, and its value in the word that is lent for it;
   abbrev pub Tells : ℕ → ℕ → ℕ → Type 0
   Tells code value old = (code ≡ codeOf (saidBy answerToQuery)) × (value ≡ valueOf (saidBy answerToQuery) old)
+
+  -- and since when, in a word of its own, of a lookup.
+  abbrev pub TellsSince : ℕ → ℕ → Type 0
+  TellsSince since old = since ≡ sinceOf (saidBy answerToQuery) old

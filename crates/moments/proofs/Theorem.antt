@@ -24,32 +24,34 @@ use Rattle.commits.specs.Commit.{withStep}
 use Rattle.flushes.specs.Flush.{flushedHead}
 use Rattle.rollbacks.specs.RollBack.{cutTo}
 use Rattle.slots.specs.Slots.{opened, closedAt}
+use Rattle.last_changes.specs.Last.{lastIn}
 use Rattle.history.specs.Traces.{storeResponses}
 use Rattle.moments.specs.Batches.{batches}
 use Rattle.moments.specs.Callers.{asking, putting, deskAndFoyer}
 use Rattle.moments.specs.Images.{imagesOfStates}
 use Rattle.moments.specs.Moments.{computed, expected}
+use Rattle.moments.specs.Since.{sinceWhen}
 use Rattle.moments.specs.Table.{twelve}
 
 pub moments-follow : map computed twelve ≡ map expected twelve
 unfolding find compose puts apply composeAll risingB mapB readOf over runOf first sixteenths putAt withPrice effect
     kindNamed allowedB checked batch execute priced readB allOrdersB bytesOf valueOf wordBytes imageOf wordsOf numberIn
     countIn wordsIn imageB soundB allB allOf zerosB least trimmedHead trimmedJournal freshHead withStep flushedHead cutTo
-    noPutB opened closedAt storeResponses imageHere imageSize twelve
+    noPutB opened closedAt storeResponses imageHere imageSize lastIn twelve
 moments-follow = refl
 
 -- and what document 02 says of desk and foyer
 pub callers-follow : map computed deskAndFoyer ≡ map expected deskAndFoyer
 unfolding find compose puts apply composeAll risingB mapB readOf over runOf first bytesOf valueOf wordBytes imageOf wordsOf
     numberIn countIn wordsIn imageB soundB allB allOf zerosB least trimmedHead trimmedJournal freshHead noPutB opened closedAt
-    storeResponses asking putting deskAndFoyer
+    storeResponses lastIn asking putting deskAndFoyer
 callers-follow = refl
 
 -- and of images and restarts
 pub images-follow : map computed imagesOfStates ≡ map expected imagesOfStates
 unfolding find compose puts apply composeAll risingB mapB noPutB readOf over runOf first bytesOf valueOf wordBytes imageOf wordsOf
     numberIn countIn wordsIn imageB soundB allB allOf zerosB least trimmedHead trimmedJournal freshHead withStep flushedHead opened
-    closedAt imageHere imageSize storeResponses imagesOfStates
+    closedAt imageHere imageSize storeResponses lastIn imagesOfStates
 images-follow = refl
 
 -- and of sixteenths, with what document 01 says of the other orders
@@ -57,3 +59,10 @@ pub batches-follow : map computed batches ≡ map expected batches
 unfolding find compose puts risingB readOf over first sixteenths putAt withPrice effect kindNamed allowedB checked batch execute priced
     readB allOrdersB batches
 batches-follow = refl
+
+-- and of lookups with since when
+pub since-follows : map computed sinceWhen ≡ map expected sinceWhen
+unfolding find compose puts apply composeAll risingB mapB noPutB readOf over runOf first bytesOf valueOf wordBytes imageOf wordsOf
+    numberIn countIn wordsIn imageB soundB allB allOf zerosB least trimmedHead trimmedJournal freshHead withStep flushedHead cutTo opened
+    closedAt imageHere imageSize storeResponses lastIn sinceWhen
+since-follows = refl

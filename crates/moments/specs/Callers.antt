@@ -5,6 +5,7 @@ use mathlib.Core.List.{List, [], _∷_, _++_}
 use Prim.Native.Nat.{ℕ, zero, suc, _+_}
 use Rattle.entry.specs.Word.{putOf, noneOf}
 use Rattle.answers.specs.declared.call.Caller.the-variants.{Desk, Foyer}
+use Rattle.answers.specs.Answers.{byBook}
 use Rattle.history.specs.Named.{lookUp, issue, forward, release, refused, done, price, filled, forwarded}
 use Rattle.moments.specs.Moments.{loaded, _⇒_, Moment, calls}
 use Rattle.moments.specs.Table.{book}
@@ -47,8 +48,8 @@ deskAndFoyer =
     ∷ release Foyer 7 ⇒ refused 5
     ∷ forward Foyer 6 9 ⇒ refused 11
     -- "Lookups are open to both."
-    ∷ lookUp Desk 5 0 ⇒ price 1200
-    ∷ lookUp Foyer 5 0 ⇒ price 1200
+    ∷ lookUp Desk 5 0 ⇒ price 1200 byBook
+    ∷ lookUp Foyer 5 0 ⇒ price 1200 byBook
     -- what was refused left both places open
     ∷ forward Foyer 6 0 ⇒ forwarded (showing 10)
     ∷ forward Desk 5 0 ⇒ forwarded (showing 58)

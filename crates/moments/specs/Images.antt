@@ -6,7 +6,7 @@ use Prim.Native.Nat.{ℕ}
 use lib.ListN.{replicate}
 use Rattle.entry.specs.Word.{putOf, noneOf}
 use Rattle.answers.specs.declared.call.Caller.the-variants.{Desk}
-use Rattle.answers.specs.Answers.{accepted, refused as refusedBy}
+use Rattle.answers.specs.Answers.{byStep, byBook, accepted, refused as refusedBy}
 use Rattle.history.specs.Named.{lookUp, commit, flush, issue, forward, writeImage, writeStateImage, refused, done, price, noPrice}
 use Rattle.history.specs.Named.{filled, forwarded, written}
 use Rattle.moments.specs.Moments.{cleared, loaded, _⇒_, Moment, calls, restarted}
@@ -87,8 +87,8 @@ imagesOfStates =
     ∷ [])
     -- "An image that names a state loads as that state's map."
     ∷ calls (loaded 2 8 both)
-    (lookUp Desk 5 1 ⇒ price 1200
-    ∷ lookUp Desk 9 1 ⇒ price 700
+    (lookUp Desk 5 1 ⇒ price 1200 byBook
+    ∷ lookUp Desk 9 1 ⇒ price 700 byBook
     ∷ lookUp Desk 5 0 ⇒ refused 11
     ∷ [])
     ∷ calls (loaded 1 8 lastButOne)
@@ -96,19 +96,19 @@ imagesOfStates =
     ∷ writeImage (replicate 6 1) ⇒ written 6 lastEmpty
     ∷ [])
     ∷ calls (loaded 1 8 ordered)
-    (lookUp Desk 0x01020304 0x11121314 ⇒ price 0x05060708
+    (lookUp Desk 0x01020304 0x11121314 ⇒ price 0x05060708 byBook
     ∷ writeImage (replicate 14 1) ⇒ written 14 ordered
     ∷ [])
     -- "Restart relied on the old default and must now name the anchor.", where the tip's image is longer and where it is shorter
     ∷ restarted (loaded 1 8 book) (putOf 9 700 ∷ []) (replicate 14 1) (accepted 0) book
-    (lookUp Desk 5 0 ⇒ price 1200
-    ∷ lookUp Desk 9 0 ⇒ noPrice
+    (lookUp Desk 5 0 ⇒ price 1200 byBook
+    ∷ lookUp Desk 9 0 ⇒ noPrice byBook
     ∷ lookUp Desk 5 1 ⇒ refused 11
     ∷ [])
     ∷ restarted (loaded 1 8 book) (putOf 9 700 ∷ []) (replicate 13 1) (refusedBy 17) (replicate 13 1)
-    (lookUp Desk 9 1 ⇒ price 700
+    (lookUp Desk 9 1 ⇒ price 700 (byStep 1)
     ∷ [])
     ∷ restarted (loaded 1 8 book) (noneOf 5 ∷ []) (replicate 13 1) (refusedBy 17) (replicate 13 1)
-    (lookUp Desk 5 1 ⇒ noPrice
+    (lookUp Desk 5 1 ⇒ noPrice (byStep 1)
     ∷ [])
     ∷ []

@@ -3,3 +3,4 @@ pub mod Moments
 pub mod Table
 pub mod Images
 pub mod Batches
+pub mod Since

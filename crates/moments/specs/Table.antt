@@ -1,13 +1,14 @@
 -- Document 01's "Twelve moments at the counter", one after another, with the answers that it states, but for the first of moment 10,
 -- which document 02 replaces (Q-3). Where the paper names no length, table and journal have 8 words; where it names no book, it is that
--- of moment 4; the place is slot 0, and the desk calls. Lent bytes and output words hold 1 before the call.
+-- of moment 4; the place is slot 0, and the desk calls. Lent bytes and output words hold 1 before the call. Beside a price or none stands
+-- since when (document 02, Q-4).
 -- Assumes nothing.
 use mathlib.Core.List.{List, [], _∷_, _++_}
 use Prim.Native.Nat.{ℕ}
 use lib.ListN.{replicate}
 use Rattle.entry.specs.Word.{putOf, noneOf}
 use Rattle.answers.specs.declared.call.Caller.the-variants.{Desk}
-use Rattle.answers.specs.Answers.{accepted, refused as refusedBy}
+use Rattle.answers.specs.Answers.{byStep, byBook, accepted, refused as refusedBy}
 use Rattle.history.specs.Named.{lookUp, commit, rollBack, flush, issue, forward, release, writeImage, refused, done, price}
 use Rattle.history.specs.Named.{noPrice, filled, forwarded, written}
 use Rattle.moments.specs.Moments.{cleared, loaded, _⇒_, Moment, word, calls, priced, orderOf}
@@ -30,15 +31,15 @@ twelve =
     -- 3. The listing's image loads as state 7, and is written the same.
     ∷ calls (loaded 8 8 listing)
     (lookUp Desk 5 6 ⇒ refused 11
-    ∷ lookUp Desk 5 7 ⇒ price 1200
+    ∷ lookUp Desk 5 7 ⇒ price 1200 byBook
     ∷ lookUp Desk 5 8 ⇒ refused 11
     ∷ writeImage (replicate 14 1) ⇒ written 14 listing
     ∷ [])
     -- 4. Book 5 at 1200, commit removes 5: lookup at 0 gives 1200, at 1 none.
     ∷ calls (loaded 8 8 book)
     (commit (noneOf 5 ∷ []) ⇒ done
-    ∷ lookUp Desk 5 0 ⇒ price 1200
-    ∷ lookUp Desk 5 1 ⇒ noPrice
+    ∷ lookUp Desk 5 0 ⇒ price 1200 byBook
+    ∷ lookUp Desk 5 1 ⇒ noPrice (byStep 1)
     ∷ [])
     -- 5. Same book, issue 5 and 9 at state 0, commit 5 at 1100 and 9 at 700, flush to 1, forward to 1: 1100 and 700.
     ∷ calls (loaded 8 8 book)
@@ -59,7 +60,7 @@ twelve =
     (commit (putOf 5 1100 ∷ []) ⇒ done
     ∷ rollBack 0 ⇒ done
     ∷ commit (putOf 5 1300 ∷ []) ⇒ done
-    ∷ lookUp Desk 5 1 ⇒ price 1300
+    ∷ lookUp Desk 5 1 ⇒ price 1300 (byStep 1)
     ∷ [])
     -- 8. 64 empty commits pass, the 65th is 13; after a flush to 1 with all places closed it passes.
     ∷ calls (loaded 8 8 book)

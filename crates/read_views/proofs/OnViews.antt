@@ -3,7 +3,7 @@
 use mathlib.Core.Path.{_≡_, refl, sym, ap, _∙_}
 use mathlib.Core.Bool.{false}
 use mathlib.Core.List.{List, map}
-use Prim.Native.Nat.{ℕ}
+use Prim.Native.Nat.{ℕ, _-_}
 use native.Mathlib.Omega.{arith}
 use lib.ListN.{take, getD, set, length-set}
 use Rattle.changes.specs.ReadSets.{readOf}
@@ -11,11 +11,11 @@ use Rattle.answers.specs.declared.call.LookUp.{LookUp}
 use Rattle.answers.specs.declared.call.Reader.{Reader}
 use Rattle.answers.specs.declared.answer.Check.the-variants.{Passed}
 use Rattle.layout.specs.declared.head.Head.{Head}
-use Rattle.layout.specs.States.{mapHere}
+use Rattle.layout.specs.States.{stepsBetween, mapHere}
 use Rattle.layout.specs.Heads.{withSlots}
 use Rattle.views.specs.View.{Store, View, holding, encode, decode, mapAt, openOf, NotAbove, Good, Shaped}
 use Rattle.views.proofs.Setters.{good-slots}
-use Rattle.views.proofs.States.{map-is}
+use Rattle.views.proofs.States.{steps-since, map-is}
 use Rattle.views.proofs.Encodes.{Encodes}
 use Rattle.views.proofs.Views.{restored, decoded-good}
 use Rattle.issues.specs.Issue.{issueCheck}
@@ -37,6 +37,11 @@ module _ (table journal : List ℕ) (head : Head) where
 
     pub look-up-shows : mapHere table journal head (asked .state) ≡ mapAt (decode here) (asked .state)
     look-up-shows = map-is table journal head (ok .sound) (asked .state) (ok .low) (ok .high)
+
+    -- and says since when from the steps of the view that lead to it
+    pub look-up-steps :
+        stepsBetween journal head (head .checkpoint) (asked .state) ≡ take (asked .state - head .checkpoint) (decode here .steps)
+    look-up-steps = steps-since table journal head (ok .sound) (asked .state) (ok .low) (ok .high)
 
   -- an issue opens its slot in the view and changes nothing else of it
   module _ (p : Shaped head) (reader : Reader) (list : List ℕ) (e : issueCheck table journal head reader list ≡ Passed) where

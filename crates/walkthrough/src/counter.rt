@@ -2,6 +2,7 @@
 use crate::print::show_answer;
 use crate::print::show_entries;
 use crate::print::show_number;
+use crate::print::show_quote;
 use crate::serving::make_call;
 use answers::answer::Answer;
 use answers::call::Call;
@@ -10,7 +11,6 @@ use answers::call::LookUp;
 use answers::call::Query;
 use answers::call::Step;
 use answers::tally::Tally;
-use entry::Entry;
 use layout::head::Head;
 
 // What the counter hands from one call to the next: the memory of the store, a read set, the bytes of an image, the head
@@ -97,8 +97,8 @@ pub(crate) fn read(counter: Counter, call: Call) -> Counter {
     after
 }
 
-// The word that shows an offer's price, or that it has none, at a state.
-fn look_up(counter: Counter, offer: u32, state: u32) -> u64 {
+// What a lookup of an offer at a state answers.
+fn look_up(counter: Counter, offer: u32, state: u32) -> Answer {
     let mut none = [0u64; 0];
     let asked = LookUp {
         caller: Caller::Desk,
@@ -108,19 +108,13 @@ fn look_up(counter: Counter, offer: u32, state: u32) -> u64 {
     let call = Call::Ask(Query::LookUp(asked));
     let after = make(counter, call, &mut none);
     let answer = after.answer;
-    if let Answer::Price(price) = answer {
-        return Entry::put(offer, price);
-    }
-    Entry::none(offer)
+    answer
 }
 
-// Tells what is quoted at a state for the three offers of the read set.
+// Tells what is quoted at a state for the three offers of the read set, and since when.
 pub(crate) fn quote(counter: Counter, state: u32) {
-    let words = [
-        look_up(counter, 5, state),
-        look_up(counter, 7, state),
-        look_up(counter, 9, state),
-    ];
     show_number(b"\n  quotes at state ", state as u64);
-    show_entries(b":", &words);
+    show_quote(b": ", 5, look_up(counter, 5, state));
+    show_quote(b", ", 7, look_up(counter, 7, state));
+    show_quote(b", ", 9, look_up(counter, 9, state));
 }

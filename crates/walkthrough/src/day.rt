@@ -116,6 +116,7 @@ pub(crate) fn flush(counter: Counter) -> Counter {
         \n  flush to state 11",
     );
     let flushed = ask(counter, Call::Step(Step::Flush(11)));
+    quote(flushed, 11);
     roll_back(flushed, 10)
 }
 

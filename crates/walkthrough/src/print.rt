@@ -1,5 +1,6 @@
 // What the program prints, in words. A line starts with its newline, so that whatever is printed next may go on with it.
 use answers::answer::Answer;
+use answers::answer::Since;
 use answers::answer::ground_in;
 use entry::Entry;
 use libc::STDOUT_FILENO;
@@ -42,6 +43,31 @@ pub(crate) fn show_entries(text: &[u8], words: &[u64]) {
         show_entry(words[i]);
         i += 1;
     }
+}
+
+// Since when an offer stands as it is quoted.
+fn show_since(since: Since) {
+    match since {
+        Since::State(state) => show_number(b" (since state ", state as u64),
+        Since::Table => show_text(b" (by the table"),
+    }
+    show_text(b")");
+}
+
+// A text, and what a lookup of an offer answers: its price or that it has none, and since when.
+pub(crate) fn show_quote(text: &[u8], offer: u32, answer: Answer) {
+    show_text(text);
+    if let Answer::Price(price, since) = answer {
+        show_entry(Entry::put(offer, price));
+        show_since(since);
+        return;
+    }
+    if let Answer::NoPrice(since) = answer {
+        show_entry(Entry::none(offer));
+        show_since(since);
+        return;
+    }
+    show_answer(answer);
 }
 
 fn show_byte(byte: u8) {

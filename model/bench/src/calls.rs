@@ -169,18 +169,24 @@ pub fn flush<S: Subject>(scene: &Scene) -> Side<'_> {
     moving(scene, all_of(scene), move |store: &mut S, _, _| store.flush(state))
 }
 
+/// A lookup of these offers in turn at the tip. The compiler cannot leave out what it gives beside its answer.
+fn look_up<S: Subject>(scene: &Scene, offers: Vec<u32>, answer: u64) -> Side<'_> {
+    let state = scene.variant(0).head.tip;
+    let (mut price, mut since) = (0, 0);
+    steady(scene, answer, move |store: &mut S, turn| {
+        let offer = offers[turn % offers.len()];
+        store.look_up(DESK, offer, state, black_box(&mut price), black_box(&mut since))
+    })
+}
+
 /// An offer that has a price at the tip.
 pub fn look_up_present<S: Subject>(scene: &Scene) -> Side<'_> {
-    let (offers, state) = (scene.sought(true), scene.variant(0).head.tip);
-    steady(scene, 0, move |store: &mut S, turn| store.look_up(DESK, offers[turn % offers.len()], state))
+    look_up::<S>(scene, scene.sought(true), 0)
 }
 
 /// An offer that has none.
 pub fn look_up_absent<S: Subject>(scene: &Scene) -> Side<'_> {
-    let (offers, state) = (scene.sought(false), scene.variant(0).head.tip);
-    steady(scene, NO_PRICE, move |store: &mut S, turn| {
-        store.look_up(DESK, offers[turn % offers.len()], state)
-    })
+    look_up::<S>(scene, scene.sought(false), NO_PRICE)
 }
 
 /// A read of the offers of a list.

@@ -2,7 +2,7 @@
 
 use crate::baseline::{self, Caller, LentWords};
 use crate::scene::{Scene, Variant};
-use crate::subject::{code, price_code, Subject};
+use crate::subject::{code, quote_code, Subject};
 
 impl Subject for LentWords {
     fn of(scene: &Scene) -> LentWords {
@@ -54,8 +54,8 @@ impl Subject for LentWords {
         code(self.call(|store| store.flush(state)))
     }
 
-    fn look_up(&mut self, _caller: u32, offer: u32, state: u32) -> u64 {
-        price_code(self.query(|store| store.look_up(offer, state)))
+    fn look_up(&mut self, _caller: u32, offer: u32, state: u32, price: &mut u64, since: &mut u64) -> u64 {
+        quote_code(self.query(|store| store.look_up(offer, state)), price, since)
     }
 
     fn issue(&mut self, caller: u32, slot: usize, list: &mut [u64]) -> u64 {

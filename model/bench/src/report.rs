@@ -96,7 +96,7 @@ const PEERS: &str = "
 
 8 steps of 64 entries are held, and the peers have the same prices. A commit is one transaction of 64 entries, in LMDB
 without sync on a folder in memory; a lookup is one read transaction. The unit tests all of its lent words in every
-call, and the peers do not. Times in microseconds.
+call, and says with a price which state named its offer last; the peers do neither. Times in microseconds.
 
 ";
 

@@ -1,8 +1,8 @@
 //! What is measured: a store of the unit, or of the baseline, with the calls by the same names and codes.
 
-use crate::baseline::{self, Caller, Memory, Refusal};
+use crate::baseline::{self, Caller, Memory, Quote, Refusal, Since};
 use crate::scene::{Scene, Variant};
-use cechnuol::raw::{self, NO_PRICE};
+use cechnuol::raw::{self, BY_TABLE, NO_PRICE};
 use cechnuol::TALLY_WORDS;
 use ffi::Lent;
 
@@ -22,7 +22,7 @@ pub trait Subject: 'static {
     fn commit(&mut self, list: &[u64]) -> u64;
     fn roll_back(&mut self, state: u32) -> u64;
     fn flush(&mut self, state: u32) -> u64;
-    fn look_up(&mut self, caller: u32, offer: u32, state: u32) -> u64;
+    fn look_up(&mut self, caller: u32, offer: u32, state: u32, price: &mut u64, since: &mut u64) -> u64;
     fn issue(&mut self, caller: u32, slot: usize, list: &mut [u64]) -> u64;
     fn forward(&mut self, caller: u32, slot: usize, state: u32, reads: &mut [u64]) -> u64;
     fn release(&mut self, caller: u32, slot: usize) -> u64;
@@ -79,8 +79,8 @@ impl Subject for Lent {
         self.lend().flush(state)
     }
 
-    fn look_up(&mut self, caller: u32, offer: u32, state: u32) -> u64 {
-        self.to_read().look_up(caller, offer, state, &mut 0)
+    fn look_up(&mut self, caller: u32, offer: u32, state: u32, price: &mut u64, since: &mut u64) -> u64 {
+        self.to_read().look_up(caller, offer, state, price, since)
     }
 
     fn issue(&mut self, caller: u32, slot: usize, list: &mut [u64]) -> u64 {
@@ -105,12 +105,19 @@ pub fn code<T>(answer: Result<T, Refusal>) -> u64 {
     answer.map_or_else(Refusal::number, |_| 0)
 }
 
-/// The code of a lookup's answer.
-pub fn price_code(answer: Result<Option<u32>, Refusal>) -> u64 {
-    match answer {
-        Ok(None) => NO_PRICE,
-        answer => code(answer),
-    }
+/// The code of a lookup's answer; the words for the price and for how fresh it is get what the C interface gives there.
+pub fn quote_code(answer: Result<Quote, Refusal>, price: &mut u64, since: &mut u64) -> u64 {
+    let quote = match answer {
+        Ok(quote) => quote,
+        Err(refusal) => return refusal.number(),
+    };
+    *since = match quote.since {
+        Since::State(state) => state.into(),
+        Since::Table => BY_TABLE,
+    };
+    let Some(found) = quote.price else { return NO_PRICE };
+    *price = found.into();
+    0
 }
 
 impl Subject for Memory {
@@ -164,8 +171,8 @@ impl Subject for Memory {
         code(self.lend().flush(state))
     }
 
-    fn look_up(&mut self, _caller: u32, offer: u32, state: u32) -> u64 {
-        price_code(self.lend().look_up(offer, state))
+    fn look_up(&mut self, _caller: u32, offer: u32, state: u32, price: &mut u64, since: &mut u64) -> u64 {
+        quote_code(self.lend().look_up(offer, state), price, since)
     }
 
     fn issue(&mut self, caller: u32, slot: usize, list: &mut [u64]) -> u64 {

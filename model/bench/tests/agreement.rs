@@ -2,8 +2,7 @@
 //! and all memory compared after each.
 
 use bench::baseline::{price_batch, Caller, Head, LentWords, Memory, Refusal, Tally};
-use bench::subject::Subject;
-use cechnuol::raw::NO_PRICE;
+use bench::subject::{quote_code, Subject};
 use ffi::differ::Pair;
 use ffi::said::{Said, UNTOUCHED};
 use ffi::{Lent, FOYERS};
@@ -32,7 +31,7 @@ fn coded<T>(answer: Result<T, Refusal>, value: impl FnOnce(T) -> (u64, u64)) -> 
 fn say(memory: &mut Memory, bytes: &mut [u8], caller: u32, call: &Call, filled: &Filled) -> Said {
     let mut store = memory.lend();
     let caller = Caller::of_number(caller);
-    let mut words = Vec::new();
+    let (mut words, mut since) = (Vec::new(), UNTOUCHED);
     let done = |answer| coded(answer, |()| (0, UNTOUCHED));
     let counted = |answer| coded(answer, |count: usize| (0, count as u64));
     let (code, value) = match call {
@@ -44,9 +43,10 @@ fn say(memory: &mut Memory, bytes: &mut [u8], caller: u32, call: &Call, filled: 
         Call::Commit { list } => done(store.commit(list)),
         Call::RollBack { state } => done(store.roll_back(*state)),
         Call::Flush { state } => done(store.flush(*state)),
-        Call::LookUp { offer, state, .. } => coded(store.look_up(*offer, *state), |price| {
-            price.map_or((NO_PRICE, UNTOUCHED), |price| (0, price.into()))
-        }),
+        Call::LookUp { offer, state, .. } => {
+            let mut price = UNTOUCHED;
+            (quote_code(store.look_up(*offer, *state), &mut price, &mut since), price)
+        }
         Call::Issue { slot, list, .. } => {
             words = list.clone();
             done(store.issue(caller, *slot as usize, &mut words))
@@ -61,7 +61,7 @@ fn say(memory: &mut Memory, bytes: &mut [u8], caller: u32, call: &Call, filled: 
             counted(price_batch(reads, orders, &mut words))
         }
     };
-    Said { code, value, words }
+    Said { code, value, since, words }
 }
 
 #[test]
@@ -101,7 +101,8 @@ fn words_of(lent: &Lent) -> LentWords {
     LentWords { table, journal, head, tally }
 }
 
-/// A call of something that is measured; a batch has no store.
+/// A call of something that is measured: its code, and the words that it was lent, which for a lookup are those of the price and
+/// of how fresh it is. A batch has no store.
 fn code_of<S: Subject>(
     store: &mut S,
     bytes: &mut [u8],
@@ -112,6 +113,7 @@ fn code_of<S: Subject>(
     let mut words = match call {
         Call::Commit { list } | Call::Issue { list, .. } => list.clone(),
         Call::Forward { slot, with, .. } => filled.read_set(*slot, with.as_deref()),
+        Call::LookUp { .. } => vec![UNTOUCHED; 2],
         _ => Vec::new(),
     };
     let code = match call {
@@ -123,7 +125,10 @@ fn code_of<S: Subject>(
         Call::Commit { .. } => store.commit(&words),
         Call::RollBack { state } => store.roll_back(*state),
         Call::Flush { state } => store.flush(*state),
-        Call::LookUp { offer, state, .. } => store.look_up(caller, *offer, *state),
+        Call::LookUp { offer, state, .. } => {
+            let (price, since) = words.split_at_mut(1);
+            store.look_up(caller, *offer, *state, &mut price[0], &mut since[0])
+        }
         Call::Issue { slot, .. } => store.issue(caller, *slot as usize, &mut words),
         Call::Forward { slot, state, .. } => store.forward(caller, *slot as usize, *state, &mut words),
         Call::Release { slot, .. } => store.release(caller, *slot as usize),

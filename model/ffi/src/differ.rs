@@ -2,7 +2,7 @@
 //! call.
 
 use crate::library::Library;
-use crate::said::{is_query, Said, UNTOUCHED};
+use crate::said::{is_query, since_word, Said, UNTOUCHED};
 use crate::NO_PRICE;
 use model::script::{perform, Command};
 use model::unit::{Answer, Call, Reply, Unit};
@@ -16,14 +16,14 @@ pub struct Pair {
 
 /// What the library must say where the model gives this reply.
 pub fn expected(reply: &Reply) -> Said {
-    let (code, value) = match reply.answer {
-        Answer::Done => (0, UNTOUCHED),
-        Answer::Count(count) => (0, count as u64),
-        Answer::Price(price) => (0, price.into()),
-        Answer::NoPrice => (NO_PRICE, UNTOUCHED),
-        Answer::Refused(ground) => (ground.number().into(), UNTOUCHED),
+    let (code, value, since) = match reply.answer {
+        Answer::Done => (0, UNTOUCHED, UNTOUCHED),
+        Answer::Count(count) => (0, count as u64, UNTOUCHED),
+        Answer::Price(price, since) => (0, price.into(), since_word(since)),
+        Answer::NoPrice(since) => (NO_PRICE, UNTOUCHED, since_word(since)),
+        Answer::Refused(ground) => (ground.number().into(), UNTOUCHED, UNTOUCHED),
     };
-    Said { code, value, words: reply.words.clone() }
+    Said { code, value, since, words: reply.words.clone() }
 }
 
 impl Pair {

@@ -11,7 +11,7 @@ pub mod library;
 pub mod probe;
 pub mod said;
 
-pub use cechnuol::raw::NO_PRICE;
+pub use cechnuol::raw::{BY_TABLE, NO_PRICE};
 
 /// Numbers that are the foyer's as a caller: its own, and others, among them such as end in zeros.
 pub const FOYERS: [u32; 6] = [FOYER, 2, 1 << 8, 1 << 16, 1 << 31, u32::MAX];

@@ -55,7 +55,7 @@ fn turned_away(call: &Call, mut library: Library) -> Result<(), String> {
         Call::Forward { slot, with, .. } => before.filled.read_set(*slot, with.as_deref()),
         _ => Vec::new(),
     };
-    let wanted = Said { code: if fits { 2 } else { 1 }, value: UNTOUCHED, words };
+    let wanted = Said { code: if fits { 2 } else { 1 }, value: UNTOUCHED, since: UNTOUCHED, words };
     if said != wanted || library != before {
         return Err(format!(
             "with head {head:?} the library said {said:?}, expected {wanted:?}; all as it came: {}",

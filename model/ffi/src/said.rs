@@ -1,25 +1,35 @@
 //! A call made on the library, and what it said.
 
-use crate::{Lent, NO_PRICE};
+use crate::{Lent, BY_TABLE, NO_PRICE};
 use cechnuol::raw::price_batch;
 use model::script::words_text;
-use model::unit::{Call, Filled};
+use model::unit::{Call, Filled, Since};
 use std::fmt;
 
-/// What a value word holds before a call; a call that gives no value leaves it.
+/// What a word that is lent for a value holds before a call; a call that gives none leaves it.
 pub const UNTOUCHED: u64 = 0x5EED_5EED_5EED_5EED;
 
-/// What the library answered, and the words that it was lent, as it left them.
+/// What the library answered, and the words that it was lent, as it left them: that of a price or a count, that in which a
+/// lookup says how fresh the price is, and those of a list.
 #[derive(Clone, Debug, PartialEq, Eq)]
 pub struct Said {
     pub code: u64,
     pub value: u64,
+    pub since: u64,
     pub words: Vec<u64>,
 }
 
-/// The words of docs/REPLAY.md for whatever was said. A code that is no ground stands there as the number that it is,
-/// and a value stands there wherever one was given, so that no answer that document 01 does not know passes for one
-/// that it does.
+/// The word by which a lookup says how fresh a price is.
+pub fn since_word(since: Since) -> u64 {
+    match since {
+        Since::State(state) => state.into(),
+        Since::Table => BY_TABLE,
+    }
+}
+
+/// The words of docs/REPLAY.md for whatever was said. A code that is no ground, or a number that is no state's, stands there as
+/// the number that it is, and a value or such a number stands there wherever one was given, so that no answer that the papers
+/// do not know passes for one that they do.
 impl fmt::Display for Said {
     fn fmt(&self, f: &mut fmt::Formatter<'_>) -> fmt::Result {
         match self.code {
@@ -29,6 +39,11 @@ impl fmt::Display for Said {
         }
         if self.value != UNTOUCHED {
             write!(f, " {}", self.value)?;
+        }
+        match self.since {
+            UNTOUCHED => {}
+            BY_TABLE => f.write_str(" table")?,
+            since => write!(f, " since {since}")?,
         }
         f.write_str(&words_text(&self.words))
     }
@@ -42,7 +57,7 @@ pub fn is_query(call: &Call) -> bool {
 /// Makes a call on the library, with the number of whoever calls. A forward without words of its own is given those filled for
 /// its slot.
 pub fn say(lent: &mut Lent, bytes: &mut [u8], caller: u32, call: &Call, filled: &Filled) -> Said {
-    let mut value = UNTOUCHED;
+    let (mut value, mut since) = (UNTOUCHED, UNTOUCHED);
     let mut words = Vec::new();
     let code = match call {
         Call::Clear => lent.lend().clear(),
@@ -55,7 +70,9 @@ pub fn say(lent: &mut Lent, bytes: &mut [u8], caller: u32, call: &Call, filled: 
         Call::Commit { list } => lent.lend().commit(list),
         Call::RollBack { state } => lent.lend().roll_back(*state),
         Call::Flush { state } => lent.lend().flush(*state),
-        Call::LookUp { offer, state, .. } => lent.to_read().look_up(caller, *offer, *state, &mut value),
+        Call::LookUp { offer, state, .. } => {
+            lent.to_read().look_up(caller, *offer, *state, &mut value, &mut since)
+        }
         Call::Issue { slot, list, .. } => {
             words = list.clone();
             lent.lend().issue(caller, *slot as usize, &mut words)
@@ -70,5 +87,5 @@ pub fn say(lent: &mut Lent, bytes: &mut [u8], caller: u32, call: &Call, filled: 
             price_batch(reads, orders, &mut words, &mut value)
         }
     };
-    Said { code, value, words }
+    Said { code, value, since, words }
 }

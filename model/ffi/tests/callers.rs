@@ -2,7 +2,8 @@
 
 use cechnuol::raw::DESK;
 use ffi::differ::Pair;
-use ffi::{Lent, FOYERS, NO_PRICE};
+use ffi::said::{Said, UNTOUCHED};
+use ffi::{Lent, BY_TABLE, FOYERS, NO_PRICE};
 use model::gen::{items, Item};
 use model::script::Command;
 use model::word::entry;
@@ -65,15 +66,43 @@ fn every_other_number_is_the_foyer() {
         for (slot, code) in [(7, 0), (7, 5), (6, 5), (5, 19), (0, 19), (8, 3)] {
             assert_eq!(lent.lend().release(caller, slot), code, "{caller}: release {slot}");
         }
-        assert_eq!(lent.to_read().look_up(caller, 5, 0, &mut 0), NO_PRICE);
-        assert_eq!(lent.to_read().look_up(caller, 5, 1, &mut 0), 11);
+        for (state, wanted) in [(0, (NO_PRICE, UNTOUCHED, BY_TABLE)), (1, (11, UNTOUCHED, UNTOUCHED))] {
+            let (mut price, mut since) = (UNTOUCHED, UNTOUCHED);
+            let code = lent.to_read().look_up(caller, 5, state, &mut price, &mut since);
+            assert_eq!((code, price, since), wanted, "{caller}: look up at {state}");
+        }
     }
 }
 
-/// What a library says that is given this number for the foyer, in generated scripts: the foyer's calls with their codes. The
-/// model must say the same.
-fn codes(foyer: u32) -> BTreeSet<(&'static str, u64)> {
-    let mut codes = BTreeSet::new();
+/// What a call answered, without its values: the code, whether a price was given, and what was said of how fresh it is.
+#[derive(Clone, Copy, Debug, PartialEq, Eq, PartialOrd, Ord)]
+struct Kind {
+    code: u64,
+    valued: bool,
+    fresh: &'static str,
+}
+
+impl Kind {
+    /// Of an answer that gives nothing.
+    const fn bare(code: u64) -> Kind {
+        Kind { code, valued: false, fresh: "nothing" }
+    }
+
+    fn of(said: &Said) -> Kind {
+        let fresh = match said.since {
+            UNTOUCHED => "nothing",
+            BY_TABLE => "table",
+            since if since < BY_TABLE => "state",
+            _ => "no state",
+        };
+        Kind { code: said.code, valued: said.value != UNTOUCHED, fresh }
+    }
+}
+
+/// What a library says that is given this number for the foyer, in generated scripts: the foyer's calls with what they answer.
+/// The model must say the same.
+fn kinds(foyer: u32) -> BTreeSet<(&'static str, Kind)> {
+    let mut kinds = BTreeSet::new();
     for seed in 0..40 {
         let mut pair = Pair::default();
         pair.library.foyer = foyer;
@@ -81,24 +110,30 @@ fn codes(foyer: u32) -> BTreeSet<(&'static str, u64)> {
             let Item::Command(command) = item else { continue };
             if let Command::Call(call) = &command {
                 if pair.library.number_of(call) == foyer {
-                    codes.insert((call.name(), pair.library.clone().serve(call).code));
+                    kinds.insert((call.name(), Kind::of(&pair.library.clone().serve(call))));
                 }
             }
             pair.step(&command).unwrap_or_else(|it| panic!("{foyer}, seed {seed}: {it}"));
         }
     }
-    codes
+    kinds
 }
 
-/// Each call of the foyer is accepted, and refused on each ground that it can meet, by whichever number.
+/// Each call of the foyer is accepted, and refused on each ground that it can meet, by whichever number. A lookup gives a price
+/// or none, since a state or by the table, and a refused one gives nothing.
 #[test]
 fn every_answer_by_every_number() {
-    let mut wanted = BTreeSet::from([("look_up", NO_PRICE)]);
-    wanted.extend([0, 1, 2, 6, 11].map(|code| ("look_up", code)));
-    wanted.extend([0, 1, 2, 3, 19, 4, 6, 18].map(|code| ("issue", code)));
-    wanted.extend([0, 1, 2, 3, 19, 5, 6, 18, 11].map(|code| ("forward", code)));
-    wanted.extend([0, 1, 2, 3, 19, 5].map(|code| ("release", code)));
+    let mut wanted = BTreeSet::new();
+    for fresh in ["state", "table"] {
+        wanted.insert(("look_up", Kind { code: 0, valued: true, fresh }));
+        wanted.insert(("look_up", Kind { code: NO_PRICE, valued: false, fresh }));
+    }
+    let mut add = |name, codes: &[u64]| wanted.extend(codes.iter().map(|&code| (name, Kind::bare(code))));
+    add("look_up", &[1, 2, 6, 11]);
+    add("issue", &[0, 1, 2, 3, 19, 4, 6, 18]);
+    add("forward", &[0, 1, 2, 3, 19, 5, 6, 18, 11]);
+    add("release", &[0, 1, 2, 3, 19, 5]);
     for foyer in FOYERS {
-        assert_eq!(codes(foyer), wanted, "{foyer}");
+        assert_eq!(kinds(foyer), wanted, "{foyer}");
     }
 }

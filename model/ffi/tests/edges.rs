@@ -28,6 +28,8 @@ fn calls(words: usize) -> Vec<Call> {
         Call::WriteImage { state: Some(1) },
         Call::Restart,
         Call::Commit { list: puts.clone() },
+        Call::LookUp { caller: Desk, offer: 0, state: 1 },
+        Call::LookUp { caller: Foyer, offer: 5, state: 1 },
         Call::RollBack { state: 0 },
         Call::Flush { state: 1 },
         Call::LookUp { caller: Desk, offer: 5, state: 0 },
@@ -58,7 +60,8 @@ fn every_length_of_a_store() {
         for call in calls(1).iter().filter(|call| tests_store(call)) {
             let number = Library::default().number_of(call);
             let said = say(&mut lent, &mut [], number, call, &Filled::default());
-            assert_eq!(said.code, if fits { 2 } else { 1 }, "{table} {journal} {call:?}");
+            let wanted = (if fits { 2 } else { 1 }, UNTOUCHED, UNTOUCHED);
+            assert_eq!((said.code, said.value, said.since), wanted, "{table} {journal} {call:?}");
             assert!(lent == before, "{table} {journal} {call:?}");
         }
     }
@@ -130,7 +133,9 @@ fn words_that_no_head_has() {
             let mut lent = before.clone();
             let number = Library::default().number_of(call);
             let said = say(&mut lent, &mut [0; 6], number, call, &Filled::default());
-            assert_eq!((said.code, lent), (2, before.clone()), "{at} {word} {call:?}");
+            let wanted = (2, UNTOUCHED, UNTOUCHED);
+            assert_eq!((said.code, said.value, said.since), wanted, "{at} {word} {call:?}");
+            assert_eq!(lent, before, "{at} {word} {call:?}");
         }
     }
 }
@@ -179,6 +184,37 @@ fn every_length_of_the_bytes_for_an_image() {
             step(Command::Lend { memory: Memory::Bytes, length });
             step(Command::Fill { memory: Memory::Bytes, at: 0, count: length / 8, word: u64::MAX, rise: 0 });
             step(Command::Call(call));
+        }
+    }
+}
+
+/// Lookups of the offers of table and steps and of others, at every state that is kept and at those beside them, after each flush,
+/// as in the model. A slot that is open since state 0 keeps all steps held.
+#[test]
+fn every_lookup_of_a_few_steps() {
+    let mut pair = Pair::default();
+    let mut step = |command: Command| pair.step(&command).unwrap_or_else(|it| panic!("{command:?}: {it}"));
+    step(Command::Lend { memory: Memory::Table, length: 3 });
+    step(Command::Lend { memory: Memory::Journal, length: 16 });
+    step(Command::Call(Call::Clear));
+    step(Command::Call(Call::Issue { caller: Desk, slot: 0, list: vec![entry(3, None)] }));
+    let lists = [
+        vec![entry(2, Some(20)), entry(4, Some(40))],
+        vec![entry(3, Some(30)), entry(4, None)],
+        vec![],
+        vec![entry(2, Some(20)), entry(3, Some(0)), entry(5, None)],
+        vec![entry(4, Some(u32::MAX))],
+    ];
+    for list in lists {
+        step(Command::Call(Call::Commit { list }));
+    }
+    let offers: Vec<u32> = (0..7).chain([(1 << 31) - 1, 1 << 31, u32::MAX]).collect();
+    for flushed in 0..=5 {
+        step(Command::Call(Call::Flush { state: flushed }));
+        for (&offer, state) in offers.iter().flat_map(|offer| (0..7).map(move |state| (offer, state))) {
+            for caller in [Desk, Foyer] {
+                step(Command::Call(Call::LookUp { caller, offer, state }));
+            }
         }
     }
 }

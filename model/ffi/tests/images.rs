@@ -4,7 +4,7 @@
 use cechnuol::raw::DESK;
 use ffi::differ::Pair;
 use ffi::said::UNTOUCHED;
-use ffi::{Lent, NO_PRICE};
+use ffi::{Lent, BY_TABLE, NO_PRICE};
 use model::gen::{items, Item};
 use model::image;
 use model::script::{Command, Memory};
@@ -20,10 +20,11 @@ fn written(lent: &Lent, state: u32, length: usize) -> Vec<u8> {
     bytes
 }
 
-/// What a lookup answers.
-fn quoted(lent: &Lent, offer: u32, state: u32) -> (u64, u64) {
-    let mut price = UNTOUCHED;
-    (lent.to_read().look_up(DESK, offer, state, &mut price), price)
+/// What a lookup answers, the price that it gives, and how fresh it says that is.
+fn quoted(lent: &Lent, offer: u32, state: u32) -> (u64, u64, u64) {
+    let (mut price, mut since) = (UNTOUCHED, UNTOUCHED);
+    let code = lent.to_read().look_up(DESK, offer, state, &mut price, &mut since);
+    (code, price, since)
 }
 
 /// What was looked at.
@@ -32,11 +33,12 @@ struct Counts {
     images: usize,
     large: usize,
     prices: usize,
+    changed: usize,
 }
 
 /// Writes the image of every state that a sound store keeps, and loads each into a table of as many words as it has offers: every
-/// offer that a state of the store has is quoted there as in the store. Where the table is one word shorter, the load is
-/// refused by 16.
+/// offer that a state of the store has is quoted there at the price that it has in the store, and by the table, whichever step
+/// above the checkpoint gave it here. Where the table is one word shorter, the load is refused by 16.
 fn each_state_elsewhere(pair: &Pair, counts: &mut Counts) {
     let (lent, store) = (&pair.library.lent, &pair.model.store);
     let states = store.head.checkpoint..=store.head.tip;
@@ -52,9 +54,13 @@ fn each_state_elsewhere(pair: &Pair, counts: &mut Counts) {
         let number = u64::from(state);
         assert_eq!(elsewhere.head[..4], [count as u64, number, number, number]);
         for &offer in &offers {
-            let answer = quoted(&elsewhere, offer, state);
-            assert!(answer.0 == 0 || answer == (NO_PRICE, UNTOUCHED), "offer {offer} at state {state}");
-            assert_eq!(answer, quoted(lent, offer, state), "offer {offer} at state {state}");
+            let (code, price, since) = quoted(lent, offer, state);
+            assert!(code == 0 || (code, price) == (NO_PRICE, UNTOUCHED), "offer {offer} at state {state}");
+            let is_step = (u64::from(store.head.checkpoint) + 1..=number).contains(&since);
+            assert!(is_step || since == BY_TABLE, "offer {offer} at state {state} since {since}");
+            let wanted = (code, price, BY_TABLE);
+            assert_eq!(quoted(&elsewhere, offer, state), wanted, "offer {offer} at state {state}");
+            counts.changed += usize::from(is_step);
         }
         if count > 1 {
             assert_eq!(Lent::of_lengths(count - 1, 1).lend().load(&image), 16, "state {state}");
@@ -85,8 +91,11 @@ fn every_kept_state_of_random_stores() {
             }
         }
     }
-    let Counts { images, large, prices } = counts;
-    assert!(images > 500 && large > 50 && prices > 5000, "{images} images, {large} large, {prices} prices");
+    let Counts { images, large, prices, changed } = counts;
+    assert!(
+        images > 500 && large > 50 && prices > 5000 && changed > 1000,
+        "{images} images, {large} large, {prices} prices, {changed} of them since a state"
+    );
 }
 
 /// Lengths about powers of two, and the longest.

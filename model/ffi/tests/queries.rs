@@ -1,7 +1,7 @@
 //! The queries: they read a store, which may lie in read-only memory and may be queried from several threads at once,
 //! and store nothing but their output. And what other calls only read may lie in read-only memory too.
 
-use cechnuol::raw::{price_batch, StoreRef, DESK, FOYER, NO_PRICE};
+use cechnuol::raw::{price_batch, StoreRef, BY_TABLE, DESK, FOYER, NO_PRICE};
 use cechnuol::{HEAD_WORDS, TALLY_WORDS};
 use ffi::said::UNTOUCHED;
 use ffi::{Lent, FOYERS};
@@ -29,11 +29,14 @@ const TIP: [u8; 30] = [
     0, 0, 0, 2, 0, 3, 0x80, 0, 0, 5, 0, 0, 0x04, 0x4C, 0x80, 0, 0, 11, 0, 0, 0, 0, 0x80, 0, 0, 12, 0, 0, 0, 1,
 ];
 
-/// What a lookup answers, and what it leaves in a price word that held [`UNTOUCHED`].
-fn look_up(store: StoreRef, caller: u32, offer: u32, state: u32) -> (u64, u64) {
-    let mut price = UNTOUCHED;
-    let code = store.look_up(caller, offer, state, &mut price);
-    (code, price)
+/// What a lookup answers, and what it leaves in the words for the price and for how fresh it is, which held [`UNTOUCHED`] and lie
+/// between others that it leaves.
+fn look_up(store: StoreRef, caller: u32, offer: u32, state: u32) -> (u64, u64, u64) {
+    let mut words = [UNTOUCHED; 5];
+    let [before, price, between, since, behind] = &mut words;
+    let code = store.look_up(caller, offer, state, price, since);
+    assert_eq!([*before, *between, *behind], [UNTOUCHED; 3]);
+    (code, *price, *since)
 }
 
 /// What writing the image of a state, or of none, answers, what it leaves in a count that held [`UNTOUCHED`], and so many bytes
@@ -49,19 +52,20 @@ fn write_image(store: StoreRef, state: Option<u32>, length: usize) -> (u64, u64,
 
 /// Queries of that store, accepted and turned away, with their answers and output. Whoever calls, a lookup is the same.
 fn ask(store: StoreRef) {
-    let prices = [
-        (5, 1, (0, 1200)),
-        (9, 1, (0, 700)),
-        (11, 1, (NO_PRICE, UNTOUCHED)),
-        (5, 2, (0, 1100)),
-        (9, 2, (NO_PRICE, UNTOUCHED)),
-        (11, 2, (0, 0)),
-        (5, 0, (11, UNTOUCHED)),
-        (5, 3, (11, UNTOUCHED)),
-        (1 << 31, 1, (6, UNTOUCHED)),
+    let quotes = [
+        (5, 1, (0, 1200, BY_TABLE)),
+        (9, 1, (0, 700, BY_TABLE)),
+        (11, 1, (NO_PRICE, UNTOUCHED, BY_TABLE)),
+        (5, 2, (0, 1100, 2)),
+        (9, 2, (NO_PRICE, UNTOUCHED, 2)),
+        (11, 2, (0, 0, 2)),
+        (7, 2, (NO_PRICE, UNTOUCHED, BY_TABLE)),
+        (5, 0, (11, UNTOUCHED, UNTOUCHED)),
+        (5, 3, (11, UNTOUCHED, UNTOUCHED)),
+        (1 << 31, 1, (6, UNTOUCHED, UNTOUCHED)),
     ];
     for caller in [DESK].into_iter().chain(FOYERS) {
-        for (offer, state, wanted) in prices {
+        for (offer, state, wanted) in quotes {
             assert_eq!(
                 look_up(store, caller, offer, state),
                 wanted,
@@ -84,7 +88,7 @@ fn ask(store: StoreRef) {
 /// All queries turned away on a ground, their output as it came.
 fn ask_in_vain(store: StoreRef, ground: u64) {
     for caller in [DESK].into_iter().chain(FOYERS) {
-        assert_eq!(look_up(store, caller, 5, 1), (ground, UNTOUCHED));
+        assert_eq!(look_up(store, caller, 5, 1), (ground, UNTOUCHED, UNTOUCHED));
     }
     for state in [None, Some(0), Some(1), Some(2), Some(3)] {
         assert_eq!(write_image(store, state, 30), (ground, UNTOUCHED, vec![0xAA; 30]));
@@ -223,10 +227,11 @@ fn a_full_store_in_read_only_memory() {
     }
     let [table, journal] = [&lent.table, &lent.journal].map(|words| read_only(words));
     let full = StoreRef { table, journal, head: read_only_head(&lent.head) };
-    assert_eq!(look_up(full, DESK, 15_998, 64), (0, 7999));
-    assert_eq!(look_up(full, FOYER, 127, 1), (0, 63));
-    assert_eq!(look_up(full, DESK, 127, 64), (0, 6363));
-    assert_eq!(look_up(full, FOYER, 127, 0), (NO_PRICE, UNTOUCHED));
+    assert_eq!(look_up(full, DESK, 15_998, 64), (0, 7999, BY_TABLE));
+    assert_eq!(look_up(full, FOYER, 127, 1), (0, 63, 1));
+    assert_eq!(look_up(full, DESK, 127, 64), (0, 6363, 64));
+    assert_eq!(look_up(full, FOYER, 127, 0), (NO_PRICE, UNTOUCHED, BY_TABLE));
+    assert_eq!(look_up(full, FOYER, 129, 64), (NO_PRICE, UNTOUCHED, BY_TABLE));
     assert_eq!(write_image(full, Some(0), 64_006), (0, 64_006, image));
     // State 64 has the 64 odd offers up to 127 beside the even ones, at the prices of the last step.
     let mut tip = vec![0, 0, 0, 64];

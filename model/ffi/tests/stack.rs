@@ -1,6 +1,6 @@
 //! The calls on the fullest store that document 01 allows, on the stack that include/cechnuol.h asks for.
 
-use cechnuol::raw::{price_batch, DESK, FOYER};
+use cechnuol::raw::{price_batch, BY_TABLE, DESK, FOYER, NO_PRICE};
 use ffi::Lent;
 use model::word::entry;
 use std::thread;
@@ -65,13 +65,21 @@ fn every_other_call() {
     let mut lent = full(false);
     let mut bytes = vec![0; 64_006];
     with_stack(OTHERS, move || {
-        let mut value = 0;
+        let (mut value, mut since) = (0, 0);
         let mut reads: Vec<u64> = (0..64).map(|k| entry(2 * k, None)).collect();
         let mut few: Vec<u64> = reads[..16].to_vec();
         assert_eq!(lent.lend().issue(DESK, 5, &mut reads), 0);
         assert_eq!(lent.lend().issue(FOYER, 7, &mut few), 0);
-        assert_eq!(lent.to_read().look_up(DESK, 2, 64, &mut value), 0);
-        assert_eq!(lent.to_read().look_up(FOYER, 2, 64, &mut value), 0);
+        // offers of the first two steps, one of the table alone, and one that is nowhere
+        for (caller, offer, wanted) in [
+            (DESK, 0, (0, 1)),
+            (FOYER, 2, (0, 2)),
+            (DESK, 15_998, (0, BY_TABLE)),
+            (FOYER, 15_999, (NO_PRICE, BY_TABLE)),
+        ] {
+            let code = lent.to_read().look_up(caller, offer, 64, &mut value, &mut since);
+            assert_eq!((code, since), wanted, "offer {offer}");
+        }
         assert_eq!(lent.lend().commit(&[]), 13);
         assert_eq!(lent.lend().forward(DESK, 5, 64, &mut reads), 0);
         assert_eq!(lent.lend().forward(FOYER, 7, 64, &mut few), 0);

@@ -1,6 +1,6 @@
 //! What a line prints with `--explain`: each call and its answer as a person says them.
 
-use crate::phrases::{count, entry, order, question, words};
+use crate::phrases::{count, entry, freshness, order, question, words};
 use crate::shown;
 use cechnuol::Refusal;
 use ffi::library::Library;
@@ -84,7 +84,7 @@ fn request(library: &Library, call: &Call) -> String {
 fn answer(call: &Call, said: &Said) -> String {
     match said.code {
         0 => accepted(call, said),
-        NO_PRICE => "none".to_string(),
+        NO_PRICE => format!("none{}", since(said)),
         code => refused(Refusal::of_number(code)),
     }
 }
@@ -97,13 +97,21 @@ fn refused(refusal: Refusal) -> String {
 fn accepted(call: &Call, said: &Said) -> String {
     match call {
         _ if said.value == UNTOUCHED && !matches!(call, Call::Issue { .. } | Call::Forward { .. }) => {
-            "ok".to_string()
+            format!("ok{}", since(said))
         }
-        Call::LookUp { .. } => format!("price {}", said.value),
+        Call::LookUp { .. } => format!("price {}{}", said.value, since(said)),
         Call::WriteImage { .. } => format!("ok, {}", count(said.value, "byte")),
         Call::Issue { .. } | Call::Forward { .. } => format!("ok: {}", words(&said.words, entry)),
         Call::PriceBatch { .. } => format!("ok: {}", words(written(said), entry)),
         _ => format!("ok {}", said.value),
+    }
+}
+
+/// How fresh a price is, where the library said so.
+fn since(said: &Said) -> String {
+    match said.since {
+        UNTOUCHED => String::new(),
+        since => format!(", {}", freshness(since)),
     }
 }
 

@@ -1,5 +1,6 @@
-//! Entry words and orders as people write them.
+//! Entry words, orders and how fresh a price is, as people write them.
 
+use ffi::BY_TABLE;
 use model::batch::order_offer;
 use model::word::{is_entry, kind, offer, price};
 
@@ -32,6 +33,15 @@ pub fn order(word: u64) -> String {
         (16..=31, 0) => format!("keep {}/16 of offer {offer}", kind - 15),
         (16..=31, _) => format!("keep {}/16 of offer {offer} but at least {amount}", kind - 15),
         _ => format!("no order {word:016X}"),
+    }
+}
+
+/// How fresh a price is: the state that named its offer last, or that the table answered.
+pub fn freshness(since: u64) -> String {
+    match since {
+        BY_TABLE => "by the table".to_string(),
+        state if state < BY_TABLE => format!("since state {state}"),
+        number => format!("since no state {number}"),
     }
 }
 

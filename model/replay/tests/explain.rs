@@ -23,10 +23,13 @@ fn calls_and_answers() {
 lend journal 5 # -> lend journal 5
 clear # -> clear: ok
 commit 80000005000004B0 0000000900000000 # -> commit offer 5 price 1200, offer 9 none: ok
-look_up 5 1 # -> look up offer 5 at state 1: price 1200
-look_up 9 1 # -> look up offer 9 at state 1: none
+look_up 5 1 # -> look up offer 5 at state 1: price 1200, since state 1
+look_up 9 1 # -> look up offer 9 at state 1: none, since state 1
+look_up 9 0 # -> look up offer 9 at state 0: none, by the table
 look_up 5 2 # -> look up offer 5 at state 2: refused 11 STATE_RANGE: the state is below the checkpoint or above the tip
 flush 1 # -> flush to state 1: ok
+look_up 5 1 # -> look up offer 5 at state 1: price 1200, by the table
+look_up 9 1 # -> look up offer 9 at state 1: none, by the table
 issue 3 0000000500000000 0000000900000000 # -> issue slot 3 for offer 5, offer 9: ok: offer 5 price 1200, offer 9 none
 issue 3 0000000500000000 # -> issue slot 3 for offer 5: refused 4 SLOT_TAKEN: the slot named for an issue is open
 issue 4 # -> issue slot 4 for nothing: ok: nothing
@@ -73,9 +76,9 @@ fn callers() {
 lend journal 5 # -> lend journal 5
 clear # -> clear: ok
 commit 80000005000004B0 # -> commit offer 5 price 1200: ok
-look_up foyer 5 1 # -> foyer: look up offer 5 at state 1: price 1200
-look_up desk 5 1 # -> look up offer 5 at state 1: price 1200
-look_up foyer 9 1 # -> foyer: look up offer 9 at state 1: none
+look_up foyer 5 1 # -> foyer: look up offer 5 at state 1: price 1200, since state 1
+look_up desk 5 1 # -> look up offer 5 at state 1: price 1200, since state 1
+look_up foyer 9 1 # -> foyer: look up offer 9 at state 1: none, by the table
 issue foyer 6 0000000500000000 # -> foyer: issue slot 6 for offer 5: ok: offer 5 none
 issue foyer 5 # -> foyer: issue slot 5 for nothing: refused 19 OTHERS_SLOT: the slot is not the caller's
 issue foyer 7{words} # -> foyer: issue slot 7 for {}: refused 18 LONG_LIST: the foyer's list has over 16 words
@@ -150,7 +153,7 @@ fn files() {
         "lend table 1 # -> lend table 1
 lend journal 1 # -> lend journal 1
 load_file ../../tests/listing/paper.in # -> load the file '../../tests/listing/paper.in', 14 bytes: ok
-look_up 5 7 # -> look up offer 5 at state 7: price 1200
+look_up 5 7 # -> look up offer 5 at state 7: price 1200, by the table
 load_file tests # -> no call: 'tests' is a directory
 load_file ../../tests/listing/no_input.in # -> \
 load the file '../../tests/listing/no_input.in', 0 bytes: refused 15 BAD_IMAGE: \

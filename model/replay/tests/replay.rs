@@ -4,7 +4,7 @@ mod program;
 
 use ffi::library::Library;
 use ffi::said::{Said, UNTOUCHED};
-use ffi::NO_PRICE;
+use ffi::{BY_TABLE, NO_PRICE};
 use model::script::respond;
 use program::{ran, started};
 use std::io::Write;
@@ -39,7 +39,20 @@ fn callers() {
         forward 5 1\nrelease foyer 6\nrelease 6\nlook_up foyer 5 1\nlook_up 5 1\n";
     let expected = "line 3: ok\nline 4: ok 0000000500000000\nline 5: ok 0000000500000000\nline 6: ok\n\
         line 7: refused 19 0000000500000000\nline 8: refused 19 0000000500000000\nline 9: ok 80000005000004B0\n\
-        line 10: ok 80000005000004B0\nline 11: refused 5\nline 12: refused 19\nline 13: ok 1200\nline 14: ok 1200\n";
+        line 10: ok 80000005000004B0\nline 11: refused 5\nline 12: refused 19\nline 13: ok 1200 since 1\n\
+        line 14: ok 1200 since 1\n";
+    assert_eq!(printed(script), expected);
+}
+
+/// Each answer of a lookup: a price or none, since a state or by the table. A flush forgets the numbers up to the checkpoint.
+#[test]
+fn quotes() {
+    let script = b"lend table 4\nlend journal 20\nclear\ncommit 80000005000004B0\nflush 1\ncommit 0000000500000000\n\
+        commit 8000000900000000\nlook_up 5 1\nlook_up 5 2\nlook_up 9 2\nlook_up 9 3\nlook_up 5 3\nlook_up 5 4\n\
+        flush 2\nlook_up 5 2\nlook_up 9 3\nlook_up 2147483648 3\n";
+    let expected = "line 3: ok\nline 4: ok\nline 5: ok\nline 6: ok\nline 7: ok\nline 8: ok 1200 table\n\
+        line 9: none since 2\nline 10: none table\nline 11: ok 0 since 3\nline 12: none since 2\nline 13: refused 11\n\
+        line 14: ok\nline 15: none table\nline 16: ok 0 since 3\nline 17: refused 6\n";
     assert_eq!(printed(script), expected);
 }
 
@@ -120,7 +133,9 @@ fn output_that_nobody_reads() {
 /// What the library says is printed as the numbers that it gave, those too that no call may give.
 #[test]
 fn no_answer_is_hidden() {
-    let text = |code, value, words: &[u64]| Said { code, value, words: words.to_vec() }.to_string();
+    let said =
+        |code, value, since, words: &[u64]| Said { code, value, since, words: words.to_vec() }.to_string();
+    let text = |code, value, words: &[u64]| said(code, value, UNTOUCHED, words);
     assert_eq!(text(0, UNTOUCHED, &[]), "ok");
     assert_eq!(text(0, 1200, &[]), "ok 1200");
     assert_eq!(text(0, 1, &[5]), "ok 1 0000000000000005");
@@ -133,6 +148,16 @@ fn no_answer_is_hidden() {
     assert_eq!(text(0, 1 << 32, &[]), "ok 4294967296");
     assert_eq!(text(NO_PRICE, 7, &[]), "none 7");
     assert_eq!(text(17, 7, &[]), "refused 17 7");
+    // how fresh a price is, said as it may be, of a state that is none, and where it should not be said
+    assert_eq!(said(0, 1200, 3, &[]), "ok 1200 since 3");
+    assert_eq!(said(0, 1200, BY_TABLE, &[]), "ok 1200 table");
+    assert_eq!(said(NO_PRICE, UNTOUCHED, 0xFFFF_FFFF, &[]), "none since 4294967295");
+    assert_eq!(said(NO_PRICE, UNTOUCHED, BY_TABLE, &[]), "none table");
+    assert_eq!(said(0, 1200, BY_TABLE + 3, &[]), "ok 1200 since 4294967299");
+    assert_eq!(said(NO_PRICE, UNTOUCHED, u64::MAX, &[]), "none since 18446744073709551615");
+    assert_eq!(said(0, UNTOUCHED, 3, &[]), "ok since 3");
+    assert_eq!(said(11, UNTOUCHED, 3, &[]), "refused 11 since 3");
+    assert_eq!(said(11, UNTOUCHED, BY_TABLE, &[]), "refused 11 table");
 }
 
 /// A word of the head that does not fit its field is shown as the number that it is.

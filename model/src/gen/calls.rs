@@ -12,7 +12,7 @@ use crate::word;
 
 /// How often each call is drawn, in the order of [`Generator::one_call`]. What begins a store anew is rare, so that stores live
 /// long enough for open slots to fall behind the checkpoint and for steps to run out.
-pub(super) const WEIGHTS: [usize; 12] = [1, 6, 30, 3, 100, 24, 44, 56, 52, 40, 10, 40];
+pub(super) const WEIGHTS: [usize; 12] = [1, 6, 30, 3, 100, 24, 44, 70, 52, 40, 10, 40];
 
 /// The same on damaged memory and on memory of wrong lengths: each call, but seldom one that mends the store.
 pub(super) const EVEN: [usize; 12] = [1, 1, 8, 4, 4, 4, 4, 4, 4, 4, 4, 2];
@@ -20,8 +20,12 @@ pub(super) const EVEN: [usize; 12] = [1, 1, 8, 4, 4, 4, 4, 4, 4, 4, 4, 2];
 /// Amounts are numbers below this.
 const AMOUNTS: usize = 1 << 25;
 
-/// The index of the call that writes an image.
+/// The indices of some calls.
 pub(super) const WRITE_IMAGE: usize = 2;
+pub(super) const COMMIT: usize = 4;
+pub(super) const FLUSH: usize = 6;
+pub(super) const LOOK_UP: usize = 7;
+pub(super) const ISSUE: usize = 8;
 
 impl Generator {
     /// One call, by its index in [`WEIGHTS`].
@@ -31,11 +35,11 @@ impl Generator {
             1 => self.load(),
             WRITE_IMAGE => self.write_image(),
             3 => self.restart(),
-            4 => Call::Commit { list: self.list_for_commit() },
+            COMMIT => Call::Commit { list: self.list_for_commit() },
             5 => Call::RollBack { state: self.state() },
-            6 => Call::Flush { state: self.state() },
-            7 => self.look_up(),
-            8 => self.issue(),
+            FLUSH => Call::Flush { state: self.state() },
+            LOOK_UP => self.look_up(),
+            ISSUE => self.issue(),
             9 => self.forward(),
             10 => self.release(),
             _ => self.batch(),
@@ -52,7 +56,7 @@ impl Generator {
     }
 
     fn offer(&mut self) -> u32 {
-        let offer = self.draw.offer();
+        let offer = self.draw.offer_in(&self.unit.store);
         match self.draw.rng.below(15) {
             0 => offer + word::OFFERS,
             1 => self.draw.rng.pick(&[0, word::OFFERS - 1, word::OFFERS, u32::MAX]),
@@ -60,11 +64,14 @@ impl Generator {
         }
     }
 
+    /// A list of changes, at times with words that leave the tip as it is, or words that are no list.
     fn list_for_commit(&mut self) -> Vec<u64> {
-        if self.draw.rng.percent(93) {
-            self.draw.changes()
-        } else {
-            self.draw.broken_list()
+        let store = &self.unit.store;
+        match self.draw.rng.weighted(&[73, 20, 7]) {
+            0 => self.draw.changes(),
+            1 if store.is_sound() => self.draw.repeats(&store.map_at(store.head.tip)),
+            1 => self.draw.changes(),
+            _ => self.draw.broken_list(),
         }
     }
 

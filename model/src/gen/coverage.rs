@@ -1,11 +1,11 @@
 //! What generated scripts meet.
 
 use crate::caller::Caller;
-use crate::head::STEPS;
+use crate::head::{Head, STEPS};
 use crate::image;
 use crate::sound::Clause;
 use crate::store::Store;
-use crate::unit::{Answer, Call, Unit};
+use crate::unit::{Answer, Call, Since, Unit};
 use std::collections::BTreeSet;
 
 /// An image that a sound store is asked for.
@@ -23,16 +23,80 @@ pub struct Asked {
     pub tip_fits: bool,
 }
 
+/// Where the last step naming an offer stands among the steps that a lookup searches.
+#[derive(Clone, Copy, Debug, PartialEq, Eq, PartialOrd, Ord)]
+pub enum Place {
+    /// It is the only step searched.
+    Only,
+    First,
+    Middle,
+    Last,
+}
+
+/// A lookup that is answered, whoever asks.
+#[derive(Clone, Copy, Debug, PartialEq, Eq, PartialOrd, Ord)]
+pub struct LookedUp {
+    /// Whether the offer has a price.
+    pub priced: bool,
+    /// Where the last step naming the offer stands; none if the table answers.
+    pub place: Option<Place>,
+    /// Whether that step leaves the offer's price, or that it has none, as it was.
+    pub repeats: bool,
+    /// Whether the table has the offer.
+    pub in_table: bool,
+    /// Whether a held step below the checkpoint names the offer.
+    pub below: bool,
+    /// Whether a step above the state named does.
+    pub above: bool,
+}
+
+impl LookedUp {
+    /// What a call met, if it is a lookup that was answered. The store is as the call found it, and left it.
+    pub fn of(call: &Call, answer: Answer, store: &Store) -> Option<LookedUp> {
+        let Call::LookUp { offer, state, .. } = *call else { return None };
+        let (priced, since) = match answer {
+            Answer::Price(_, since) => (true, since),
+            Answer::NoPrice(since) => (false, since),
+            Answer::Done | Answer::Count(_) | Answer::Refused(_) => return None,
+        };
+        let Head { oldest, checkpoint, tip, .. } = store.head;
+        let price = |state: u32| store.map_at(state).get(&offer).copied();
+        let named = |from: u32, to: u32| (from..=to).skip(1).any(|state| store.is_named(offer, state));
+        let (place, repeats) = match since {
+            Since::Table => (None, false),
+            Since::State(last) => {
+                let place = match (last - 1 == checkpoint, last == state) {
+                    (true, true) => Place::Only,
+                    (true, false) => Place::First,
+                    (false, true) => Place::Last,
+                    (false, false) => Place::Middle,
+                };
+                (Some(place), price(last) == price(last - 1))
+            }
+        };
+        Some(LookedUp {
+            priced,
+            place,
+            repeats,
+            in_table: price(checkpoint).is_some(),
+            below: named(oldest, checkpoint),
+            above: named(state, tip),
+        })
+    }
+}
+
 /// What some calls met.
 #[derive(Clone, Debug, Default)]
 pub struct Coverage {
-    /// A call's form and the answer without values: `commit ok`, `look_up foyer none`.
+    /// A call's form and the answer without values: `commit ok`, `look_up foyer none since`.
     pub answers: BTreeSet<String>,
     /// A call's form and the clause that refused it by ground 2.
     pub broken: BTreeSet<(&'static str, Clause)>,
     /// The images asked for, and the most offers of a state above the checkpoint among them.
     pub images: BTreeSet<Asked>,
     pub most_offers: usize,
+    /// The lookups that were answered.
+    pub lookups: BTreeSet<LookedUp>,
     /// The lengths lent at calls.
     pub tables: BTreeSet<usize>,
     pub journals: BTreeSet<usize>,
@@ -72,15 +136,13 @@ impl Coverage {
 
     /// Notes a call, its answer, the clause that was broken before it, and the store after it.
     pub fn note(&mut self, call: &Call, answer: Answer, broken: Option<Clause>, store: &Store) {
-        let kind = match answer {
-            Answer::Done | Answer::Count(_) | Answer::Price(_) => "ok".to_string(),
-            Answer::NoPrice | Answer::Refused(_) => answer.to_string(),
-        };
+        let kind = answer.kind();
         let accepted = !matches!(answer, Answer::Refused(_));
         self.answers.insert(format!("{} {kind}", call.form()));
         if let (Some(clause), "refused 2") = (broken, kind.as_str()) {
             self.broken.insert((call.form(), clause));
         }
+        self.lookups.extend(LookedUp::of(call, answer, store));
         self.tables.insert(store.table.len());
         self.journals.insert(store.journal.len());
         let list = match call {
@@ -101,6 +163,7 @@ impl Coverage {
         self.broken.extend(other.broken);
         self.images.extend(other.images);
         self.most_offers = self.most_offers.max(other.most_offers);
+        self.lookups.extend(other.lookups);
         self.tables.extend(other.tables);
         self.journals.extend(other.journals);
         self.lists.extend(other.lists);

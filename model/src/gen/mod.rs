@@ -7,7 +7,7 @@ mod damage;
 mod noise;
 mod setup;
 
-pub use coverage::{Asked, Coverage};
+pub use coverage::{Asked, Coverage, LookedUp, Place};
 
 use crate::draw::Draw;
 use crate::script::{perform, Command, Show, TallyField};
@@ -96,7 +96,7 @@ impl Generator {
 
     /// One thing after another: mostly a call, at times something that comes between calls.
     fn episode(&mut self) {
-        match self.draw.rng.weighted(&[10, 70, 40, 25, 8, 10, 3, 834]) {
+        match self.draw.rng.weighted(&[10, 70, 40, 25, 8, 10, 3, 25, 809]) {
             0 => self.set_up(),
             1 => self.break_a_clause(),
             2 => self.damage_at_random(),
@@ -104,6 +104,7 @@ impl Generator {
             4 => self.many_commits(),
             5 => self.poke_tally(),
             6 => self.many_offers(),
+            7 => self.many_lookups(),
             _ => {
                 let which = self.draw.rng.weighted(&calls::WEIGHTS);
                 self.one_call(which);
@@ -148,6 +149,22 @@ impl Generator {
         }
         for _ in 0..3 {
             self.one_call(calls::WRITE_IMAGE);
+        }
+    }
+
+    /// A read that stays open while steps are committed and some of them flushed, and lookups of their offers.
+    fn many_lookups(&mut self) {
+        let at_most = [
+            (calls::ISSUE, 1),
+            (calls::COMMIT, 4),
+            (calls::FLUSH, 1),
+            (calls::COMMIT, 4),
+            (calls::LOOK_UP, 12),
+        ];
+        for (which, most) in at_most {
+            for _ in 0..self.draw.rng.within(1, most) {
+                self.one_call(which);
+            }
         }
     }
 

@@ -6,6 +6,10 @@ use model::unit::Unit;
 use std::fs;
 use std::path::PathBuf;
 
+/// Every answer of a lookup, whoever makes it: a price or none, since a state or by the table, and the grounds.
+const LOOKUP_ANSWERS: [&str; 8] =
+    ["ok since", "ok table", "none since", "none table", "refused 1", "refused 2", "refused 6", "refused 11"];
+
 /// Every answer that each form of a call can give, without values, as the grounds concern it. What follows the call's word says
 /// that the foyer makes it, or that an image's state is named.
 pub const ANSWERS: [(&str, &[&str]); 17] = [
@@ -17,8 +21,8 @@ pub const ANSWERS: [(&str, &[&str]); 17] = [
     ("commit", &["ok", "refused 1", "refused 2", "refused 6", "refused 12", "refused 13", "refused 14"]),
     ("roll_back", &["ok", "refused 1", "refused 2", "refused 11"]),
     ("flush", &["ok", "refused 1", "refused 2", "refused 11", "refused 16"]),
-    ("look_up", &["ok", "none", "refused 1", "refused 2", "refused 6", "refused 11"]),
-    ("look_up foyer", &["ok", "none", "refused 1", "refused 2", "refused 6", "refused 11"]),
+    ("look_up", &LOOKUP_ANSWERS),
+    ("look_up foyer", &LOOKUP_ANSWERS),
     ("issue", &["ok", "refused 1", "refused 2", "refused 3", "refused 19", "refused 4", "refused 6"]),
     (
         "issue foyer",

@@ -2,7 +2,7 @@
 #![allow(dead_code)]
 
 use cechnuol::Caller::{Desk, Foyer};
-use cechnuol::{Entry, Head, Refusal, Store, Tally};
+use cechnuol::{Entry, Head, Quote, Refusal, Since, Store, Tally};
 use std::path::Path;
 
 /// State 1 in the table, with offers 5 and 9; a step to state 2 above it; slot 3 open since state 1.
@@ -34,6 +34,16 @@ pub fn with_head(store: &Store, words: &[(usize, u64)]) -> Store {
     let mut head = *head.words();
     words.iter().for_each(|&(at, word)| head[at] = word);
     Store::from_parts(table, journal, Head::from_words(head), tally)
+}
+
+/// What a lookup gives that finds the offer named by the step to a state.
+pub fn since(state: u32, price: Option<u32>) -> Result<Quote, Refusal> {
+    Ok(Quote { price, since: Since::State(state) })
+}
+
+/// What a lookup gives that finds the offer named by no step.
+pub fn by_table(price: Option<u32>) -> Result<Quote, Refusal> {
+    Ok(Quote { price, since: Since::Table })
 }
 
 /// A call on a store that gives no value.

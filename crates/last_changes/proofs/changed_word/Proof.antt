@@ -6,6 +6,7 @@ use borrow.Author.Needs.{needs}
 use Rattle.changes.specs.Calculus.{find, composeAll}
 use Rattle.changes.specs.ReadSets.{foundOr}
 use Rattle.changes.specs.Runs.{runOf}
+use Rattle.last_changes.specs.Last.{wordIn}
 use Rattle.last_changes.proofs.changed_word.Statement.{statement}
 use Rattle.last_changes.proofs.changed_word.Tie as tie
 
@@ -27,7 +28,7 @@ returns c =
     let c4 = c3 .before in
     let args = c4 .before .before .before .args in
     ap (λ f. foundOr f (args .word))
-    (sym (c .before .later .given .1) ∙ (c3 .last-change .ensures .0)
+    (sym (ap wordIn (c .before .later .given .1)) ∙ (c3 .last-change .ensures .0 .0)
     ∙ ap (λ n. find n (composeAll (runOf (args .journal .now) (args .ends .now) (args .from)
     ((args .to) - (args .from))))) (c4 .offer-of .ensures))
 
@@ -36,7 +37,7 @@ returns-2 c =
     let c3 = c .before .before .before in
     let args = c3 .before .before .before .args in
     ap (λ f. foundOr f (args .word))
-    (sym (c .enum-told .given .1) ∙ (c .before .before .last-change .ensures .0)
+    (sym (ap wordIn (c .enum-told .given .1)) ∙ (c .before .before .last-change .ensures .0 .0)
     ∙ ap (λ n. find n (composeAll (runOf (args .journal .now) (args .ends .now) (args .from)
     ((args .to) - (args .from))))) (c3 .offer-of .ensures))
 

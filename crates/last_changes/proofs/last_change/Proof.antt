@@ -1,8 +1,8 @@
 -- `last_changes::last_change` meets its contract: the steps that were searched have no word at the offer.
 -- Assumes nothing.
 use Prim.Native.Nat.{_-_}
-use Rattle.lists.proofs.Halving.{finds}
-use Rattle.last_changes.proofs.Seeking.{Seeking, seeking, sought, newest-marked, newest-rises, found-there, not-there}
+use Rattle.last_changes.proofs.Seeking.{last-is, Seeking, seeking, sought}
+use Rattle.last_changes.proofs.Seeking.{newest-marked, newest-rises, found-there, not-there}
 use borrow.Author.Needs.{needs}
 use native.Mathlib.Omega.{arith}
 use Rattle.last_changes.proofs.last_change.Statement.{statement}
@@ -24,17 +24,22 @@ find-in-step-requires : tie.Need-find-in-step-requires Inv-loop μ-loop
 find-in-step-requires c κs =
     (newest-marked (c .before .loop .inv) (c .loop-test .taken), newest-rises (c .before .loop .inv) (c .loop-test .taken))
 
-enum-told : tie.Need-enum-told Inv-loop μ-loop
-enum-told c = search needs
+enum-known-found : tie.Need-enum-known-found Inv-loop μ-loop
+enum-known-found c = search needs
 
-enum-told-2 : tie.Need-enum-told-2 Inv-loop μ-loop
-enum-told-2 c = search needs
+sub-t11 : tie.Need-sub-t11 Inv-loop μ-loop
+sub-t11 c = omega (arith, (c .before .before .before .before .loop-test .taken))
 
 returns : tie.Need-returns Inv-loop μ-loop
 returns c =
-    let c3 = c .before .before .before in
-    let c4 = c3 .before in
-    finds (found-there (c4 .loop .inv) (c3 .loop-test .taken) _ (c .before .before .find-in-step .ensures) _ ((c .enum-told2 .given .1)))
+    let c4 = c .before .before .before .before in
+    let c5 = c4 .before in
+    let c8 = c5 .before .before .before in
+    last-is (c8 .pre) (c8 .args .offer)
+    (found-there (c5 .loop .inv) (c4 .loop-test .taken) _ (c .before .before .before .find-in-step .ensures) _ (c .before .found .given .1))
+
+enum-told : tie.Need-enum-told Inv-loop μ-loop
+enum-told c = search needs
 
 loop-less : tie.Need-loop-less Inv-loop μ-loop
 loop-less c = omega arith
@@ -46,7 +51,9 @@ loop-again c =
     not-there (c4 .loop .inv) (c3 .loop-test .taken) _ (c .before .before .find-in-step .ensures) ((c .enum-told .given .1))
 
 returns-2 : tie.Need-returns-2 Inv-loop μ-loop
-returns-2 c = finds (sought (c .before .loop .inv) (omega arith))
+returns-2 c =
+    let c4 = c .before .before .before .before in
+    last-is (c4 .pre) (c4 .args .offer) (sought (c .before .loop .inv) (omega arith))
 
 pub last-change-spec : {M : Type 1} → statement M
 last-change-spec =
@@ -57,9 +64,10 @@ last-change-spec =
     loop-holds
     sub-step
     find-in-step-requires
-    enum-told
-    enum-told-2
+    enum-known-found
+    sub-t11
     returns
+    enum-told
     loop-less
     loop-again
     returns-2)

@@ -1,20 +1,23 @@
 //! The calls that read: look up, issue, forward, release.
 
 use super::caller::Caller;
+use super::quote::{Quote, Since};
 use super::refusal::Refusal;
 use super::store::Store;
 use super::word;
 
 impl Store<'_> {
-    /// The price of an offer, or none, at a state, whoever asks.
-    pub fn look_up(&self, offer: u32, state: u32) -> Result<Option<u32>, Refusal> {
+    /// The price of an offer, or none, at a state, and how fresh that is, whoever asks.
+    pub fn look_up(&self, offer: u32, state: u32) -> Result<Quote, Refusal> {
         self.test_store()?;
         Refusal::BadList.unless(offer < word::OFFERS)?;
         self.test_state(state)?;
-        let found = self
-            .last_change(self.head.checkpoint, state, offer)
-            .or_else(|| word::find(&self.table[..self.head.used], offer));
-        Ok(found.filter(|&word| word::is_put(word)).map(word::price))
+        let (found, since) = match self.last_change(self.head.checkpoint, state, offer) {
+            Some((word, named)) => (Some(word), Since::State(named)),
+            None => (word::find(&self.table[..self.head.used], offer), Since::Table),
+        };
+        let price = found.filter(|&word| word::is_put(word)).map(word::price);
+        Ok(Quote { price, since })
     }
 
     /// Fills a list of kind 0 words from the table, and opens a slot.
@@ -49,7 +52,9 @@ impl Store<'_> {
         self.test_state(state)?;
         let issued = self.head.issued[slot];
         for word in reads {
-            *word = self.last_change(issued, state, word::offer(*word)).unwrap_or(*word);
+            if let Some((later, _)) = self.last_change(issued, state, word::offer(*word)) {
+                *word = later;
+            }
         }
         self.close(slot);
         Ok(())
@@ -70,9 +75,11 @@ impl Store<'_> {
         self.trim();
     }
 
-    /// The last change of an offer among the steps from one state to another, sought from the newest back.
-    fn last_change(&self, from: u32, to: u32, offer: u32) -> Option<u64> {
+    /// The last change of an offer among the steps from one state to another, sought from the newest back, and the state to
+    /// which its step leads.
+    fn last_change(&self, from: u32, to: u32, offer: u32) -> Option<(u64, u32)> {
         let steps = self.head.steps_to(from)..self.head.steps_to(to);
-        steps.rev().find_map(|step| word::find(self.step(step), offer))
+        let (step, word) = steps.rev().find_map(|step| Some((step, word::find(self.step(step), offer)?)))?;
+        Some((word, self.head.oldest + step as u32 + 1))
     }
 }

@@ -4,7 +4,7 @@ use mathlib.Core.Path.{ap}
 use mathlib.Core.List.{[]}
 use Rattle.answers.specs.declared.call.Caller.{Caller}
 use Rattle.answers.specs.declared.call.Query.the-variants.{LookUp}
-use Rattle.cechnuol.proofs.Serving.{tells-same}
+use Rattle.cechnuol.proofs.Serving.{tells-same, since-same}
 use borrow.Author.Needs.{needs}
 use Rattle.cechnuol.proofs.store.cechnuol_look_up.Statement.{statement}
 use Rattle.cechnuol.proofs.store.cechnuol_look_up.Tie as tie
@@ -24,17 +24,24 @@ ask-on-requires c κs = search needs
 value-of-requires : tie.Need-value-of-requires
 value-of-requires c κs = search needs
 
+since-of-requires : tie.Need-since-of-requires
+since-of-requires c κs = search needs
+
 code-of-requires : tie.Need-code-of-requires
 code-of-requires c κs = search needs
 
 returns : tie.Need-returns
 returns c =
-    let c5 = c .before .before .before .before .before in
-    let c8 = c5 .before .before .before in
-    let args = c8 .before .before .before .args in
-    tells-same (args .table .now) (args .journal .now) [] [] (args .head .now)
-    (ap (λ (k : Caller). LookUp (record { caller = k; offer = (args .offer); state = (args .state) })) (c8 .caller-of .ensures))
-    (args .price .now) (c .code-of .ensures) (c .before .value-of .ensures) (c5 .ask-on .ensures)
+    let c7 = c .before .before .before .before .before .before .before in
+    let c10 = c7 .before .before .before in
+    let args = c10 .before .before .before .args in
+    let same = ap (λ (k : Caller). LookUp (record { caller = k; offer = (args .offer); state = (args .state) }))
+    (c10 .caller-of .ensures) in (
+      tells-same (args .table .now) (args .journal .now) [] [] (args .head .now) same (args .price .now)
+          (c .code-of .ensures) (c .before .before .before .value-of .ensures) (c7 .ask-on .ensures),
+      since-same (args .table .now) (args .journal .now) [] [] (args .head .now) same (args .since .now)
+          (c .before .since-of .ensures) (c7 .ask-on .ensures),
+    )
 
 pub cechnuol-look-up-spec : {M : Type 1} → statement M
 cechnuol-look-up-spec =
@@ -45,5 +52,6 @@ cechnuol-look-up-spec =
     slice-aggregate-ask-on-2
     ask-on-requires
     value-of-requires
+    since-of-requires
     code-of-requires
     returns)
