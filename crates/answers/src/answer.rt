@@ -10,9 +10,10 @@ pub enum Check {
     Refused(Ground),
 }
 
-// How fresh a quote is: the state to which the last step naming the offer leads, or that the table answered.
+// How fresh a quote is: the state to which the last step naming the offer leads, or that the table answered. The state has 64 bits, so that
+// it lies in an answer where a count does, and answers are copied by whole words.
 pub enum Since {
-    State(u32),
+    State(u64),
     Table,
 }
 

@@ -1,8 +1,11 @@
 -- Condition 3, proved.
 -- Assumes nothing.
-use mathlib.Core.Path.{_≡_, refl}
+use mathlib.Core.Path.{_≡_, refl, ap}
 use mathlib.Core.Bool.{cond}
 use mathlib.Core.List.{List, [], _∷_, _++_}
+use Prim.Native.Nat.{ℕ}
+use Rattle.answers.specs.Answers.{When, byBook}
+use Rattle.history.specs.Named.{Quote, priced, unpriced, brought, refused, done, filled, quote, dated, report}
 use Rattle.history.specs.Named.{Call, Response, compared, acceptedB, acceptedCalls, quoteIn, quotes}
 use Rattle.conditions.specs.CCalls.{CallOnStoreC, memoryAfter, tellsC, CLoads, lengthsC}
 use Rattle.conditions.specs.Serving.{CallOnStore, handed, tells, lengthsIn, Loads}
@@ -20,6 +23,36 @@ quoted-one : (r : Response) (responses : List Response) → quotes (r ∷ respon
 unfolding quotes
 quoted-one r responses = refl
 
+-- a response in its parts; what is no lookup's stands for every other
+quoted-in : Response → Quote
+quoted-in (dated q since) = q
+quoted-in (refused n) = unpriced
+quoted-in done = unpriced
+quoted-in (filled l) = unpriced
+quoted-in (quote q) = unpriced
+quoted-in (report r) = unpriced
+
+since-in : Response → When
+since-in (dated q since) = since
+since-in (refused n) = byBook
+since-in done = byBook
+since-in (filled l) = byBook
+since-in (quote q) = byBook
+since-in (report r) = byBook
+
+price-in : Quote → ℕ
+price-in (priced p) = p
+price-in unpriced = 0
+price-in (brought l) = 0
+
+told-apart : (q r : Quote) (a b : When) → dated q a ≡ dated r b → (q ≡ r) × (a ≡ b)
+unfolding quoted-in since-in
+told-apart q r a b e = (ap quoted-in e, ap since-in e)
+
+priced-apart : (p q : ℕ) → priced p ≡ priced q → p ≡ q
+unfolding price-in
+priced-apart p q e = ap price-in e
+
 pub condition-3 : Condition3
 condition-3 = record {
   bytes-not-compared = λ named list a b. refl;
@@ -27,6 +60,8 @@ condition-3 = record {
   flushes-apart = λ n. refl;
   accepted-count = accepted-one;
   lookups-respond = λ asked p since words bytes. (refl, refl);
+  lookups-told-apart = told-apart;
+  prices-told-apart = priced-apart;
   quotes-count = quoted-one;
   forwards-count = λ q. refl;
   lookups-count = λ q since. refl;

@@ -66,6 +66,9 @@ pub record Condition3 : Type 0 where
   pub lookups-respond : (asked : Lookup) (p : ℕ) (since : When) (words bytes : List ℕ)
       → (responseTo (ask (LookUp asked)) (pricedBy p since) words bytes ≡ dated (priced p) since)
       × (responseTo (ask (LookUp asked)) (without since) words bytes ≡ dated unpriced since)
+  -- and lookups that differ in the price or in since when have different responses
+  pub lookups-told-apart : (q r : Quote) (a b : When) → dated q a ≡ dated r b → (q ≡ r) × (a ≡ b)
+  pub prices-told-apart : (p q : ℕ) → priced p ≡ priced q → p ≡ q
   -- of the calls of a run just those count that were accepted, and of its answers every price, or none, and every forwarded read; of a
   -- lookup since when is left out: "Two stores with different flushes may differ in this number; prices still agree."
   pub accepted-count : (c : Call) (calls : List Call) (r : Response) (responses : List Response)

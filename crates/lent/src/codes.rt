@@ -43,7 +43,7 @@ fn since_word(since: Since) -> u64
     ensures { λ r. ⌜ r ≡ sinceWord (saidBySince since) ⌝ }
 {
     match since {
-        Since::State(state) => state as u64,
+        Since::State(state) => state,
         Since::Table => BY_TABLE,
     }
 }

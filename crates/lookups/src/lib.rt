@@ -74,7 +74,7 @@ fn price_after(
 {
     let last = last_change(journal, ends, from, to, offer);
     if let Last::Word(word, steps) = last {
-        let since = Since::State(checkpoint + steps as u32);
+        let since = Since::State(checkpoint as u64 + steps as u64);
         return quote_of(Found::Word(word), since);
     }
     quote_of(find(base, offer), Since::Table)

@@ -48,7 +48,7 @@ pub(crate) fn show_entries(text: &[u8], words: &[u64]) {
 // Since when an offer stands as it is quoted.
 fn show_since(since: Since) {
     match since {
-        Since::State(state) => show_number(b" (since state ", state as u64),
+        Since::State(state) => show_number(b" (since state ", state),
         Since::Table => show_text(b" (by the table"),
     }
     show_text(b")");

@@ -21,23 +21,8 @@ enum-known-last : tie.Need-enum-known-last
 enum-known-last c = search needs
 
 -- the last change is one of the steps up to the state
-cast-t12 : tie.Need-cast-t12
-cast-t12 c =
-    let c3 = c .before .before .before in
-    let c7 = c3 .before .before .before .before in
-    let args = c7 .args in
-    record {
-      fits =
-          omega (
-            arith,
-            c7 .pre .2,
-            last-within (args .journal .now) (args .ends .now) (args .offer) (args .from) ((args .to) - (args .from)) _ _
-                (sym (c .before .last .given .1) ∙ (c3 .last-change .ensures .1 .0)),
-          );
-    }
-
-add-t13 : tie.Need-add-t13
-add-t13 c =
+add-t14 : tie.Need-add-t14
+add-t14 c =
     let c3 = c .before .before .before in
     let c7 = c3 .before .before .before .before in
     let args = c7 .args in
@@ -92,8 +77,7 @@ price-after-spec =
     (tie.spec
     last-change-requires
     enum-known-last
-    cast-t12
-    add-t13
+    add-t14
     quote-of-requires
     returns
     enum-told
