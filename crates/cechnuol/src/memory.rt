@@ -1,7 +1,9 @@
 // A call on memory that a C program lends: with words and bytes, with words alone, and with neither; a clear, a commit and a load, which
-// need no dispatch; and a query, which is lent the store to read. A call that needs no words or no bytes is given none.
+// need no dispatch; and a query, which is lent the store to read, where a lookup needs no dispatch either. A call that needs no words or
+// no bytes is given none.
 use answers::answer::Answer;
 use answers::call::Call;
+use answers::call::LookUp;
 use answers::call::Query;
 use calls::ask::ask;
 use head_words::HEAD_WORDS;
@@ -13,12 +15,14 @@ use lent::fit::unfit_answer;
 use lent::storing::TALLY_WORDS;
 use lent::storing::put_served;
 use lent::storing::tally_in;
+use lookups::look_up;
 use unit::direct::serve_clear;
 use unit::direct::serve_commit;
 use unit::direct::serve_load;
 use unit::serve::serve_core;
 ghost use mathlib.Core.Path.{_≡_};
 ghost use mathlib.Core.List.{[]};
+ghost use Rattle.answers.specs.declared.call.Query.the-variants.{LookUp as LookUpOf};
 ghost use Rattle.lent.specs.Asked.{clear, commit, load};
 ghost use Rattle.lent.specs.Lent.{Leaves, Serves, Asks, wordsAfter};
 
@@ -163,4 +167,19 @@ pub(crate) fn ask_on(
         return unfit_answer(table.len(), journal.len());
     }
     ask(table, journal, words, bytes, unpack(head), query)
+}
+
+// Answers a lookup, which is lent neither words nor bytes.
+pub(crate) fn look_up_on(
+    table: &[u64],
+    journal: &[u64],
+    head: &[u64; HEAD_WORDS],
+    asked: LookUp,
+) -> Answer
+    ensures { λ r. ⌜ Asks (now (table .entry)) (now (journal .entry)) [] [] (now (head .entry)) (LookUpOf asked) r [] [] ⌝ }
+{
+    if !is_head(head) {
+        return unfit_answer(table.len(), journal.len());
+    }
+    look_up(table, journal, unpack(head), asked)
 }

@@ -4,6 +4,7 @@ use crate::memory::call_on;
 use crate::memory::clear_on;
 use crate::memory::commit_on;
 use crate::memory::load_on;
+use crate::memory::look_up_on;
 use crate::memory::serve_store;
 use crate::memory::serve_words;
 use answers::call::Call;
@@ -209,21 +210,12 @@ pub extern "C" fn cechnuol_look_up(
         × TellsSince (now (table .entry)) (now (journal .entry)) [] [] (now (head .entry)) (lookUp caller offer state)
         (now (since .exit)) (now (since .entry)) ⌝ }
 {
-    let mut words = [0u64; 0];
-    let mut bytes = [0u8; 0];
     let asked = LookUp {
         caller: caller_of(caller),
         offer,
         state,
     };
-    let answer = ask_on(
-        table,
-        journal,
-        &mut words,
-        &mut bytes,
-        head,
-        Query::LookUp(asked),
-    );
+    let answer = look_up_on(table, journal, head, asked);
     *price = value_of(answer, *price);
     *since = since_of(answer, *since);
     code_of(answer)

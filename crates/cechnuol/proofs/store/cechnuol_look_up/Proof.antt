@@ -1,4 +1,4 @@
--- `store::cechnuol_look_up` meets its contract: it has what the query on lent memory promises.
+-- `store::cechnuol_look_up` meets its contract: it has what the lookup on lent memory promises.
 -- Assumes nothing.
 use mathlib.Core.Path.{ap}
 use mathlib.Core.List.{[]}
@@ -12,14 +12,8 @@ use Rattle.cechnuol.proofs.store.cechnuol_look_up.Tie as tie
 caller-of-requires : tie.Need-caller-of-requires
 caller-of-requires c κs = search needs
 
-slice-aggregate-ask-on : tie.Need-slice-aggregate-ask-on
-slice-aggregate-ask-on c = search needs
-
-slice-aggregate-ask-on-2 : tie.Need-slice-aggregate-ask-on-2
-slice-aggregate-ask-on-2 c = search needs
-
-ask-on-requires : tie.Need-ask-on-requires
-ask-on-requires c κs = search needs
+look-up-on-requires : tie.Need-look-up-on-requires
+look-up-on-requires c κs = search needs
 
 value-of-requires : tie.Need-value-of-requires
 value-of-requires c κs = search needs
@@ -32,26 +26,16 @@ code-of-requires c κs = search needs
 
 returns : tie.Need-returns
 returns c =
-    let c7 = c .before .before .before .before .before .before .before in
-    let c10 = c7 .before .before .before in
-    let args = c10 .before .before .before .args in
+    let c5 = c .before .before .before .before .before in
+    let args = c5 .before .before .before .before .args in
     let same = ap (λ (k : Caller). LookUp (record { caller = k; offer = (args .offer); state = (args .state) }))
-    (c10 .caller-of .ensures) in (
+    (c5 .before .caller-of .ensures) in (
       tells-same (args .table .now) (args .journal .now) [] [] (args .head .now) same (args .price .now)
-          (c .code-of .ensures) (c .before .before .before .value-of .ensures) (c7 .ask-on .ensures),
+          (c .code-of .ensures) (c .before .before .before .value-of .ensures) (c5 .look-up-on .ensures),
       since-same (args .table .now) (args .journal .now) [] [] (args .head .now) same (args .since .now)
-          (c .before .since-of .ensures) (c7 .ask-on .ensures),
+          (c .before .since-of .ensures) (c5 .look-up-on .ensures),
     )
 
 pub cechnuol-look-up-spec : {M : Type 1} → statement M
 cechnuol-look-up-spec =
-    tie.close
-    (tie.spec
-    caller-of-requires
-    slice-aggregate-ask-on
-    slice-aggregate-ask-on-2
-    ask-on-requires
-    value-of-requires
-    since-of-requires
-    code-of-requires
-    returns)
+    tie.close (tie.spec caller-of-requires look-up-on-requires value-of-requires since-of-requires code-of-requires returns)
