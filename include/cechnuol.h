@@ -6,8 +6,8 @@
  * tip, which is the newest, and says how fresh a quote is; it steps back from the tip when the feed is corrected, and
  * lets the checkpoint follow by a flush. A read may start before the state that it serves exists: it is issued at the
  * checkpoint and forwarded later. A batch of orders is priced on such a read. An image holds the prices at one state as
- * bytes, to be stored and loaded again. Two callers share a store, the desk at the counter and a display in the foyer,
- * and each has slots of its own for its reads.
+ * bytes, to be stored and loaded again, and a sheet holds them by row, as box offices exchange them. Two callers share a
+ * store, the desk at the counter and a display in the foyer, and each has slots of its own for its reads.
  *
  * The functions of the library are proved: for every length and every content of what they are lent they answer and
  * leave what is defined for them, stay within the memory lent, and end. They allocate nothing, keep nothing between
@@ -47,23 +47,23 @@
  *   never null. What a call may write overlaps nothing else that it is lent, else the outcome is undefined; what it
  *   only reads may overlap.
  *
- *   Threads. Calls on one store are made one at a time. Queries (cechnuol_look_up, cechnuol_write_image and
- *   cechnuol_write_state_image) of one store may run side by side, each with an output of its own, while no other call
- *   on that store runs. Calls on different stores, and cechnuol_price_batch, need no such care: the library has no
- *   memory of its own.
+ *   Threads. Calls on one store are made one at a time. Queries (cechnuol_look_up, and cechnuol_write_image,
+ *   cechnuol_write_state_image, cechnuol_write_sheet and cechnuol_write_state_sheet) of one store may run side by side,
+ *   each with an output of its own, while no other call on that store runs. Calls on different stores, and
+ *   cechnuol_price_batch, need no such care: the library has no memory of its own.
  *
- *   Stack. A flush, and the writing of the image of a state above the checkpoint, need up to 160 KiB of stack, and any
- *   other call less than 32 KiB. With few prices in table and journal these two take less than 40 KiB, so a test with a
- *   small store does not show that a stack is too small. Beware of small ones, as the 128 KiB that musl gives a thread, or those that
- *   pthread_attr_setstacksize made smaller. A stack that is too small ends the program where a guard page lies below
- *   it; one in memory of the program's own (pthread_attr_setstack, coroutines) has none, and what lies below is
- *   overwritten. The library has no unwind tables: where a program ends within a call, a debugger shows the innermost
- *   function and none of its callers.
+ *   Stack. A flush, and the writing of the image or the sheet of a state above the checkpoint, need up to 160 KiB of
+ *   stack, and any other call less than 32 KiB. With few prices in table and journal these take less than 40 KiB, so a
+ *   test with a small store does not show that a stack is too small. Beware of small ones, as the 128 KiB that musl
+ *   gives a thread, or those that pthread_attr_setstacksize made smaller. A stack that is too small ends the program
+ *   where a guard page lies below it; one in memory of the program's own (pthread_attr_setstack, coroutines) has none,
+ *   and what lies below is overwritten. The library has no unwind tables: where a program ends within a call, a debugger
+ *   shows the innermost function and none of its callers.
  *
- * What a call costs. Every call on a store but clear and load tests the whole of it, in one pass over table and
+ * What a call costs. Every call on a store but clear and the loads tests the whole of it, in one pass over table and
  * journal: some microseconds where they are as long as can be. A flush of 64 steps of 64 words into the longest table
  * takes about a hundred, the image of the state above them as many, and a forward of 64 words over as many steps some
- * tens.
+ * tens. A sheet takes longer to write and to load than the image of the same state, and the longer the more rows it has.
  *
  * What a refusal leaves. A call that is refused leaves everything lent as it came: table, journal, head, tally, words,
  * bytes, price, since and count. CECHNUOL_NO_PRICE is no refusal: a lookup that answers it has written *since, and left
@@ -82,8 +82,8 @@ extern "C" {
 /* Version. */
 
 /* The version of this header: major * 1000000 + minor * 1000 + patch, and as text. */
-#define CECHNUOL_VERSION 5000000
-#define CECHNUOL_VERSION_TEXT "5.0.0"
+#define CECHNUOL_VERSION 5001000
+#define CECHNUOL_VERSION_TEXT "5.1.0"
 
 /* The version of the library that is linked, as a number. It differs from CECHNUOL_VERSION where header and library are
  * not of one release. */
@@ -100,11 +100,15 @@ enum {
     CECHNUOL_SLOTS = 8,            /* slots are numbered from 0 to 7 */
     CECHNUOL_FOYER_SLOT = 6,       /* the foyer has the slots from this one on, the desk those below it */
     CECHNUOL_STEPS = 64,           /* so many steps are held at most: tip - oldest */
-    CECHNUOL_IMAGE_BYTES = 96774   /* the longest image, that of a state of 12,096 offers */
+    CECHNUOL_IMAGE_BYTES = 96774,  /* the longest image, that of a state of 12,096 offers */
+    CECHNUOL_SHEET_BYTES = 145160  /* the longest sheet, that of such a state with each offer in a row of its own */
 };
 
 /* The length in bytes of an image of so many offers. */
 #define CECHNUOL_IMAGE_BYTES_OF(offers) (6 + 8 * (offers))
+
+/* The most bytes that a sheet of so many offers has: where each is in a row of its own. */
+#define CECHNUOL_SHEET_BYTES_OF(offers) (8 + 12 * (offers))
 
 /* Callers. */
 
@@ -237,8 +241,8 @@ static inline uint32_t cechnuol_order_offer(uint64_t order)
  * the tip: those above the checkpoint, and those below it that an open slot still needs. Oldest is the least of the
  * checkpoint and the numbers of the open slots; the number of a slot is the checkpoint at its issue.
  *
- * A new store. What the memories hold before does not matter to cechnuol_clear and cechnuol_load. From then on they
- * belong to the calls: a program reads them between calls and changes nothing in them.
+ * A new store. What the memories hold before does not matter to cechnuol_clear, cechnuol_load and cechnuol_load_sheet.
+ * From then on they belong to the calls: a program reads them between calls and changes nothing in them.
  *
  * A damaged store. CECHNUOL_UNSOUND is answered where the form is broken: the order of offers, the zeros, or numbers
  * that do not fit each other. A price, an offer, the end of a step or the checkpoint that was changed within that form
@@ -304,6 +308,29 @@ static inline size_t cechnuol_image_bytes(const uint64_t head[CECHNUOL_HEAD_WORD
     return CECHNUOL_IMAGE_BYTES_OF(used + words);
 }
 
+/* Sheets. */
+
+/* A sheet is the prices at one state by row, as box offices exchange them: 32 seats to a row, offer = row * 32 + seat,
+ * so that rows are numbered from 0 to 2^26 - 1 and seats from 0 to 31. It is the state number in 32 bits and the count
+ * of rows in 32 bits, and then for each row that has a price: the row's number in 26 bits, six bits that are zero, a mask
+ * of 32 bits with seat 0 most significant, and one price in 32 bits for each set bit, in seat order; all of them most
+ * significant byte first. Rows rise strictly and no mask is zero; a state without prices has no rows. The length is
+ * exactly 8 bytes, 8 for each row and 4 for each price. The 20 bytes
+ *
+ *     00 00 00 07  00 00 00 01  00 00 00 00  04 00 00 00  00 00 04 B0
+ *
+ * are the sheet of state 7 with offer 5, seat 5 of row 0, at 1200. Each state has one sheet, and what is said above of
+ * images holds of sheets: of which states they are written, and where they load. Neither is ever taken for the other. */
+
+/* How many bytes are enough for the sheet of any state from the checkpoint to the tip: as if each change above the
+ * checkpoint were an offer of its own, and each offer in a row of its own. It is room and not the length, which the call
+ * gives. Never above CECHNUOL_SHEET_BYTES, whatever the words are. */
+static inline size_t cechnuol_sheet_bytes(const uint64_t head[CECHNUOL_HEAD_WORDS])
+{
+    size_t offers = (cechnuol_image_bytes(head) - CECHNUOL_IMAGE_BYTES_OF(0)) / 8;
+    return CECHNUOL_SHEET_BYTES_OF(offers);
+}
+
 /* Answers. */
 
 /* Every call answers one of these. Each call below has the refusals that it can give in the order in which they are
@@ -325,7 +352,7 @@ enum {
     CECHNUOL_LAST_STATE = 12,    /* a commit where the tip is 2^32 - 1 */
     CECHNUOL_STEPS_FULL = 13,    /* a commit where 64 steps are held */
     CECHNUOL_JOURNAL_FULL = 14,  /* a commit of more words than the journal has unused */
-    CECHNUOL_BAD_IMAGE = 15,     /* an image's length, order of offers or kind bits are wrong */
+    CECHNUOL_BAD_IMAGE = 15,     /* the length, the order or a bit of an image or a sheet is wrong */
     CECHNUOL_TABLE_FULL = 16,    /* the prices to be flushed or loaded are more than the table has words */
     CECHNUOL_OUTPUT_SHORT = 17,  /* the output is shorter than what is to be written */
     CECHNUOL_LONG_LIST = 18,     /* a list or read set of the foyer has over 16 words */
@@ -384,7 +411,7 @@ static inline const char *cechnuol_text(uint64_t answer)
     case CECHNUOL_LAST_STATE: return "the tip is the last state number, 2^32 - 1";
     case CECHNUOL_STEPS_FULL: return "64 steps are held";
     case CECHNUOL_JOURNAL_FULL: return "the list has more words than the journal has unused";
-    case CECHNUOL_BAD_IMAGE: return "the length, the order of offers or a kind bit of the image is wrong";
+    case CECHNUOL_BAD_IMAGE: return "the length, the order or a bit of the image or sheet is wrong";
     case CECHNUOL_TABLE_FULL: return "the state has more prices than the table has words";
     case CECHNUOL_OUTPUT_SHORT: return "the output is shorter than what is to be written";
     case CECHNUOL_LONG_LIST: return "the foyer's list has over 16 words";
@@ -422,6 +449,14 @@ uint64_t cechnuol_clear(CECHNUOL_STORE);
  * more than 8,000 offers fits no table. */
 uint64_t cechnuol_load(CECHNUOL_STORE, const uint8_t *bytes, size_t byte_count);
 
+/* Makes a store of a sheet, which the bytes are from the first to the last, as cechnuol_load does of an image. The sheet
+ * and the image of a state load alike.
+ * Changes: table, journal, head, tally.
+ * Refusals: LENGTHS, BAD_IMAGE, TABLE_FULL.
+ * At TABLE_FULL lend a longer table, of a word for each price: there are (byte_count - 8 - 8 * rows) / 4 of them, where
+ * rows is the sheet's count, its fifth to eighth byte. One of more than 8,000 prices fits no table. */
+uint64_t cechnuol_load_sheet(CECHNUOL_STORE, const uint8_t *bytes, size_t byte_count);
+
 /* A query. Writes the image of the tip to the start of the bytes and its length to *count; bytes past it stay. It has
  * the newest prices, whatever is flushed, and may have more of them than the table of this store has words: such a one
  * loads into a longer table alone.
@@ -436,6 +471,22 @@ uint64_t cechnuol_write_image(CECHNUOL_STORE_TO_READ, uint8_t *bytes, size_t byt
  * Refusals: LENGTHS, UNSOUND, STATE_RANGE, OUTPUT_SHORT.
  * At OUTPUT_SHORT lend cechnuol_image_bytes(head) bytes; CECHNUOL_IMAGE_BYTES are always enough. */
 uint64_t cechnuol_write_state_image(CECHNUOL_STORE_TO_READ, uint32_t state, uint8_t *bytes, size_t byte_count,
+                                    uint64_t *count);
+
+/* A query. Writes the sheet of the tip to the start of the bytes and its length to *count; bytes past it stay. It has
+ * the newest prices, whatever is flushed, and may have more of them than the table of this store has words: such a one
+ * loads into a longer table alone.
+ * Changes: bytes, *count.
+ * Refusals: LENGTHS, UNSOUND, OUTPUT_SHORT.
+ * At OUTPUT_SHORT lend cechnuol_sheet_bytes(head) bytes; CECHNUOL_SHEET_BYTES are always enough. */
+uint64_t cechnuol_write_sheet(CECHNUOL_STORE_TO_READ, uint8_t *bytes, size_t byte_count, uint64_t *count);
+
+/* A query. Writes the sheet of a state from the checkpoint to the tip to the start of the bytes and its length to
+ * *count; bytes past it stay. That of the checkpoint takes CECHNUOL_SHEET_BYTES_OF(head[CECHNUOL_USED]) bytes at most.
+ * Changes: bytes, *count.
+ * Refusals: LENGTHS, UNSOUND, STATE_RANGE, OUTPUT_SHORT.
+ * At OUTPUT_SHORT lend cechnuol_sheet_bytes(head) bytes; CECHNUOL_SHEET_BYTES are always enough. */
+uint64_t cechnuol_write_state_sheet(CECHNUOL_STORE_TO_READ, uint32_t state, uint8_t *bytes, size_t byte_count,
                                     uint64_t *count);
 
 /* Writes the image of the checkpoint to the start of the bytes and loads it from there, as a program does that is
@@ -539,8 +590,8 @@ uint64_t cechnuol_price_batch(const uint64_t *reads, size_t read_count, const ui
 /* A store in a struct. */
 
 /* The four memories together. The program sets table and journal with their lengths, and makes a store of it by
- * cechnuol_store_clear or cechnuol_store_load. A copy of the struct is not a copy of the store: table and journal are
- * pointers. */
+ * cechnuol_store_clear, cechnuol_store_load or cechnuol_store_load_sheet. A copy of the struct is not a copy of the
+ * store: table and journal are pointers. */
 struct cechnuol_store {
     uint64_t *table;
     size_t table_words;
@@ -566,6 +617,11 @@ static inline uint64_t cechnuol_store_load(struct cechnuol_store *store, const u
     return cechnuol_load(CECHNUOL_LENT(store), bytes, byte_count);
 }
 
+static inline uint64_t cechnuol_store_load_sheet(struct cechnuol_store *store, const uint8_t *bytes, size_t byte_count)
+{
+    return cechnuol_load_sheet(CECHNUOL_LENT(store), bytes, byte_count);
+}
+
 static inline uint64_t cechnuol_store_write_image(const struct cechnuol_store *store, uint8_t *bytes, size_t byte_count,
                                                   uint64_t *count)
 {
@@ -576,6 +632,18 @@ static inline uint64_t cechnuol_store_write_state_image(const struct cechnuol_st
                                                         uint8_t *bytes, size_t byte_count, uint64_t *count)
 {
     return cechnuol_write_state_image(CECHNUOL_LENT_TO_READ(store), state, bytes, byte_count, count);
+}
+
+static inline uint64_t cechnuol_store_write_sheet(const struct cechnuol_store *store, uint8_t *bytes, size_t byte_count,
+                                                  uint64_t *count)
+{
+    return cechnuol_write_sheet(CECHNUOL_LENT_TO_READ(store), bytes, byte_count, count);
+}
+
+static inline uint64_t cechnuol_store_write_state_sheet(const struct cechnuol_store *store, uint32_t state,
+                                                        uint8_t *bytes, size_t byte_count, uint64_t *count)
+{
+    return cechnuol_write_state_sheet(CECHNUOL_LENT_TO_READ(store), state, bytes, byte_count, count);
 }
 
 static inline uint64_t cechnuol_store_restart(struct cechnuol_store *store, uint8_t *bytes, size_t byte_count)
@@ -622,7 +690,8 @@ static inline uint64_t cechnuol_store_release(struct cechnuol_store *store, uint
 }
 
 /* What the head of a store says: the numbers of its oldest state, its checkpoint and its tip, whether a slot is open (0
- * for one above 7), and how many bytes are enough for the image of any state from the checkpoint to the tip. */
+ * for one above 7), and how many bytes are enough for the image, and for the sheet, of any state from the checkpoint to
+ * the tip. */
 static inline uint32_t cechnuol_store_oldest(const struct cechnuol_store *store)
 {
     return cechnuol_low_bits(store->head[CECHNUOL_OLDEST]);
@@ -646,6 +715,11 @@ static inline int cechnuol_store_is_open(const struct cechnuol_store *store, siz
 static inline size_t cechnuol_store_image_bytes(const struct cechnuol_store *store)
 {
     return cechnuol_image_bytes(store->head);
+}
+
+static inline size_t cechnuol_store_sheet_bytes(const struct cechnuol_store *store)
+{
+    return cechnuol_sheet_bytes(store->head);
 }
 
 #ifdef __cplusplus

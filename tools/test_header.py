@@ -42,6 +42,7 @@ FILES = {
     "batches": "crates/batch/specs/Batches.antt",
     "report": "crates/listing/src/report.rt",
     "image": "crates/image/specs/Image.antt",
+    "sheet": "crates/sheet/specs/Sheet.antt",
     "orders": "crates/orders/specs/Orders.antt",
     "grounds": "crates/conditions/specs/Grounds.antt",
     "changes": "tests/c/changes.c",
@@ -75,6 +76,12 @@ LIMITS = {
     ],
     "HEAD_WORDS": [("head_code", "pub const HEAD_WORDS: usize = ", ";")],
     "TALLY_WORDS": [("storing", "pub const TALLY_WORDS: usize = ", ";")],
+}
+# The calls of the definitions that take a format: a function for the image, and one for the sheet.
+OF_FORMATS = {
+    "load": ("load", "load_sheet"),
+    "write": ("write_image", "write_sheet"),
+    "write_state": ("write_state_image", "write_state_sheet"),
 }
 # The parts of what is lent as tests/c/lent.h names them, where the header says otherwise.
 PARTS = {"*count": "VALUE", "*price": "VALUE", "*since": "SINCE"}
@@ -120,8 +127,8 @@ def in_header(header):
 
 
 def of_limits(of):
-    """The limits, each of which all texts have alike; the longest image is that of a full table and a journal of new offers, and the
-    longest that is listed that of a full table."""
+    """The limits, each of which all texts have alike; the longest image is that of a full table and a journal of new offers, the longest
+    sheet that of as many, each in a row of its own, and the longest image that is listed that of a full table."""
     limits = {}
     for name, places in LIMITS.items():
         found = {number_in(of[file], before, behind) for file, before, behind in places}
@@ -132,6 +139,10 @@ def of_limits(of):
     offers = limits["TABLE_WORDS"] + limits["JOURNAL_WORDS"]
     sure("pub const MAP_WORDS: usize = TABLE_WORDS + JOURNAL_WORDS;\n" in of["layout"], "the largest map")
     limits["IMAGE_BYTES"] = int(start) + int(each) * offers
+    sheet = re.search(r"^sheetSize words = (\d+) \+ (\d+) \* length \(rowsOf words\) \+ (\d+) \* length words$", of["sheet"], re.M)
+    header, row, price = map(int, sheet.groups())
+    sure(f"#define CECHNUOL_SHEET_BYTES_OF(offers) ({header} + {row + price} * (offers))\n" in of["header"], "the length of a sheet")
+    limits["SHEET_BYTES"] = header + (row + price) * offers
     listed = number_in(of["report"], "pub const IMAGE_BYTES: usize = ", ";")
     sure(int(start) + int(each) * limits["TABLE_WORDS"] == listed, "the longest image that is listed")
     return limits
@@ -266,14 +277,15 @@ def told(header, what):
     comments = re.findall(r"/\*((?:(?!\*/).)*)\*/\nuint64_t cechnuol_(\w+)\(", header, re.S)
     plain = {name: re.sub(r"\s*\n \* ?", " ", comment) for comment, name in comments if name != "version"}
     found = {name: re.search(what + r": (.*?)\.", comment) for name, comment in plain.items()}
-    sure(all(found.values()) and len(found) == 13, f"each call has a line {what}")
+    sure(all(found.values()) and len(found) == 16, f"each call has a line {what}")
     return {name: match.group(1) for name, match in found.items()}
 
 
 def refusals_defined(grounds):
-    """The numbers by which the definitions turn each call away, in their order."""
+    """The numbers by which the definitions turn each call away, in their order; those with a format are two functions."""
     rows = re.findall(r"^of(?:Reset|Step|Read|Query) \(?(\w+)[^)=]*\)? = ((?:\d+ ∷ )*)\[\]$", grounds, re.M)
-    found = {constant(call).lower(): list(map(int, re.findall(r"\d+", numbers))) for call, numbers in rows}
+    named = [(constant(call).lower(), list(map(int, re.findall(r"\d+", numbers)))) for call, numbers in rows]
+    found = {function: numbers for call, numbers in named for function in OF_FORMATS.get(call, (call,))}
     batch = re.search(r"^ofBatch = ((?:\d+ ∷ )*)\[\]$", grounds, re.M).group(1)
     later = re.search(r"then (\d+) or (\d+), of the first order that fails, and where none does (\d+)", grounds)
     return {**found, "price_batch": list(map(int, re.findall(r"\d+", batch) + list(later.groups())))}
@@ -411,6 +423,11 @@ class Constants(Held):
             ("image", r"eqb \(length b\) \((\d+) \+ \d+ \*"),
             ("image", r"eqb \(length b\) \(\d+ \+ (\d+) \*"),
             ("header", r"IMAGE_BYTES_OF\(offers\) \((\d+) \+"),
+            ("sheet", r"^sheetSize words = (\d+) \+"),
+            ("sheet", r"^sheetSize words = \d+ \+ (\d+) \*"),
+            ("sheet", r"^sheetSize words = .* \+ (\d+) \* length words$"),
+            ("header", r"SHEET_BYTES_OF\(offers\) \((\d+) \+"),
+            ("header", r"SHEET_BYTES_OF\(offers\) \(\d+ \+ (\d+) \*"),
             ("header", r"SIXTEENTHS\(n\) \(\(n\) >= (\d+)"),
             ("header", r"SIXTEENTHS\(n\) .* \? (\d+) \+"),
         ]:
@@ -440,7 +457,7 @@ class Constants(Held):
 class Prototypes(Held):
     def test_header_and_library_agree(self):
         self.assertEqual(undeclared(texts()), [])
-        self.assertEqual(len(declared(texts()["header"])), 14)
+        self.assertEqual(len(declared(texts()["header"])), 17)
 
     def test_each_difference_is_noticed(self):
         edits = [
@@ -449,11 +466,13 @@ class Prototypes(Held):
             ("header", "uint64_t *price,\n                          uint64_t *since);", "uint64_t *since,\n                          uint64_t *price);", 1),
             ("header", "uint64_t *price,\n                          uint64_t *since);", "uint64_t *price);", 1),
             ("header", "size_t slot, uint32_t state, uint64_t *words", "uint32_t state, size_t slot, uint64_t *words", 1),
-            ("header", "        uint64_t tally[CECHNUOL_TALLY_WORDS]", "        uint64_t *tally, size_t tally_words", 9),
-            ("header", "        const uint64_t head[CECHNUOL_HEAD_WORDS]", "        uint64_t head[CECHNUOL_HEAD_WORDS]", 3),
+            ("header", "        uint64_t tally[CECHNUOL_TALLY_WORDS]", "        uint64_t *tally, size_t tally_words", 10),
+            ("header", "        const uint64_t head[CECHNUOL_HEAD_WORDS]", "        uint64_t head[CECHNUOL_HEAD_WORDS]", 5),
             ("header", "uint64_t cechnuol_flush(CECHNUOL_STORE, uint32_t state);", "", 1),
             ("header", "cechnuol_commit(CECHNUOL_STORE, const uint64_t *words", "cechnuol_commit(CECHNUOL_STORE, uint64_t *words", 1),
             ("header", "cechnuol_load(CECHNUOL_STORE, const uint8_t *bytes", "cechnuol_load(CECHNUOL_STORE, uint8_t *bytes", 1),
+            ("header", "cechnuol_load_sheet(CECHNUOL_STORE, const", "cechnuol_load_sheet(CECHNUOL_STORE_TO_READ, const", 1),
+            ("header", "cechnuol_write_state_sheet(CECHNUOL_STORE_TO_READ, uint32_t state,", "cechnuol_write_state_sheet(CECHNUOL_STORE_TO_READ,", 1),
             ("header", "cechnuol_version(void);", "cechnuol_version(uint64_t of);", 1),
             ("pricing", "    reads: &[u64],", "    reads: &mut [u64],", 1),
         ]
@@ -466,12 +485,16 @@ class Comments(Held):
         self.assertEqual(otherwise_refused(texts()), [])
 
     def test_a_refusal_more_or_less_or_in_another_order(self):
+        of_load = "\n * At TABLE_FULL lend a longer table"
         edits = [
-            ("header", "Refusals: LENGTHS, BAD_IMAGE, TABLE_FULL.", "Refusals: LENGTHS, TABLE_FULL, BAD_IMAGE.", ["load"]),
+            ("header", f"LENGTHS, BAD_IMAGE, TABLE_FULL.{of_load};", f"LENGTHS, TABLE_FULL, BAD_IMAGE.{of_load};", ["load"]),
+            ("header", f"LENGTHS, BAD_IMAGE, TABLE_FULL.{of_load},", f"LENGTHS, BAD_IMAGE.{of_load},", ["load_sheet"]),
             ("header", "Refusals: LENGTHS, UNSOUND, STATE_RANGE, TABLE_FULL.", "Refusals: LENGTHS, UNSOUND, STATE_RANGE.", ["flush"]),
             ("header", "Refusals: LENGTHS.", "Refusals: LENGTHS, UNSOUND.", ["clear"]),
             ("header", "ORDER_NO_PRICE or PRICE_RANGE; then", "PRICE_RANGE; then", ["price_batch"]),
             ("grounds", "ofReset Restart = 1 ∷ 2 ∷ 17 ∷ []", "ofReset Restart = 1 ∷ 2 ∷ 15 ∷ []", ["restart"]),
+            ("grounds", "ofReset (Load format) = 1 ∷ 15 ∷ 16 ∷ []", "ofReset (Load format) = 1 ∷ 15 ∷ []", ["load", "load_sheet"]),
+            ("grounds", "ofQuery (Write format) = 1 ∷ 2 ∷ 17 ∷ []", "ofQuery (Write format) = 1 ∷ 2 ∷ []", ["write_image", "write_sheet"]),
             ("grounds", "ofBatch = 6 ∷ 7 ∷ 8 ∷ []", "ofBatch = 6 ∷ 8 ∷ 7 ∷ []", ["price_batch"]),
         ]
         for file, old, new, calls in edits:
@@ -485,6 +508,7 @@ class Comments(Held):
             ("header", "Refusals: LENGTHS.", "Refusals: LENGTHS, UNSOUND.", ["clear"]),
             ("refusals", "    REFUSED(cechnuol_restart(STORE, lent.bytes, 21), OUTPUT_SHORT);\n", "", ["restart"]),
             ("refusals", "    REFUSED(price_batch(good, other, 2, 1), OUTPUT_SHORT);\n", "", ["price_batch"]),
+            ("refusals", "    REFUSED(cechnuol_load_sheet(STORE, five_seats, 36), TABLE_FULL);\n", "", ["load_sheet"]),
         ]
         for file, old, new, calls in edits:
             self.assertEqual(not_provoked(self.edited(file, old, new)), calls, new)

@@ -14,13 +14,13 @@ import pinned
 ROOT = pathlib.Path(__file__).resolve().parent.parent
 CONDITIONS = "crates/conditions/"
 # The records of the three conditions and of their parts.
-RECORDS = ["Condition1", "Condition2", "Condition3", "Batches", "CLayout", "Images", "Laws", "Ranges", "Tallies"]
+RECORDS = ["Condition1", "Condition2", "Condition3", "Batches", "CLayout", "Laws", "Ranges", "Restarts", "Sheets", "Tallies", "Written"]
 FIELD = re.compile(r"^  pub (?P<name>\S+) :.*\n(?:    .*\n)*", re.M)
 
 
 def fields(text, record):
     """The fields of a record of a file of specs: the name and the text of each."""
-    start = re.search(rf"^pub record {record} : Type 0 where\n", text, re.M).end()
+    start = re.search(rf"^pub record {record}( \(.*\))? : Type 0 where\n", text, re.M).end()
     end = re.compile(r"^\S", re.M).search(text, start)
     return [(found["name"], found[0]) for found in FIELD.finditer(text, start, end.start() if end else len(text))]
 
@@ -97,6 +97,8 @@ class Statements(Copies):
             ("layout/specs/Clauses.antt", "lengthsB", "leb table 8000", "leb table 8001"),
             ("orders/specs/Orders.antt", "kindNamed", "leb k 31", "leb k 30"),
             ("lent/specs/Codes.antt", "noPrice", "noPrice = 100", "noPrice = 101"),
+            ("sheet/specs/Sheet.antt", "seatBit", "2 ^ (31 - offer % 32)", "2 ^ (30 - offer % 32)"),
+            ("sheet/specs/Sheet.antt", "rowB", "eqb (tagIn b % 64) 0", "eqb (tagIn b % 32) 0"),
             ("lent/specs/Asked.antt", "flush", "Step (Flush state)", "Step (RollBack state)"),
             ("conditions/specs/Runs.antt", "Run3", "replicate 8 nothing", "replicate 9 nothing"),
         ]

@@ -1,10 +1,11 @@
 //! The model's check of itself: the store on raw memory against the plain list of whole maps, over the named calls of
-//! document 01's third condition; the image of every kept state, loaded elsewhere; two stores with different flushes and
-//! callers; and batches against orders run on whole maps.
+//! document 01's third condition; the image and the sheet of every kept state, loaded elsewhere; two stores with different
+//! flushes and callers; and batches against orders run on whole maps.
 
 use crate::caller::Caller;
-use crate::changes::{apply, changes_of, map_of, words_of, Map};
+use crate::changes::{apply, changes_of, map_of, map_words, words_of, Map};
 use crate::draw::Draw;
+use crate::format::{Format, FORMATS};
 use crate::gen::LookedUp;
 use crate::ground::Ground;
 use crate::head::{count_on, Head, Tally};
@@ -12,7 +13,7 @@ use crate::plain::Plain;
 use crate::quote::{Quote, Since};
 use crate::store::Store;
 use crate::unit::{Answer, Call, Reply, Unit};
-use crate::{batch, image, word};
+use crate::{batch, word};
 use std::collections::{BTreeMap, BTreeSet};
 use std::fmt;
 
@@ -28,10 +29,12 @@ pub struct Report {
     /// The lookups among them that were answered: how many of each kind of answer, and what they met.
     pub lookups: BTreeMap<String, u64>,
     pub looked_up: BTreeSet<LookedUp>,
-    /// Images of kept states that were loaded elsewhere, those of them that the table they come from has no room for, and the
-    /// prices looked up there.
-    pub images: u64,
-    pub large_images: u64,
+    /// First loads that were accepted, by image and by sheet.
+    pub loads: BTreeMap<Format, u64>,
+    /// Kept states whose image and sheet were loaded elsewhere, those of them that the table they come from has no room for, and
+    /// the prices looked up there.
+    pub states: u64,
+    pub large_states: u64,
     pub quoted: u64,
     /// Prices and forwarded reads compared in two stores with different flushes.
     pub compared: u64,
@@ -39,8 +42,8 @@ pub struct Report {
     pub by_both: u64,
     /// Lookups among them that gave one price, or none, and two numbers: since when may differ.
     pub since_differs: u64,
-    /// Images written in both stores.
-    pub written_in_both: u64,
+    /// Images and sheets written in both stores.
+    pub written_in_both: BTreeMap<Format, u64>,
     pub batches: u64,
 }
 
@@ -61,19 +64,25 @@ impl Report {
 
 impl fmt::Display for Report {
     fn fmt(&self, f: &mut fmt::Formatter<'_>) -> fmt::Result {
-        let Report { runs, calls, accepted, images, large_images, quoted, .. } = self;
-        let Report { compared, by_both, since_differs, written_in_both, batches, .. } = self;
+        let Report { runs, calls, accepted, states, large_states, quoted, .. } = self;
+        let Report { compared, by_both, since_differs, batches, .. } = self;
         let refusals = self.refusals.len();
         write!(f, "runs {runs} calls {calls} accepted {accepted} refusals met {refusals} lookups ")?;
         for (kind, count) in &self.lookups {
             write!(f, "{kind} {count} ")?;
         }
-        write!(f, "images loaded elsewhere {images} too large for their table {large_images} prices there {quoted} ")?;
+        for (format, count) in &self.loads {
+            write!(f, "loaded by {format} {count} ")?;
+        }
+        write!(f, "states loaded elsewhere {states} too large for their table {large_states} prices there {quoted} ")?;
         write!(
             f,
             "compared in two stores {compared} by both callers {by_both} since differs {since_differs} "
         )?;
-        write!(f, "images in both {written_in_both} batches {batches}")
+        for (format, count) in &self.written_in_both {
+            write!(f, "{format}s in both {count} ")?;
+        }
+        write!(f, "batches {batches}")
     }
 }
 
@@ -124,7 +133,7 @@ fn against_plain(seed: u64, report: &mut Report) -> Result<(), String> {
         }
     }
     pair.compare_states()?;
-    pair.load_images_elsewhere(report)
+    pair.load_states_elsewhere(&mut draw, report)
 }
 
 /// Memory of a length that holds anything.
@@ -133,28 +142,37 @@ fn used_memory(draw: &mut Draw, length: usize) -> Vec<u64> {
     (0..length as u64).map(|index| any.wrapping_mul(2 * index + 1)).collect()
 }
 
-/// Loads a drawn image into a unit and a plain list; gives none if both refuse it alike.
+/// A store whose memory and tally hold anything, as there may be before a load.
+fn used_store(draw: &mut Draw, table: usize, journal: usize) -> Store {
+    let mut store = Store::of_lengths(table, journal);
+    store.table = used_memory(draw, table);
+    store.journal = used_memory(draw, journal);
+    store.tally.flushed = draw.rng.bits();
+    store
+}
+
+/// Loads a drawn image or sheet into a unit and a plain list; gives none if both refuse it alike.
 fn load_both(draw: &mut Draw, report: &mut Report) -> Result<Option<Pair>, String> {
     let most = draw.rng.pick(&[1, 3, 8, 100, 8000]);
     let table = draw.rng.within(1, most);
     let most = draw.rng.pick(&[1, 10, 60, 400, 4096]);
     let journal = draw.rng.within(1, most);
     let words = draw.map(table + 1);
-    let mut bytes = image::write(draw.number(), &words);
+    let format = draw.rng.pick(&FORMATS);
+    let mut bytes = format.write(draw.number(), &words);
     if draw.rng.percent(5) {
         let at = draw.rng.below(bytes.len());
         bytes[at] ^= 1 << draw.rng.below(8);
     }
-    let mut store = Store::of_lengths(table, journal);
-    store.table = used_memory(draw, table);
-    store.journal = used_memory(draw, journal);
-    store.tally.flushed = draw.rng.bits();
+    let store = used_store(draw, table, journal);
     let mut unit = Unit { store, bytes, ..Unit::default() };
-    let answer = unit.serve(&Call::Load).answer;
-    report.note(&Call::Load, answer);
-    match Plain::load(&unit.bytes, table, journal) {
+    let call = Call::Load { format };
+    let answer = unit.serve(&call).answer;
+    report.note(&call, answer);
+    match Plain::load(format, &unit.bytes, table, journal) {
         Ok(plain) => {
             expect("load", answer, Answer::Done)?;
+            *report.loads.entry(format).or_default() += 1;
             Ok(Some(Pair { unit, plain, tally: Tally::default() }))
         }
         Err(ground) => {
@@ -195,9 +213,10 @@ fn draw_call(draw: &mut Draw, weights: &[usize; 9], unit: &mut Unit) -> Call {
             Call::Release { caller, slot }
         }
         _ => {
+            let format = draw.rng.pick(&FORMATS);
             let named = if draw.rng.percent(65) { Some(state) } else { None };
-            unit.bytes = vec![0xEE; draw_room(draw, &unit.store, named)];
-            Call::WriteImage { state: named }
+            unit.bytes = vec![0xEE; draw_room(draw, &unit.store, format, named)];
+            Call::Write { format, state: named }
         }
     }
 }
@@ -211,12 +230,13 @@ fn draw_list(draw: &mut Draw, store: &Store) -> Vec<u64> {
     }
 }
 
-/// A number of bytes for the image of a state, or of the tip: as many as it needs, one less or some more, or what the
-/// checkpoint's needs.
-fn draw_room(draw: &mut Draw, store: &Store, named: Option<u32>) -> usize {
-    let checkpoint = image::length(store.head.used as usize);
+/// A number of bytes for the image or the sheet of a state, or of the tip: as many as it needs, one less or some more, or what
+/// the checkpoint's needs.
+fn draw_room(draw: &mut Draw, store: &Store, format: Format, named: Option<u32>) -> usize {
+    let of_state = |state: u32| format.length(&map_words(&store.map_at(state)));
+    let checkpoint = of_state(store.head.checkpoint);
     let state = named.unwrap_or(store.head.tip);
-    let exact = if store.keeps(state) { image::length(store.map_at(state).len()) } else { checkpoint };
+    let exact = if store.keeps(state) { of_state(state) } else { checkpoint };
     draw.rng.pick(&[exact, exact, exact - 1, exact - 1, exact + 9, checkpoint])
 }
 
@@ -273,11 +293,11 @@ impl Pair {
                 })
             }
             Call::Release { caller, slot } => plain.release(*caller, *slot).map(|()| Answer::Done),
-            Call::WriteImage { state } => plain.write_image(*state, bytes.len()).map(|image| {
-                bytes[..image.len()].copy_from_slice(&image);
-                Answer::Count(image.len())
+            Call::Write { format, state } => plain.write(*format, *state, bytes.len()).map(|written| {
+                bytes[..written.len()].copy_from_slice(&written);
+                Answer::Count(written.len())
             }),
-            Call::Clear | Call::Load | Call::Restart | Call::PriceBatch { .. } => {
+            Call::Clear | Call::Load { .. } | Call::Restart | Call::PriceBatch { .. } => {
                 unreachable!("not one of the named calls")
             }
         };
@@ -327,75 +347,99 @@ impl Pair {
         Ok(())
     }
 
-    /// Writes the image of every state from the checkpoint to the tip, of those beside them, and with none named, each into
-    /// bytes that are just enough and into one less.
-    fn compare_images(&self) -> Result<(), String> {
+    /// Writes the image and the sheet of every state from the checkpoint to the tip, and with none named, each into bytes that are
+    /// just enough and into one less; and of the states beside them.
+    fn compare_written(&self) -> Result<(), String> {
         let Head { checkpoint, tip, .. } = self.unit.store.head;
-        let kept = (checkpoint..=tip).map(|state| (Some(state), state));
+        let kept = (checkpoint..=tip).map(|state| (Some(state), state)).chain([(None, tip)]);
         let outside = [checkpoint.checked_sub(1), tip.checked_add(1)].into_iter().flatten();
-        let others = [(None, tip)].into_iter().chain(outside.map(|state| (Some(state), tip)));
-        for (state, measured) in kept.chain(others) {
-            let exact = image::length(self.plain.map_at(measured).len());
-            for room in [exact, exact - 1] {
-                let mut pair = self.clone();
-                pair.unit.bytes = vec![0xEE; room];
-                let call = Call::WriteImage { state };
-                pair.step(&call).map_err(|difference| format!("{call:?} into {room} bytes: {difference}"))?;
+        // A write leaves all but the bytes, which are lent anew.
+        let mut pair = self.clone();
+        for format in FORMATS {
+            for (state, measured) in kept.clone() {
+                let exact = format.length(&map_words(self.plain.map_at(measured)));
+                pair.written(format, state, exact)?;
+                pair.written(format, state, exact - 1)?;
+            }
+            for state in outside.clone() {
+                pair.written(format, Some(state), format.fewest_bytes())?;
             }
         }
-        Ok(())
+        expect("store after writing", &pair.unit.store, &self.unit.store)
     }
 
-    /// Writes the image of every state from the checkpoint to the tip and loads it into memory that just holds it: every offer
-    /// of table and steps, put or removed, then has there the price that the plain list has for that state, and the table
-    /// answers. A table that is one word shorter has no room.
-    fn load_images_elsewhere(&self, report: &mut Report) -> Result<(), String> {
+    /// Writes an image or a sheet into so many bytes.
+    fn written(&mut self, format: Format, state: Option<u32>, room: usize) -> Result<(), String> {
+        self.unit.bytes = vec![0xEE; room];
+        let call = Call::Write { format, state };
+        self.step(&call).map(|_| ()).map_err(|difference| format!("{call:?} into {room} bytes: {difference}"))
+    }
+
+    /// Writes the image and the sheet of every state from the checkpoint to the tip and loads each into memory that just holds
+    /// it: every offer of table and steps, put or removed, then has there the price that the plain list has for that state, and
+    /// the table answers. A table that is one word shorter has no room. Image and sheet load alike, into such memory and into
+    /// any other.
+    fn load_states_elsewhere(&self, draw: &mut Draw, report: &mut Report) -> Result<(), String> {
         let Store { head, table, .. } = &self.unit.store;
         let offers = self.offers();
         for state in head.checkpoint..=head.tip {
-            let told = |difference: String| format!("image of state {state}: {difference}");
-            let count = self.plain.map_at(state).len();
-            let mut bytes = vec![0xEE; image::length(count)];
-            let written = self.unit.store.write_image(Some(state), &mut bytes);
-            expect("written", written, Ok(bytes.len())).map_err(told)?;
-            let elsewhere = loaded_elsewhere(&bytes, state, count).map_err(told)?;
-            for &offer in &offers {
-                let price = self.plain.map_at(state).get(&offer).copied();
-                let quote = Quote { price, since: Since::Table };
-                expect("quote", elsewhere.look_up(offer, state), Ok(quote)).map_err(told)?;
+            let told = |difference: String| format!("state {state}: {difference}");
+            let map = self.plain.map_at(state);
+            let mut written = FORMATS.map(|format| vec![0xEE; format.length(&map_words(map))]);
+            for (format, bytes) in FORMATS.iter().zip(&mut written) {
+                let answer = self.unit.store.write(*format, Some(state), bytes);
+                expect("written", answer, Ok(bytes.len())).map_err(told)?;
+                let elsewhere = loaded_elsewhere(*format, bytes, state, map.len()).map_err(told)?;
+                for &offer in &offers {
+                    let quote = Quote { price: map.get(&offer).copied(), since: Since::Table };
+                    expect("quote", elsewhere.look_up(offer, state), Ok(quote)).map_err(told)?;
+                }
             }
-            report.images += 1;
-            report.large_images += u64::from(count > table.len());
-            report.quoted += offers.len() as u64;
+            let table_words = draw.rng.pick(&[0, map.len() / 2, map.len(), map.len() + 3]);
+            let journal_words = draw.rng.within(0, 9);
+            load_alike(&used_store(draw, table_words, journal_words), &written).map_err(told)?;
+            report.states += 1;
+            report.large_states += u64::from(map.len() > table.len());
+            report.quoted += 2 * offers.len() as u64;
         }
         Ok(())
     }
 }
 
-/// The store of an image that is loaded into a table of as many words as it has offers, and of one if it has none.
-fn loaded_elsewhere(bytes: &[u8], state: u32, count: usize) -> Result<Store, String> {
+/// The store of an image or a sheet that is loaded into a table of as many words as it has offers, and of one if it has none.
+fn loaded_elsewhere(format: Format, bytes: &[u8], state: u32, count: usize) -> Result<Store, String> {
     let mut elsewhere = Store::of_lengths(count.max(1), 1);
-    expect("load", elsewhere.load(bytes), Ok(()))?;
+    expect("load", elsewhere.load(format, bytes), Ok(()))?;
     expect("head", &elsewhere.head, &Head::at_rest(state, count as u64))?;
     let mut again = vec![0; bytes.len()];
-    expect("written again", elsewhere.write_image(None, &mut again), Ok(bytes.len()))?;
+    expect("written again", elsewhere.write(format, None, &mut again), Ok(bytes.len()))?;
     expect("bytes written again", &again[..], bytes)?;
     if count > 1 {
-        let short = Store::of_lengths(count - 1, 1).load(bytes);
+        let short = Store::of_lengths(count - 1, 1).load(format, bytes);
         expect("load into a shorter table", short, Err(Ground::TableFull))?;
     }
     Ok(elsewhere)
 }
 
+/// Loads a state's image and its sheet, each into a copy of a store: outcome, head, tally and all memory are the same.
+fn load_alike(store: &Store, written: &[Vec<u8>; 2]) -> Result<(), String> {
+    let [image, sheet] = [0, 1].map(|index| {
+        let mut store = store.clone();
+        let outcome = store.load(FORMATS[index], &written[index]);
+        (outcome, store)
+    });
+    expect("load of the sheet", &sheet, &image)
+}
+
 // All short runs.
 
-/// Makes every run of so many accepted calls, out of a few on a small store, and every refused call after each of them;
-/// gives the number of calls made, or the first difference.
-pub fn all_short_runs(table: usize, journal: usize, length: usize) -> Result<u64, String> {
-    let bytes = image::write(0, &[word::entry(0, Some(3))]);
-    let plain = Plain::load(&bytes, table, journal).map_err(|ground| format!("load: {ground:?}"))?;
+/// Makes every run of so many accepted calls, out of a few on a small store that is loaded by an image or a sheet, and every
+/// refused call after each of them; gives the number of calls made, or the first difference.
+pub fn all_short_runs(format: Format, table: usize, journal: usize, length: usize) -> Result<u64, String> {
+    let bytes = format.write(0, &[word::entry(0, Some(3))]);
+    let plain = Plain::load(format, &bytes, table, journal).map_err(|ground| format!("load: {ground:?}"))?;
     let mut unit = Unit { store: Store::of_lengths(table, journal), bytes, ..Unit::default() };
-    expect("load", unit.serve(&Call::Load).answer, Answer::Done)?;
+    expect("load", unit.serve(&Call::Load { format }).answer, Answer::Done)?;
     let pair = Pair { unit, plain, tally: Tally::default() };
     runs_after(&pair, &few_calls(), length)
 }
@@ -409,7 +453,7 @@ fn runs_after(pair: &Pair, calls: &[Call], length: usize) -> Result<u64, String>
         count += 1;
         if !matches!(reply.answer, Answer::Refused(_)) {
             next.compare_states().map_err(told)?;
-            next.compare_images().map_err(told)?;
+            next.compare_written().map_err(told)?;
             if length > 1 {
                 count += runs_after(&next, calls, length - 1)?;
             }
@@ -440,8 +484,8 @@ fn few_calls() -> Vec<Call> {
 
 fn two_stores(seed: u64, report: &mut Report) -> Result<(), String> {
     let mut draw = Draw::new(!seed);
-    let bytes = image::write(draw.number(), &draw.map(40));
-    let mut units = [loaded(&mut draw, &bytes), loaded(&mut draw, &bytes)];
+    let (state, words) = (draw.number(), draw.map(40));
+    let mut units = [loaded(&mut draw, state, &words), loaded(&mut draw, state, &words)];
     for _ in 0..draw.rng.within(20, 120) {
         for unit in &mut units {
             if draw.rng.percent(20) {
@@ -453,8 +497,9 @@ fn two_stores(seed: u64, report: &mut Report) -> Result<(), String> {
         let call = draw_call(&mut draw, &MIXED, &mut units[latest]);
         match call {
             Call::Flush { .. } => continue,
-            // The bytes that an image is written to are not compared; these do for any image of this run.
-            Call::WriteImage { .. } => units[1 - latest].bytes = vec![0; image::length(200)],
+            // Two writes are the same when they are of one form and name one state, or none. The bytes that they are lent are not
+            // compared; these do for any of this run.
+            Call::Write { format, .. } => units[1 - latest].bytes = vec![0; format.most_bytes(200)],
             _ => {}
         }
         let other = same_call(&mut draw, &call);
@@ -465,7 +510,9 @@ fn two_stores(seed: u64, report: &mut Report) -> Result<(), String> {
                 report.since_differs += u64::from(since_differs);
             }
             Some(Compared::Nothing) => {
-                report.written_in_both += u64::from(matches!(call, Call::WriteImage { .. }));
+                if let Call::Write { format, .. } = call {
+                    *report.written_in_both.entry(format).or_default() += 1;
+                }
             }
             None => {}
         }
@@ -498,10 +545,12 @@ fn same_call(draw: &mut Draw, call: &Call) -> Call {
     same
 }
 
-fn loaded(draw: &mut Draw, bytes: &[u8]) -> Unit {
+/// A store that is loaded with a map by its image or by its sheet, which load alike.
+fn loaded(draw: &mut Draw, state: u32, words: &[u64]) -> Unit {
+    let format = draw.rng.pick(&FORMATS);
     let store = Store::of_lengths(draw.rng.within(121, 200), draw.rng.within(100, 1000));
-    let mut unit = Unit { store, bytes: bytes.to_vec(), ..Unit::default() };
-    unit.serve(&Call::Load);
+    let mut unit = Unit { store, bytes: format.write(state, words), ..Unit::default() };
+    unit.serve(&Call::Load { format });
     unit
 }
 

@@ -30,7 +30,9 @@ impl Draw {
             1 => self.rng.within(7, 20),
             _ => self.rng.within(66, 120),
         };
-        let mut pool: Vec<u32> = (0..size).map(|_| self.rng.below(3 * size) as u32).collect();
+        // Mostly offers close together; at times each in another row.
+        let rise = self.rng.pick(&[1, 1, 1, 31, 32]);
+        let mut pool: Vec<u32> = (0..size).map(|_| (rise * self.rng.below(3 * size)) as u32).collect();
         if self.rng.percent(50) {
             pool.push(word::OFFERS - 1);
         }

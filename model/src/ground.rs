@@ -31,7 +31,7 @@ pub enum Ground {
     Steps = 13,
     /// The commit's words exceed the unused journal.
     JournalFull = 14,
-    /// An image's length, order of offers or kind bits are wrong.
+    /// An image's length, order of offers or kind bits are wrong, or a sheet is broken.
     Image = 15,
     /// The map to be flushed or loaded has more offers than the table has words.
     TableFull = 16,

@@ -42,7 +42,7 @@ fn answer(arguments: &[OsString]) -> Result<ExitCode, Failure> {
 fn run(arguments: &[OsString]) -> Result<ExitCode, Failure> {
     match asked(arguments) {
         Some(Asked { help: true, .. }) => printed(HELP.as_bytes()),
-        Some(Asked { names, explain: false, .. }) => {
+        Some(Asked { names, explain: false, sheet: false, .. }) => {
             let mut unit = Unit::default();
             run_scripts(&names, |line| respond(&mut unit, line))
         }

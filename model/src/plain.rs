@@ -1,13 +1,14 @@
 //! The plain list of whole maps (document 01): what the unit is held to over whole lists of calls.
 //!
-//! It is fed the load's image, the calls' arguments except a forward's read set, and the lengths lent.
+//! It is fed the load's image or sheet, the calls' arguments except a forward's read set, and the lengths lent.
 
 use crate::caller::Caller;
 use crate::changes::{apply, changes_of, map_of, map_words, read, Map};
+use crate::format::Format;
 use crate::ground::{unless, Ground};
 use crate::head::{SLOTS, STEPS};
 use crate::quote::{Quote, Since};
-use crate::{image, word};
+use crate::word;
 
 /// An open slot: its number and its offers.
 #[derive(Clone, Debug, PartialEq, Eq)]
@@ -29,9 +30,14 @@ pub struct Plain {
 }
 
 impl Plain {
-    /// The load: the image's map under its number, all slots closed.
-    pub fn load(bytes: &[u8], table_words: usize, journal_words: usize) -> Result<Plain, Ground> {
-        let (state, words) = image::read(bytes)?;
+    /// The load: the map of the image or the sheet under its number, all slots closed.
+    pub fn load(
+        format: Format,
+        bytes: &[u8],
+        table_words: usize,
+        journal_words: usize,
+    ) -> Result<Plain, Ground> {
+        let (state, words) = format.read(bytes)?;
         unless(words.len() <= table_words, Ground::TableFull)?;
         Ok(Plain {
             first: state,
@@ -166,13 +172,13 @@ impl Plain {
         Ok(())
     }
 
-    /// Writing an image changes nothing. Gives the image of the map of the state named, or of the last map if none is, given the
-    /// length of the output lent.
-    pub fn write_image(&self, state: Option<u32>, output: usize) -> Result<Vec<u8>, Ground> {
+    /// Writing an image or a sheet changes nothing. Gives that of the map of the state named, or of the last map if none is,
+    /// given the length of the output lent.
+    pub fn write(&self, format: Format, state: Option<u32>, output: usize) -> Result<Vec<u8>, Ground> {
         let state = state.unwrap_or(self.tip());
         self.test_state(state)?;
         let words = map_words(self.map_at(state));
-        unless(image::length(words.len()) <= output, Ground::Output)?;
-        Ok(image::write(state, &words))
+        unless(format.length(&words) <= output, Ground::Output)?;
+        Ok(format.write(state, &words))
     }
 }

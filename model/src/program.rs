@@ -71,6 +71,19 @@ fn output() -> Result<LineWriter<File>, Failure> {
     file.map(LineWriter::new).map_err(Failure::output)
 }
 
+/// The bytes of a file, or of standard input if none is named; what has more than so many is not read to its end.
+pub fn input_of(name: Option<&OsString>, most: u64) -> Result<Vec<u8>, Failure> {
+    let Script { name, input } = opened(name.unwrap_or(&STANDARD.into()))?;
+    let mut bytes = Vec::new();
+    let read = input.take(most + 1).read_to_end(&mut bytes);
+    let read = read.and_then(|_| match bytes.len() as u64 <= most {
+        true => Ok(()),
+        false => Err(io::Error::other(format!("more than {most} bytes"))),
+    });
+    read.map_err(|error| Failure::script(&name, error))?;
+    Ok(bytes)
+}
+
 /// All of standard input.
 pub fn input() -> Result<Vec<u8>, Failure> {
     let mut bytes = Vec::new();
@@ -96,6 +109,7 @@ fn own_file(was_open: bool, descriptor: BorrowedFd) -> io::Result<File> {
 pub struct Asked {
     pub help: bool,
     pub explain: bool,
+    pub sheet: bool,
     pub names: Vec<OsString>,
 }
 
@@ -107,6 +121,7 @@ pub fn asked(arguments: &[OsString]) -> Option<Asked> {
         match argument.as_bytes() {
             b"--help" => asked.help = true,
             b"--explain" => asked.explain = true,
+            b"--sheet" => asked.sheet = true,
             [b'-', _, ..] => return None,
             _ => asked.names.push(argument.clone()),
         }

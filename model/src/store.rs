@@ -2,10 +2,11 @@
 
 use crate::caller::Caller;
 use crate::changes::{apply, changes_of, compose, map_of, map_words, read, Changes, Map};
+use crate::format::Format;
 use crate::ground::{unless, Ground};
 use crate::head::{count_on, Head, Tally, SLOTS, STEPS};
 use crate::quote::{Quote, Since};
-use crate::{image, sound, word};
+use crate::{sound, word};
 
 /// The most words of a table and of a journal; the least is 1 for both.
 pub const TABLE_WORDS: usize = 8000;
@@ -148,31 +149,31 @@ impl Store {
         Ok(())
     }
 
-    /// Load: an image's map under its number.
-    pub fn load(&mut self, bytes: &[u8]) -> Result<(), Ground> {
+    /// Load: an image's or a sheet's map under its number.
+    pub fn load(&mut self, format: Format, bytes: &[u8]) -> Result<(), Ground> {
         self.test_lengths()?;
-        let (state, words) = image::read(bytes)?;
+        let (state, words) = format.read(bytes)?;
         unless(words.len() <= self.table.len(), Ground::TableFull)?;
         self.hold(state, &words);
         Ok(())
     }
 
-    /// Writes the image of the state named, or the tip's if none is; bytes past it are unchanged. Gives its length. The table
-    /// need not have room for the state's map: ground 16 is of the store that the image is loaded into.
-    pub fn write_image(&self, state: Option<u32>, bytes: &mut [u8]) -> Result<usize, Ground> {
+    /// Writes the image or the sheet of the state named, or the tip's if none is; bytes past it are unchanged. Gives its length.
+    /// The table need not have room for the state's map: ground 16 is of the store that is loaded.
+    pub fn write(&self, format: Format, state: Option<u32>, bytes: &mut [u8]) -> Result<usize, Ground> {
         self.test_store()?;
         let state = state.unwrap_or(self.head.tip);
         self.test_state(state)?;
-        let image = image::write(state, &map_words(&self.map_at(state)));
-        unless(image.len() <= bytes.len(), Ground::Output)?;
-        bytes[..image.len()].copy_from_slice(&image);
-        Ok(image.len())
+        let written = format.write(state, &map_words(&self.map_at(state)));
+        unless(written.len() <= bytes.len(), Ground::Output)?;
+        bytes[..written.len()].copy_from_slice(&written);
+        Ok(written.len())
     }
 
     /// Restart: writes the checkpoint's image into lent bytes and loads it back.
     pub fn restart(&mut self, bytes: &mut [u8]) -> Result<(), Ground> {
-        let length = self.write_image(Some(self.head.checkpoint), bytes)?;
-        self.load(&bytes[..length])
+        let length = self.write(Format::Image, Some(self.head.checkpoint), bytes)?;
+        self.load(Format::Image, &bytes[..length])
     }
 
     // Steps.

@@ -2,6 +2,7 @@
 
 use crate::batch;
 use crate::caller::Caller;
+use crate::format::Format;
 use crate::ground::Ground;
 use crate::head::SLOTS;
 use crate::quote::Quote;
@@ -14,9 +15,13 @@ pub use crate::quote::Since;
 #[derive(Clone, Debug, PartialEq, Eq)]
 pub enum Call {
     Clear,
-    Load,
-    /// Without a state it writes the tip's image.
-    WriteImage {
+    /// The lent bytes are an image or a sheet.
+    Load {
+        format: Format,
+    },
+    /// Writes an image or a sheet; without a state it is the tip's.
+    Write {
+        format: Format,
         state: Option<u32>,
     },
     Restart,
@@ -62,8 +67,10 @@ impl Call {
     pub fn name(&self) -> &'static str {
         match self {
             Call::Clear => "clear",
-            Call::Load => "load",
-            Call::WriteImage { .. } => "write_image",
+            Call::Load { format: Format::Image } => "load",
+            Call::Load { format: Format::Sheet } => "load_sheet",
+            Call::Write { format: Format::Image, .. } => "write_image",
+            Call::Write { format: Format::Sheet, .. } => "write_sheet",
             Call::Restart => "restart",
             Call::Commit { .. } => "commit",
             Call::RollBack { .. } => "roll_back",
@@ -87,10 +94,12 @@ impl Call {
         }
     }
 
-    /// The call's word and what its grounds depend on: that the foyer calls, or that an image's state is named.
+    /// The call's word and what its grounds depend on: that the foyer calls, or that the state to be written is
+    /// named.
     pub fn form(&self) -> &'static str {
         match self {
-            Call::WriteImage { state: Some(_) } => "write_image STATE",
+            Call::Write { format: Format::Image, state: Some(_) } => "write_image STATE",
+            Call::Write { format: Format::Sheet, state: Some(_) } => "write_sheet STATE",
             Call::LookUp { caller: Caller::Foyer, .. } => "look_up foyer",
             Call::Issue { caller: Caller::Foyer, .. } => "issue foyer",
             Call::Forward { caller: Caller::Foyer, .. } => "forward foyer",
@@ -194,8 +203,8 @@ impl Unit {
         let store = &mut self.store;
         let answer = match call {
             Call::Clear => done(store.clear()),
-            Call::Load => done(store.load(&self.bytes)),
-            Call::WriteImage { state } => counted(store.write_image(*state, &mut self.bytes)),
+            Call::Load { format } => done(store.load(*format, &self.bytes)),
+            Call::Write { format, state } => counted(store.write(*format, *state, &mut self.bytes)),
             Call::Restart => done(store.restart(&mut self.bytes)),
             Call::Commit { list } => done(store.commit(list)),
             Call::RollBack { state } => done(store.roll_back(*state)),

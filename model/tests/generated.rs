@@ -6,8 +6,10 @@ use common::{all_answers, refusals, run, ANSWERS};
 use model::batch::{order, order_offer, priced};
 use model::caller::Caller;
 use model::check::{all_short_runs, self_check};
-use model::gen::{items, script, Asked, Coverage, Item, LookedUp, Place};
+use model::format::Format;
+use model::gen::{items, script, Asked, Coverage, Item, LookedUp, Place, SheetHas, SHEETS_HAVE};
 use model::script::Command;
+use model::sheet::FAULTS;
 use model::sound::CLAUSES;
 use model::unit::Call;
 use model::word;
@@ -60,15 +62,15 @@ fn generated_scripts_meet_everything() {
     assert!(met.all_steps && met.last_tip);
 }
 
-/// Images are asked for with and without a state, of the checkpoint and above it, with more offers than the table has words,
-/// and with bytes that are just enough, more, one too few or far too few; and restarts where the bytes lent do for the
-/// checkpoint's image, for the tip's, for both and for neither.
+/// Images and sheets are asked for with and without a state, of the checkpoint and above it, with more offers than the table
+/// has words, and with bytes that are just enough, more, one too few or far too few; and restarts where the bytes lent do for
+/// the checkpoint's image, for the tip's, for both and for neither.
 #[test]
-fn generated_scripts_ask_for_every_kind_of_image() {
-    let Coverage { images, most_offers, .. } = coverage();
+fn generated_scripts_ask_for_every_kind_of_image_and_sheet() {
+    let Coverage { asked, most_offers, .. } = coverage();
     assert!(most_offers > 2000, "{most_offers} offers");
-    let any = |kind: &dyn Fn(&Asked) -> bool| images.iter().any(kind);
-    for form in ["write_image", "write_image STATE"] {
+    let any = |kind: &dyn Fn(&Asked) -> bool| asked.iter().any(kind);
+    for form in ["write_image", "write_image STATE", "write_sheet", "write_sheet STATE"] {
         for (above, large) in [(false, false), (true, false), (true, true)] {
             for more in -2..=1 {
                 let asked = (form, above, large, more);
@@ -81,6 +83,22 @@ fn generated_scripts_ask_for_every_kind_of_image() {
         assert!(any(&|it| (it.form, it.more >= 0, it.tip_fits) == asked), "{asked:?}");
     }
     assert!(!any(&|it| it.large && !it.above), "the table holds the checkpoint");
+}
+
+/// Sheets are loaded and written with no row, one and several, with rows of one seat and of all 32, with the first and the last
+/// seat and row, with the last seat of a row and the first of the next, and with the least and the most price; some are loaded
+/// with more offers than the longest table has words; and those that are no sheets have each fault first, and say counts of rows
+/// from 0 to the most.
+#[test]
+fn generated_scripts_have_every_kind_of_sheet() {
+    let Coverage { sheets, faults, counts, .. } = coverage();
+    let all = SHEETS_HAVE.iter().flat_map(|&has| [("load_sheet", has), ("write_sheet", has)]);
+    // A state with so many offers takes more commits than most scripts make.
+    let all = all.filter(|it| *it != ("write_sheet", SheetHas::ManyOffers));
+    let missing: Vec<_> = all.filter(|it| !sheets.contains(it)).collect();
+    assert!(missing.is_empty(), "{missing:?}");
+    assert_eq!(faults, BTreeSet::from(FAULTS));
+    assert_eq!(counts, BTreeSet::from([0, u32::MAX]));
 }
 
 /// Every kind of lookup that can be answered.
@@ -191,8 +209,11 @@ fn unit_against_plain_list() {
     let report = self_check(1_000_000, 2000).unwrap_or_else(|difference| panic!("{difference}"));
     assert_eq!(report.runs, 2000);
     assert!(report.accepted > 60_000 && report.calls - report.accepted > 30_000, "{report}");
-    assert!(report.images > 10_000 && report.large_images > 1_000 && report.quoted > 150_000, "{report}");
-    assert!(report.compared > 15_000 && report.by_both > 3_000 && report.written_in_both > 1_500, "{report}");
+    assert!(report.states > 10_000 && report.large_states > 1_000 && report.quoted > 300_000, "{report}");
+    assert!(report.compared > 15_000 && report.by_both > 3_000, "{report}");
+    assert!(report.loads.len() == 2 && report.loads.values().all(|&count| count > 800), "{report}");
+    let in_both = &report.written_in_both;
+    assert!(in_both.len() == 2 && in_both.values().all(|&count| count > 700), "{report}");
     // Prices agree in two stores with different flushes; since when they stand does not always.
     assert!(report.since_differs > 1_500, "{report}");
     assert!(report.lookups.len() == 4 && report.lookups.values().all(|&count| count > 1_000), "{report}");
@@ -207,11 +228,13 @@ fn unit_against_plain_list() {
     }
 }
 
-/// Every run of up to five calls that are accepted, on tables of 1 and 2 words and journals of 1 and 3.
+/// Every run of up to five calls that are accepted, on tables of 1 and 2 words and journals of 1 and 3, loaded by an image or
+/// by a sheet.
 #[test]
 fn all_short_runs_agree() {
-    for (table, journal) in [(1, 1), (1, 3), (2, 3)] {
-        let calls = all_short_runs(table, journal, 5).unwrap_or_else(|difference| panic!("{difference}"));
+    for (format, table, journal) in [(Format::Image, 1, 1), (Format::Sheet, 1, 3), (Format::Image, 2, 3)] {
+        let calls = all_short_runs(format, table, journal, 5);
+        let calls = calls.unwrap_or_else(|difference| panic!("{difference}"));
         assert!(calls > 100_000, "{calls} calls");
     }
 }

@@ -1,10 +1,12 @@
-//! Issues, forwards and releases, images and restarts that meet several grounds at once: every pair of them, and which one is
-//! the answer.
+//! Issues, forwards and releases, images, sheets and restarts that meet several grounds at once: every pair of them, and which
+//! one is the answer.
 
 mod common;
 
 use common::files;
 use model::caller::Caller;
+use model::changes::map_words;
+use model::format::Format;
 use model::gen::{items, Item};
 use model::script::{parse, perform, Command, Line};
 use model::unit::{Answer, Call, Unit};
@@ -23,6 +25,9 @@ const READS: [(&str, &[u8]); 3] = [
 /// neither.
 const IMAGES: [(&str, &[u8]); 3] =
     [("write_image", &[1, 2, 17]), ("write_image STATE", &[1, 2, 11, 17]), ("restart", &[1, 2, 17])];
+
+/// The same for sheets, which are written as images are.
+const SHEETS: [(&str, &[u8]); 2] = [("write_sheet", &[1, 2, 17]), ("write_sheet STATE", &[1, 2, 11, 17])];
 
 /// Grounds that no call meets together: a slot above 7 is nobody's, and neither open nor closed.
 const APART: [(u8, u8); 3] = [(3, 19), (3, 4), (3, 5)];
@@ -45,26 +50,35 @@ fn meets(unit: &Unit, call: &Call, ground: u8) -> bool {
     match ground {
         1 => !(1..=8000).contains(&store.table.len()) || !(1..=4096).contains(&store.journal.len()),
         2 => !store.is_sound(),
-        _ => meets_as_read(unit, call, ground) || meets_as_image(unit, call, ground),
+        _ => meets_as_read(unit, call, ground) || meets_as_written(unit, call, ground),
     }
 }
 
-fn meets_as_image(unit: &Unit, call: &Call, ground: u8) -> bool {
+fn meets_as_written(unit: &Unit, call: &Call, ground: u8) -> bool {
     let (store, head) = (&unit.store, &unit.store.head);
-    let (named, state) = match call {
-        Call::WriteImage { state } => (*state, state.unwrap_or(head.tip)),
-        Call::Restart => (None, head.checkpoint),
+    let (format, named, state) = match call {
+        Call::Write { format, state } => (*format, *state, state.unwrap_or(head.tip)),
+        Call::Restart => (Format::Image, None, head.checkpoint),
         _ => return false,
     };
     match ground {
         11 => named.is_some_and(|state| state < head.checkpoint || state > head.tip),
-        // What is to be written has 6 bytes and 8 for each offer; where there is no such state, it has 6 at least.
+        // Where there is no such state, what is to be written has as many bytes as that of the empty map at least.
         17 => {
             let there = store.is_sound() && store.keeps(state);
-            let offers = if there { store.map_at(state).len() } else { 0 };
-            unit.bytes.len() < 6 + 8 * offers
+            let words = if there { map_words(&store.map_at(state)) } else { Vec::new() };
+            unit.bytes.len() < length_of(format, &words)
         }
         _ => false,
+    }
+}
+
+/// An image has 6 bytes and 8 for each offer; a sheet 8, and 8 for each row and 4 for each offer.
+fn length_of(format: Format, words: &[u64]) -> usize {
+    let rows: BTreeSet<u32> = words.iter().map(|&word| word::offer(word) / 32).collect();
+    match format {
+        Format::Image => 6 + 8 * words.len(),
+        Format::Sheet => 8 + 8 * rows.len() + 4 * words.len(),
     }
 }
 
@@ -105,7 +119,7 @@ impl Met {
         let of_call = |&&(name, _): &&(&str, &[u8])| {
             name == call.form() || name == call.name() && call.caller().is_some()
         };
-        let Some(&(name, order)) = READS.iter().chain(&IMAGES).find(of_call) else {
+        let Some(&(name, order)) = READS.iter().chain(&IMAGES).chain(&SHEETS).find(of_call) else {
             unit.serve(call);
             return;
         };
@@ -153,7 +167,7 @@ fn generated_scripts_meet_every_pair() {
             }
         }
     }
-    assert_eq!(met.pairs, all_pairs(&[READS, IMAGES].concat()));
+    assert_eq!(met.pairs, all_pairs(&[&READS[..], &IMAGES, &SHEETS].concat()));
 }
 
 /// The pairs that a stored script has at calls that meet those two grounds alone.
@@ -174,9 +188,11 @@ fn alone_in(name: &str) -> BTreeSet<(&'static str, u8, u8)> {
     met.alone
 }
 
-/// The script of callers has every pair of a read, and the script of images every pair of an image and of a restart.
+/// The script of callers has every pair of a read, the script of images every pair of an image and of a restart, and the script
+/// of sheets every pair of a sheet.
 #[test]
 fn stored_scripts_have_every_pair() {
     assert_eq!(alone_in("callers.script"), all_pairs(&READS));
     assert_eq!(alone_in("images.script"), all_pairs(&IMAGES));
+    assert_eq!(alone_in("sheets.script"), all_pairs(&SHEETS));
 }

@@ -3,6 +3,7 @@
 mod common;
 
 use common::{all_answers, files, run};
+use model::format::Format;
 use model::gen::{items, Item};
 use model::rng::Rng;
 use model::script::{next_line, parse, respond, Command, Line, Poke, LINE_BYTES};
@@ -50,14 +51,14 @@ fn printed_as_stored(folder: &str) -> Vec<String> {
 /// The stored output is what the model prints today.
 #[test]
 fn stored_output_is_the_models() {
-    assert!(printed_as_stored("scripts").len() >= 9);
+    assert!(printed_as_stored("scripts").len() >= 10);
 }
 
-/// The output of the lines that are no call, of the images, of the sixteenths and of since when comes from the comments of their
-/// scripts and not from the model.
+/// The output of the lines that are no call, of the images, of the sheets, of the sixteenths and of since when comes from the
+/// comments of their scripts and not from the model.
 #[test]
 fn outputs_that_are_worked_out_by_hand() {
-    let names = ["no_calls.script", "images.script", "sixteenths.script", "since.script"];
+    let names = ["no_calls.script", "images.script", "sheets.script", "sixteenths.script", "since.script"];
     let by_hand = |file: &Path| names.iter().any(|name| file.ends_with(name));
     let scripts = files("scripts", "script").into_iter().filter(|(file, _)| by_hand(file));
     let mut count = 0;
@@ -97,11 +98,11 @@ fn expected_answers(name: &str) -> BTreeSet<String> {
     expected(&script).into_iter().filter_map(answer_of).collect()
 }
 
-/// The scripts of refusals, of callers, of images and of since when have every answer of every call among what their comments
-/// expect, from the desk and from the foyer, with a state and without one.
+/// The scripts of refusals, of callers, of images, of sheets and of since when have every answer of every call among what their
+/// comments expect, from the desk and from the foyer, with a state and without one.
 #[test]
 fn refusals_are_complete() {
-    let scripts = ["refusals.script", "callers.script", "images.script", "since.script"];
+    let scripts = ["refusals.script", "callers.script", "images.script", "sheets.script", "since.script"];
     let met: BTreeSet<String> = scripts.iter().flat_map(|name| expected_answers(name)).collect();
     let missing: Vec<String> = all_answers().into_iter().filter(|answer| !met.contains(answer)).collect();
     assert!(missing.is_empty(), "{missing:?}");
@@ -125,14 +126,29 @@ fn the_desk_need_not_be_named() {
     }
 }
 
-/// An image need not name a state, and one that names the tip is another call.
+/// An image or a sheet need not name a state, and one that names the tip is another call.
 #[test]
 fn a_state_need_not_be_named() {
-    let call = |state| Line::Command(Command::Call(Call::WriteImage { state }));
-    assert_eq!(parse(b"write_image"), call(None));
-    assert_eq!(parse(b"write_image 0"), call(Some(0)));
-    assert_eq!(parse(b"write_image 4294967295"), call(Some(u32::MAX)));
-    assert_ne!(call(None), call(Some(0)));
+    let call = |format, state| Line::Command(Command::Call(Call::Write { format, state }));
+    for format in [Format::Image, Format::Sheet] {
+        let line = |rest: &str| parse(format!("write_{format}{rest}").as_bytes());
+        assert_eq!(line(""), call(format, None));
+        assert_eq!(line(" 0"), call(format, Some(0)));
+        assert_eq!(line(" 4294967295"), call(format, Some(u32::MAX)));
+        assert_ne!(call(format, None), call(format, Some(0)));
+    }
+    assert_ne!(parse(b"write_image"), parse(b"write_sheet"));
+    assert_ne!(parse(b"load"), parse(b"load_sheet"));
+}
+
+/// A line that loads a file says whether it is an image or a sheet, and is written as it is read.
+#[test]
+fn the_format_of_a_file_is_named() {
+    for (line, format) in [("load_file x", Format::Image), ("load_sheet_file x", Format::Sheet)] {
+        let command = Command::LoadFile { format, name: b"x".to_vec() };
+        assert_eq!(command.to_string(), line);
+        assert_eq!(parse(line.as_bytes()), Line::Command(command));
+    }
 }
 
 #[test]
@@ -151,7 +167,7 @@ fn commands_are_read_as_they_are_written() {
 
 /// Lines that are no call where table, journal and bytes are 4 long, and why: what docs/REPLAY.md's table of reasons says of
 /// each, in its order.
-const NO_CALLS: [(&[u8], &str); 90] = [
+const NO_CALLS: [(&[u8], &str); 102] = [
     (b"x", "unknown word 'x'"),
     (b"CLEAR", "unknown word 'CLEAR'"),
     (b"clear x", "too many arguments: clear"),
@@ -185,6 +201,11 @@ const NO_CALLS: [(&[u8], &str); 90] = [
     (b"write_image 4294967296", "expected STATE, a number from 0 to 4294967295, not '4294967296'"),
     (b"write_image 0 14", "too many arguments: write_image STATE"),
     (b"write_image x y", "too many arguments: write_image STATE"),
+    (b"write_sheet tip", "expected STATE, a number from 0 to 4294967295, not 'tip'"),
+    (b"write_sheet 4294967296", "expected STATE, a number from 0 to 4294967295, not '4294967296'"),
+    (b"write_sheet 0 14", "too many arguments: write_sheet STATE"),
+    (b"load_sheet 0", "too many arguments: load_sheet"),
+    (b"write_state_sheet 0", "unknown word 'write_state_sheet'"),
     (b"restart 0", "too many arguments: restart"),
     (b"look_up 4294967296 0", "expected OFFER, a number from 0 to 4294967295, not '4294967296'"),
     (b"look_up x y", "expected OFFER, a number from 0 to 4294967295, not 'x'"),
@@ -218,7 +239,7 @@ const NO_CALLS: [(&[u8], &str); 90] = [
     (b"lend table", "too few arguments: lend table N"),
     (b"lend table 8193", "expected N, a number from 0 to 8192, not '8193'"),
     (b"lend journal 4609", "expected N, a number from 0 to 4608, not '4609'"),
-    (b"lend bytes 98305", "expected N, a number from 0 to 98304, not '98305'"),
+    (b"lend bytes 147457", "expected N, a number from 0 to 147456, not '147457'"),
     (b"lend table 4 4", "too many arguments: lend table N"),
     (b"poke table 4 8000000500000001", "past the end of the table, whose length is 4"),
     (b"poke table 3 8000000500000001 8000000600000001", "past the end of the table, whose length is 4"),
@@ -254,6 +275,13 @@ const NO_CALLS: [(&[u8], &str); 90] = [
     (b"load_file /dev/zero", "the file '/dev/zero' cannot be read"),
     (b"load_file Cargo.toml/x", "the file 'Cargo.toml/x' cannot be read"),
     (b"load_file a\0b", "the file 'a\\x00b' cannot be read"),
+    (b"load_sheet_file", "too few arguments: load_sheet_file NAME"),
+    (b"load_sheet_file a b", "too many arguments: load_sheet_file NAME"),
+    (b"load_sheet_file no/such/file", "there is no file 'no/such/file'"),
+    (b"load_sheet_file .", "'.' is a directory"),
+    (b"load_sheet_file /dev/zero", "the file '/dev/zero' cannot be read"),
+    (b"load_sheet_file Cargo.toml/x", "the file 'Cargo.toml/x' cannot be read"),
+    (b"load_image_file x", "unknown word 'load_image_file'"),
 ];
 
 /// A unit with table, journal and bytes of 4, and offer 5 committed.
@@ -302,7 +330,7 @@ fn lines_that_are_calls_at_the_edge() {
     let mut says = |line: &[u8]| says(&mut unit, line);
     assert_eq!(says(b"lend table 8192"), "");
     assert_eq!(says(b"lend journal 00000000000000004608"), "");
-    assert_eq!(says(b"lend bytes 98304"), "");
+    assert_eq!(says(b"lend bytes 147456"), "");
     assert_eq!(says(b"  lend   table 1  "), "");
     assert_eq!(says(b"\tlend \t table\t1\t\r"), "");
     assert_eq!(says(b"\r"), "");
@@ -322,6 +350,32 @@ fn lines_that_are_calls_at_the_edge() {
     assert_eq!(says(b"head ends 63 18446744073709551615"), "");
     assert_eq!(says(b"price_batch / /"), "ok 0");
     assert_eq!(says(b"forward 18446744073709551615 0"), "refused 2");
+}
+
+/// The bytes of a file are lent and loaded, and stay lent where the load is refused: as an image they are no sheet, and as a sheet
+/// no image.
+#[test]
+fn files_are_loaded() {
+    let mut unit = small_unit();
+    let mut says = |line: &str| says(&mut unit, line.as_bytes());
+    let head = |used, state| {
+        format!(
+            "head used {used} oldest {state} checkpoint {state} tip {state} held 00000000 issued 0 0 0 0 0 0 0 0 ends"
+        )
+    };
+    assert_eq!(says("load_file ../tests/listing/paper.in"), "ok");
+    assert_eq!(says("show head"), head(1, 7));
+    assert_eq!(says("load_sheet_file ../tests/sheets/two_rows.sheet"), "ok");
+    assert_eq!(says("show head"), head(3, 8));
+    assert_eq!(says("look_up 31 8"), "ok 4 table");
+    assert_eq!(says("load_file ../tests/sheets/two_rows.sheet"), "refused 15");
+    assert_eq!(says("load_sheet"), "ok");
+    assert_eq!(says("load_sheet_file ../tests/listing/paper.in"), "refused 15");
+    assert_eq!(says("load"), "ok");
+    assert_eq!(says("lend table 2"), "");
+    assert_eq!(says("load_sheet_file ../tests/sheets/two_rows.sheet"), "refused 16");
+    assert_eq!(says("show bytes 0 4"), "bytes from 0 00 00 00 08");
+    assert_eq!(says("show head"), head(1, 7));
 }
 
 #[test]
@@ -386,7 +440,7 @@ fn a_forward_takes_what_the_issue_filled() {
 }
 
 /// What random scripts are made of.
-const PIECES: [&[u8]; 27] = [
+const PIECES: [&[u8]; 29] = [
     b"lend ",
     b"table ",
     b"journal ",
@@ -402,6 +456,8 @@ const PIECES: [&[u8]; 27] = [
     b"clear ",
     b"load ",
     b"write_image ",
+    b"load_sheet ",
+    b"write_sheet ",
     b"commit ",
     b"forward ",
     b"issue ",

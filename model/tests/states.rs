@@ -1,7 +1,8 @@
-//! The image of any kept state, and the restart that keeps the checkpoint's.
+//! The image and the sheet of any kept state, and the restart that keeps the checkpoint.
 
 use model::caller::Caller::Desk;
 use model::changes::map_of;
+use model::format::Format::{Image, Sheet};
 use model::ground::Ground;
 use model::head::Head;
 use model::store::{Store, STATE_OFFERS};
@@ -12,7 +13,7 @@ use model::word::entry;
 fn store() -> Store {
     let mut store = Store::of_lengths(2, 20);
     let image = [0, 0, 0, 7, 0, 2, 0x80, 0, 0, 5, 0, 0, 0x04, 0xB0, 0x80, 0, 0, 9, 0, 0, 0x02, 0xBC];
-    assert_eq!(store.load(&image), Ok(()));
+    assert_eq!(store.load(Image, &image), Ok(()));
     assert_eq!(store.issue(Desk, 0, &mut [entry(5, None)]), Ok(()));
     assert_eq!(store.commit(&[entry(2, Some(1)), entry(5, Some(0)), entry(9, None)]), Ok(()));
     assert_eq!(store.flush(8), Ok(()));
@@ -29,25 +30,41 @@ const AT_9: [u8; 38] = [
 ];
 const AT_10: [u8; 6] = [0, 0, 0, 10, 0, 0];
 
+/// The sheets of the same states: row 0 with seats 2 and 5, with seats 2 to 5, and no row.
+const SHEET_8: [u8; 24] = [0, 0, 0, 8, 0, 0, 0, 1, 0, 0, 0, 0, 0x24, 0, 0, 0, 0, 0, 0, 1, 0, 0, 0, 0];
+const SHEET_9: [u8; 32] =
+    [0, 0, 0, 9, 0, 0, 0, 1, 0, 0, 0, 0, 0x3C, 0, 0, 0, 0, 0, 0, 1, 0, 0, 0, 3, 0, 0, 0, 4, 0, 0, 0, 0];
+const SHEET_10: [u8; 8] = [0, 0, 0, 10, 0, 0, 0, 0];
+
 #[test]
-fn the_image_of_each_kept_state() {
+fn the_image_and_the_sheet_of_each_kept_state() {
     let store = store();
     let images = [(Some(8), &AT_8[..]), (Some(9), &AT_9), (Some(10), &AT_10), (None, &AT_10)];
-    for (state, image) in images {
+    let sheets = [(Some(8), &SHEET_8[..]), (Some(9), &SHEET_9), (Some(10), &SHEET_10), (None, &SHEET_10)];
+    let images = images.map(|(state, image)| (Image, state, image));
+    let sheets = sheets.map(|(state, sheet)| (Sheet, state, sheet));
+    for (format, state, wanted) in images.into_iter().chain(sheets) {
         for more in [0, 1, 100] {
-            let mut bytes = vec![0xAA; image.len() + more];
-            assert_eq!(store.write_image(state, &mut bytes), Ok(image.len()), "{state:?}");
-            assert_eq!(bytes, [image, &vec![0xAA; more]].concat(), "{state:?}");
+            let mut bytes = vec![0xAA; wanted.len() + more];
+            assert_eq!(store.write(format, state, &mut bytes), Ok(wanted.len()), "{format} of {state:?}");
+            assert_eq!(bytes, [wanted, &vec![0xAA; more]].concat(), "{format} of {state:?}");
         }
-        for room in 0..image.len() {
+        for room in 0..wanted.len() {
             let mut bytes = vec![0xAA; room];
-            assert_eq!(store.write_image(state, &mut bytes), Err(Ground::Output), "{state:?} into {room}");
+            let answer = store.write(format, state, &mut bytes);
+            assert_eq!(answer, Err(Ground::Output), "{format} of {state:?} into {room}");
             assert_eq!(bytes, vec![0xAA; room]);
         }
     }
-    for state in [0, 7, 11, u32::MAX] {
-        assert_eq!(store.write_image(Some(state), &mut [0; 100]), Err(Ground::State), "{state}");
-        assert_eq!(store.write_image(Some(state), &mut []), Err(Ground::State), "{state}");
+    for (format, state) in
+        [Image, Sheet].into_iter().flat_map(|it| [0, 7, 11, u32::MAX].map(|state| (it, state)))
+    {
+        assert_eq!(
+            store.write(format, Some(state), &mut [0; 100]),
+            Err(Ground::State),
+            "{format} of {state}"
+        );
+        assert_eq!(store.write(format, Some(state), &mut []), Err(Ground::State), "{format} of {state}");
     }
 }
 
@@ -59,11 +76,13 @@ fn a_state_that_the_table_has_no_room_for() {
     for (words, outcome) in
         [(2, Err(Ground::TableFull)), (3, Err(Ground::TableFull)), (4, Ok(())), (5, Ok(()))]
     {
-        let mut elsewhere = Store::of_lengths(words, 1);
-        assert_eq!(elsewhere.load(&AT_9), outcome, "{words} words");
-        if outcome.is_ok() {
-            assert_eq!(elsewhere.head, Head::at_rest(9, 4));
-            assert_eq!(elsewhere.map_at(9), store.map_at(9));
+        for (format, bytes) in [(Image, &AT_9[..]), (Sheet, &SHEET_9)] {
+            let mut elsewhere = Store::of_lengths(words, 1);
+            assert_eq!(elsewhere.load(format, bytes), outcome, "{format} into {words} words");
+            if outcome.is_ok() {
+                assert_eq!(elsewhere.head, Head::at_rest(9, 4));
+                assert_eq!(elsewhere.map_at(9), store.map_at(9));
+            }
         }
     }
 }
@@ -87,7 +106,7 @@ fn a_restart_keeps_the_checkpoint() {
     }
 }
 
-/// The longest image: 8,000 offers in the table, and 64 steps of 64 new ones.
+/// The longest image: 8,000 offers in the table, and 64 steps of 64 new ones. The sheets of these states.
 #[test]
 fn the_longest_image() {
     let words: Vec<u64> = (0..8000).map(|offer| entry(2 * offer, Some(offer))).collect();
@@ -102,12 +121,23 @@ fn the_longest_image() {
     let mut bytes = vec![0; 96_774];
     for state in 0..=64 {
         let length = 64_006 + 512 * state as usize;
-        assert_eq!(store.write_image(Some(state), &mut bytes[..length - 1]), Err(Ground::Output));
-        assert_eq!(store.write_image(Some(state), &mut bytes), Ok(length));
+        assert_eq!(store.write(Image, Some(state), &mut bytes[..length - 1]), Err(Ground::Output));
+        assert_eq!(store.write(Image, Some(state), &mut bytes), Ok(length));
     }
     assert_eq!(bytes[..14], [0, 0, 0, 64, 0x2F, 0x40, 0x80, 0, 0, 0, 0, 0, 0, 0]);
-    assert_eq!(store.write_image(None, &mut bytes[..96_773]), Err(Ground::Output));
-    assert_eq!(Store::of_lengths(8000, 1).load(&bytes), Err(Ground::TableFull));
+    assert_eq!(store.write(Image, None, &mut bytes[..96_773]), Err(Ground::Output));
+    assert_eq!(Store::of_lengths(8000, 1).load(Image, &bytes), Err(Ground::TableFull));
+    // Every row has its 16 even seats, or all 32 where the steps put the odd ones.
+    let mut bytes = vec![0; 145_160];
+    for (state, length) in
+        [(0, 8 + 8 * 500 + 4 * 8000), (1, 8 + 8 * 500 + 4 * 8064), (64, 8 + 8 * 500 + 4 * 12_096)]
+    {
+        assert_eq!(store.write(Sheet, Some(state), &mut bytes[..length - 1]), Err(Ground::Output));
+        assert_eq!(store.write(Sheet, Some(state), &mut bytes), Ok(length));
+        let mut elsewhere = Store::of_lengths(8000, 1);
+        let outcome = if state == 0 { Ok(()) } else { Err(Ground::TableFull) };
+        assert_eq!(elsewhere.load(Sheet, &bytes[..length]), outcome);
+    }
     assert_eq!(store.restart(&mut bytes[..64_005]), Err(Ground::Output));
     assert_eq!(store.restart(&mut bytes[..64_006]), Ok(()));
     assert_eq!(store.table, words);

@@ -2,6 +2,7 @@
 
 use model::batch::{order, price_batch};
 use model::caller::Caller::{Desk, Foyer};
+use model::format::Format::{Image, Sheet};
 use model::ground::Ground;
 use model::head::Head;
 use model::quote::{Quote, Since};
@@ -73,9 +74,12 @@ fn each_clause_is_tested() {
 fn all_calls_but_clear_and_load_refuse_an_unsound_store() {
     let list = vec![entry(5, None)];
     let calls = [
-        Call::WriteImage { state: None },
-        Call::WriteImage { state: Some(11) },
-        Call::WriteImage { state: Some(12) },
+        Call::Write { format: Image, state: None },
+        Call::Write { format: Image, state: Some(11) },
+        Call::Write { format: Image, state: Some(12) },
+        Call::Write { format: Sheet, state: None },
+        Call::Write { format: Sheet, state: Some(11) },
+        Call::Write { format: Sheet, state: Some(12) },
         Call::Restart,
         Call::Commit { list: list.clone() },
         Call::RollBack { state: 11 },

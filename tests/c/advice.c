@@ -3,7 +3,7 @@
 #include "hold.h"
 
 static uint64_t table[4], journal[128], longer[8];
-static uint8_t image[CECHNUOL_IMAGE_BYTES_OF(8)];
+static uint8_t image[CECHNUOL_IMAGE_BYTES_OF(8)], sheet[CECHNUOL_SHEET_BYTES_OF(8)];
 static struct cechnuol_store store = {table, 4, journal, 128, {0}, {0}};
 
 static uint64_t commit_put(uint32_t offer, uint32_t price)
@@ -263,6 +263,25 @@ static void longer_table(void)
     hold_price(&shorter, 2, 20);
 }
 
+/* A sheet of three prices in two rows: its length and its count of rows say how long the table must be. */
+static void table_full_at_a_sheet(void)
+{
+    struct cechnuol_store other = {longer, 2, journal + 64, 8, {0}, {0}};
+    const uint64_t words[3] = {cechnuol_put(1, 10), cechnuol_put(2, 20), cechnuol_put(32, 30)};
+    uint64_t count = 0, rows;
+    begin(4, 8, 0);
+    ANSWERS(cechnuol_store_commit(&store, words, 3), OK);
+    ANSWERS(cechnuol_store_write_sheet(&store, sheet, sizeof sheet, &count), OK);
+    ANSWERS(cechnuol_store_load_sheet(&other, sheet, count), TABLE_FULL);
+    rows = (uint64_t)sheet[4] << 24 | (uint64_t)sheet[5] << 16 | (uint64_t)sheet[6] << 8 | sheet[7];
+    IS(rows, 2);
+    other.table_words = (count - 8 - 8 * rows) / 4;
+    IS(other.table_words, 3);
+    ANSWERS(cechnuol_store_load_sheet(&other, sheet, count), OK);
+    hold_price(&other, 2, 20);
+    hold_price(&other, 32, 30);
+}
+
 /* An image has the newest prices, or those of the state that is named. A restart has the checkpoint: what is above it is
  * lost, unless it is flushed before. */
 static void images_and_restarts(void)
@@ -309,6 +328,29 @@ static void last_state(void)
     ANSWERS(commit_put(1, 11), OK);
 }
 
+/* The bytes that the header names for a sheet: they are enough, and a byte less is not where each price is in a row of
+ * its own. The checkpoint takes less. */
+static void output_short_of_a_sheet(void)
+{
+    uint64_t count = 0;
+    begin(4, 8, 1);
+    ANSWERS(cechnuol_store_write_sheet(&store, sheet, cechnuol_store_sheet_bytes(&store) - 1, &count), OUTPUT_SHORT);
+    ANSWERS(cechnuol_store_write_sheet(&store, sheet, cechnuol_store_sheet_bytes(&store), &count), OK);
+    ANSWERS(cechnuol_store_flush(&store, 1), OK);
+    ANSWERS(commit_put(33, 9), OK);
+    IS(cechnuol_store_sheet_bytes(&store), CECHNUOL_SHEET_BYTES_OF(2));
+    ANSWERS(cechnuol_store_write_sheet(&store, sheet, CECHNUOL_SHEET_BYTES_OF(2) - 1, &count), OUTPUT_SHORT);
+    ANSWERS(cechnuol_store_write_sheet(&store, sheet, CECHNUOL_SHEET_BYTES_OF(2), &count), OK);
+    IS(count, CECHNUOL_SHEET_BYTES_OF(2));
+    ANSWERS(cechnuol_store_write_state_sheet(&store, 1, sheet, CECHNUOL_SHEET_BYTES_OF(store.head[CECHNUOL_USED]), &count),
+            OK);
+    /* seat 2 of row 1, behind seat 1: room for a row is named, and not taken */
+    ANSWERS(commit_put(34, 9), OK);
+    IS(cechnuol_store_sheet_bytes(&store), CECHNUOL_SHEET_BYTES_OF(3));
+    ANSWERS(cechnuol_store_write_sheet(&store, sheet, cechnuol_store_sheet_bytes(&store), &count), OK);
+    IS(count, CECHNUOL_SHEET_BYTES_OF(3) - 8);
+}
+
 /* Output of the lengths that the header names is enough, and a word or byte less is not. */
 static void output_short(void)
 {
@@ -339,8 +381,10 @@ int main(void)
     another_read_set();
     table_full_at_a_flush();
     longer_table();
+    table_full_at_a_sheet();
     images_and_restarts();
     last_state();
     output_short();
+    output_short_of_a_sheet();
     return differences != 0;
 }

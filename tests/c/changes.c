@@ -15,11 +15,21 @@
 
 static void of_resets(void)
 {
-    const uint8_t empty[6] = {0, 0, 0, 3, 0, 0};
+    const uint8_t empty[6] = {0, 0, 0, 3, 0, 0}, no_rows[8] = {0, 0, 0, 3, 0, 0, 0, 0};
     begin();
     CHANGES(cechnuol_clear(STORE), TABLE | JOURNAL | HEAD | TALLY);
     begin();
     CHANGES(cechnuol_load(STORE, empty, 6), TABLE | JOURNAL | HEAD | TALLY);
+    begin();
+    CHANGES(cechnuol_load_sheet(STORE, no_rows, 8), TABLE | JOURNAL | HEAD | TALLY);
+    begin();
+    CHANGES(cechnuol_restart(STORE, lent.bytes, 64), JOURNAL | HEAD | TALLY | BYTES);
+    IS(lent.bytes[3], 7);
+    IS(lent.bytes[22], 0x5A);
+}
+
+static void of_writing(void)
+{
     begin();
     CHANGES(cechnuol_write_image(TO_READ, lent.bytes, 64, &lent.value), BYTES | VALUE);
     IS(lent.value, 22);
@@ -31,9 +41,15 @@ static void of_resets(void)
     IS(lent.bytes[3], 8);
     IS(lent.bytes[30], 0x5A);
     begin();
-    CHANGES(cechnuol_restart(STORE, lent.bytes, 64), JOURNAL | HEAD | TALLY | BYTES);
-    IS(lent.bytes[3], 7);
-    IS(lent.bytes[22], 0x5A);
+    CHANGES(cechnuol_write_sheet(TO_READ, lent.bytes, 64, &lent.value), BYTES | VALUE);
+    IS(lent.value, 24);
+    IS(lent.bytes[3], 9);
+    IS(lent.bytes[24], 0x5A);
+    begin();
+    CHANGES(cechnuol_write_state_sheet(TO_READ, 8, lent.bytes, 64, &lent.value), BYTES | VALUE);
+    IS(lent.value, 28);
+    IS(lent.bytes[3], 8);
+    IS(lent.bytes[28], 0x5A);
 }
 
 static void of_steps(void)
@@ -90,6 +106,7 @@ static void of_batches(void)
 int main(void)
 {
     of_resets();
+    of_writing();
     of_steps();
     of_reads();
     of_batches();

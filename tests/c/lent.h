@@ -32,6 +32,14 @@ static inline int changed(void)
            (lent.since != before.since ? SINCE : 0);
 }
 
+/* A refused call, on what is lent now: it changes no part. */
+#define REFUSED(call, want) \
+    do { \
+        before = lent; \
+        ANSWERS(call, want); \
+        hold((uint64_t)changed(), 0, "parts changed by " #call); \
+    } while (0)
+
 /* A store loaded as state 7 with offer 5 at 1200 and offer 6 at 900; state 8 has offer 9 at 700 too, state 9 offer 5 no
  * more. Slot 0 has a read of 5 and 9, which stands in the words, issued at 7. The image and the lists lie in memory
  * that cannot be written. */

@@ -6,7 +6,7 @@ enum { GUARD = 0x5A };
 /* Each memory with a word, or byte, more than its limit. */
 static uint64_t table[CECHNUOL_TABLE_WORDS + 1], journal[CECHNUOL_JOURNAL_WORDS + 1];
 static uint64_t words[CECHNUOL_LIST_WORDS + 1], orders[CECHNUOL_BATCH_ORDERS + 1], out[CECHNUOL_LIST_WORDS + 1];
-static uint8_t image[CECHNUOL_IMAGE_BYTES + 1], copy[CECHNUOL_IMAGE_BYTES + 1];
+static uint8_t image[CECHNUOL_IMAGE_BYTES + 1], sheet[CECHNUOL_SHEET_BYTES + 1], copy[CECHNUOL_SHEET_BYTES + 1];
 static struct cechnuol_store store = {table, CECHNUOL_TABLE_WORDS, journal, CECHNUOL_JOURNAL_WORDS, {0}, {0}};
 
 /* A store whose table or journal is as long as given. */
@@ -99,6 +99,78 @@ static void longest_image(void)
     ANSWERS(cechnuol_store_restart(&store, copy, full - 1), OUTPUT_SHORT);
     ANSWERS(cechnuol_store_restart(&store, copy, full), OK);
     IS(cechnuol_store_tip(&store), 0);
+}
+
+/* Puts a number of 32 bits at an index, the most significant byte first. */
+static void put_number(size_t at, size_t number)
+{
+    size_t i;
+    for (i = 0; i < 4; i++)
+        sheet[at + i] = number >> (24 - 8 * i) & 0xFF;
+}
+
+/* A sheet of so many offers as state 0, each at seat 0 of a row of its own and at price 1; its length. */
+static size_t sheet_of(size_t offers)
+{
+    size_t i;
+    memset(sheet, 0, sizeof sheet);
+    put_number(4, offers);
+    for (i = 0; i < offers; i++) {
+        put_number(8 + 12 * i, i << 6);
+        sheet[12 + 12 * i] = 0x80;
+        sheet[19 + 12 * i] = 1;
+    }
+    return CECHNUOL_SHEET_BYTES_OF(offers);
+}
+
+static void sheets(void)
+{
+    const size_t full = CECHNUOL_SHEET_BYTES_OF(CECHNUOL_TABLE_WORDS);
+    uint64_t count = 7;
+    IS(sheet_of(CECHNUOL_TABLE_WORDS + 1), full + 12);
+    ANSWERS(cechnuol_store_load_sheet(&store, sheet, full + 12), TABLE_FULL);
+    IS(sheet_of(CECHNUOL_TABLE_WORDS), full);
+    ANSWERS(cechnuol_store_load_sheet(&store, sheet, full + 1), BAD_IMAGE);
+    ANSWERS(cechnuol_store_load_sheet(&store, sheet, full - 1), BAD_IMAGE);
+    ANSWERS(cechnuol_store_load_sheet(&store, sheet, full), OK);
+    IS(store.head[CECHNUOL_USED], CECHNUOL_TABLE_WORDS);
+    IS(cechnuol_store_sheet_bytes(&store), full);
+    memset(copy, GUARD, sizeof copy);
+    ANSWERS(cechnuol_store_write_sheet(&store, copy, full - 1, &count), OUTPUT_SHORT);
+    ANSWERS(cechnuol_store_write_sheet(&store, copy, sizeof copy, &count), OK);
+    IS(count, full);
+    IS(memcmp(copy, sheet, full) == 0, 1);
+    IS(copy[full], GUARD);
+    IS(sheet_of(0), 8);
+    ANSWERS(cechnuol_store_load_sheet(&store, sheet, 8), OK);
+}
+
+/* The longest sheet: of a full table and a journal full of new offers, each in a row of its own. No table takes it. */
+static void longest_sheet(void)
+{
+    const size_t full = CECHNUOL_SHEET_BYTES_OF(CECHNUOL_TABLE_WORDS);
+    size_t step, i;
+    uint64_t count = 7;
+    ANSWERS(cechnuol_store_load_sheet(&store, sheet, sheet_of(CECHNUOL_TABLE_WORDS)), OK);
+    for (step = 0; step < CECHNUOL_STEPS; step++) {
+        for (i = 0; i < CECHNUOL_LIST_WORDS; i++)
+            words[i] = cechnuol_put(cechnuol_low_bits(32 * (CECHNUOL_TABLE_WORDS + CECHNUOL_LIST_WORDS * step + i)), 1);
+        ANSWERS(cechnuol_store_commit(&store, words, CECHNUOL_LIST_WORDS), OK);
+    }
+    IS(cechnuol_store_sheet_bytes(&store), CECHNUOL_SHEET_BYTES);
+    IS(sheet_of(CECHNUOL_TABLE_WORDS + CECHNUOL_JOURNAL_WORDS), CECHNUOL_SHEET_BYTES);
+    sheet[3] = CECHNUOL_STEPS;
+    memset(copy, GUARD, sizeof copy);
+    ANSWERS(cechnuol_store_write_sheet(&store, copy, CECHNUOL_SHEET_BYTES - 1, &count), OUTPUT_SHORT);
+    IS(copy[0], GUARD);
+    ANSWERS(cechnuol_store_write_sheet(&store, copy, sizeof copy, &count), OK);
+    IS(count, CECHNUOL_SHEET_BYTES);
+    IS(memcmp(copy, sheet, CECHNUOL_SHEET_BYTES) == 0, 1);
+    IS(copy[CECHNUOL_SHEET_BYTES], GUARD);
+    ANSWERS(cechnuol_store_load_sheet(&store, copy, CECHNUOL_SHEET_BYTES), TABLE_FULL);
+    ANSWERS(cechnuol_store_write_state_sheet(&store, 0, copy, full - 1, &count), OUTPUT_SHORT);
+    ANSWERS(cechnuol_store_write_state_sheet(&store, 0, copy, full, &count), OK);
+    IS(count, full);
 }
 
 static void lists(void)
@@ -212,6 +284,8 @@ int main(void)
     lengths();
     images();
     longest_image();
+    sheets();
+    longest_sheet();
     lists();
     batches();
     slots();

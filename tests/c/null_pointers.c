@@ -15,6 +15,9 @@ static void on_nothing(void)
     ANSWERS(cechnuol_load(NOTHING, NULL, 0), LENGTHS);
     ANSWERS(cechnuol_write_image(NOTHING_TO_READ, NULL, 0, &value), LENGTHS);
     ANSWERS(cechnuol_write_state_image(NOTHING_TO_READ, 0, NULL, 0, &value), LENGTHS);
+    ANSWERS(cechnuol_load_sheet(NOTHING, NULL, 0), LENGTHS);
+    ANSWERS(cechnuol_write_sheet(NOTHING_TO_READ, NULL, 0, &value), LENGTHS);
+    ANSWERS(cechnuol_write_state_sheet(NOTHING_TO_READ, 0, NULL, 0, &value), LENGTHS);
     ANSWERS(cechnuol_restart(NOTHING, NULL, 0), LENGTHS);
     ANSWERS(cechnuol_commit(NOTHING, NULL, 0), LENGTHS);
     ANSWERS(cechnuol_roll_back(NOTHING, 0), LENGTHS);
@@ -34,21 +37,26 @@ static void of_no_length(void)
     IS(value, 0);
     ANSWERS(cechnuol_clear(STORE), OK);
     ANSWERS(cechnuol_load(STORE, NULL, 0), BAD_IMAGE);
+    ANSWERS(cechnuol_load_sheet(STORE, NULL, 0), BAD_IMAGE);
     ANSWERS(cechnuol_commit(STORE, NULL, 0), OK);
     ANSWERS(cechnuol_issue(STORE, CECHNUOL_DESK, 0, NULL, 0), OK);
     ANSWERS(cechnuol_forward(STORE, CECHNUOL_DESK, 0, 1, NULL, 0), OK);
     ANSWERS(cechnuol_write_image(table, 4, journal, 16, head, NULL, 0, &value), OUTPUT_SHORT);
     ANSWERS(cechnuol_write_state_image(table, 4, journal, 16, head, 1, NULL, 0, &value), OUTPUT_SHORT);
+    ANSWERS(cechnuol_write_sheet(table, 4, journal, 16, head, NULL, 0, &value), OUTPUT_SHORT);
+    ANSWERS(cechnuol_write_state_sheet(table, 4, journal, 16, head, 1, NULL, 0, &value), OUTPUT_SHORT);
     ANSWERS(cechnuol_restart(STORE, NULL, 0), OUTPUT_SHORT);
 }
 
-/* Clear and load take head and tally as they find them; to every other call, words that no head has are not sound. */
+/* Clear and the loads take head and tally as they find them; to every other call, words that no head has are not
+ * sound. */
 static void on_any_words(void)
 {
     memset(head, 0xFF, sizeof head);
     memset(tally, 0xFF, sizeof tally);
     ANSWERS(cechnuol_release(STORE, CECHNUOL_DESK, 0), UNSOUND);
     ANSWERS(cechnuol_load(STORE, NULL, 0), BAD_IMAGE);
+    ANSWERS(cechnuol_load_sheet(STORE, NULL, 0), BAD_IMAGE);
     IS(head[CECHNUOL_TIP], UINT64_MAX);
     IS(tally[CECHNUOL_FLUSHED], UINT64_MAX);
     ANSWERS(cechnuol_clear(STORE), OK);

@@ -2,14 +2,6 @@
  * everything lent is as it came. */
 #include "lent.h"
 
-/* A refused call, on what is lent now. */
-#define REFUSED(call, want) \
-    do { \
-        before = lent; \
-        ANSWERS(call, want); \
-        hold((uint64_t)changed(), 0, "parts changed by " #call); \
-    } while (0)
-
 /* A state number that does not fit its field: words that no head has. */
 static void damage(void)
 {
@@ -21,12 +13,20 @@ static void of_resets(void)
     const uint8_t falling[22] = {0, 0, 0, 7, 0, 2, 0x80, 0, 0, 6, 0, 0, 0x04, 0xB0, 0x80, 0, 0, 5, 0, 0, 0x03, 0x84};
     const uint8_t five[46] = {0, 0, 0, 0, 0, 5, 0x80, 0, 0, 1, 0, 0, 0, 1, 0x80, 0, 0, 2, 0, 0, 0, 1, 0x80, 0, 0, 3,
                               0, 0, 0, 1, 0x80, 0, 0, 4, 0, 0, 0, 1, 0x80, 0, 0, 5, 0, 0, 0, 1};
+    const uint8_t falling_rows[32] = {0, 0, 0, 7, 0, 0, 0, 2, 0, 0, 0, 0x40, 0x80, 0, 0, 0, 0, 0, 0x04, 0xB0,
+                                      0, 0, 0, 0, 0x80, 0, 0, 0, 0, 0, 0x03, 0x84};
+    const uint8_t five_seats[36] = {0, 0, 0, 0, 0, 0, 0, 1, 0, 0, 0, 0, 0x7C, 0, 0, 0,
+                                    0, 0, 0, 1, 0, 0, 0, 1, 0, 0, 0, 1, 0, 0, 0, 1, 0, 0, 0, 1};
     begin();
     REFUSED(cechnuol_clear(NOTHING), LENGTHS);
     REFUSED(cechnuol_load(NOTHING, five, 46), LENGTHS);
     REFUSED(cechnuol_load(STORE, falling, 22), BAD_IMAGE);
     REFUSED(cechnuol_load(STORE, five, 45), BAD_IMAGE);
     REFUSED(cechnuol_load(STORE, five, 46), TABLE_FULL);
+    REFUSED(cechnuol_load_sheet(NOTHING, five_seats, 36), LENGTHS);
+    REFUSED(cechnuol_load_sheet(STORE, falling_rows, 32), BAD_IMAGE);
+    REFUSED(cechnuol_load_sheet(STORE, five_seats, 35), BAD_IMAGE);
+    REFUSED(cechnuol_load_sheet(STORE, five_seats, 36), TABLE_FULL);
     REFUSED(cechnuol_restart(NOTHING, lent.bytes, 22), LENGTHS);
     REFUSED(cechnuol_restart(STORE, lent.bytes, 21), OUTPUT_SHORT);
     damage();
@@ -43,6 +43,13 @@ static void of_queries(void)
     REFUSED(cechnuol_write_state_image(TO_READ, 10, lent.bytes, 64, &lent.value), STATE_RANGE);
     REFUSED(cechnuol_write_state_image(TO_READ, 7, lent.bytes, 21, &lent.value), OUTPUT_SHORT);
     REFUSED(cechnuol_write_state_image(TO_READ, 8, lent.bytes, 29, &lent.value), OUTPUT_SHORT);
+    REFUSED(cechnuol_write_sheet(NOTHING_TO_READ, lent.bytes, 24, &lent.value), LENGTHS);
+    REFUSED(cechnuol_write_sheet(TO_READ, lent.bytes, 23, &lent.value), OUTPUT_SHORT);
+    REFUSED(cechnuol_write_state_sheet(NOTHING_TO_READ, 6, lent.bytes, 0, &lent.value), LENGTHS);
+    REFUSED(cechnuol_write_state_sheet(TO_READ, 6, lent.bytes, 0, &lent.value), STATE_RANGE);
+    REFUSED(cechnuol_write_state_sheet(TO_READ, 10, lent.bytes, 64, &lent.value), STATE_RANGE);
+    REFUSED(cechnuol_write_state_sheet(TO_READ, 7, lent.bytes, 23, &lent.value), OUTPUT_SHORT);
+    REFUSED(cechnuol_write_state_sheet(TO_READ, 8, lent.bytes, 27, &lent.value), OUTPUT_SHORT);
     REFUSED(cechnuol_look_up(NOTHING_TO_READ, CECHNUOL_DESK, 5, 7, &lent.value, &lent.since), LENGTHS);
     REFUSED(cechnuol_look_up(TO_READ, CECHNUOL_DESK, UINT32_C(1) << 31, 6, &lent.value, &lent.since), BAD_LIST);
     REFUSED(cechnuol_look_up(TO_READ, CECHNUOL_DESK, 5, 6, &lent.value, &lent.since), STATE_RANGE);
@@ -50,6 +57,8 @@ static void of_queries(void)
     damage();
     REFUSED(cechnuol_write_image(TO_READ, lent.bytes, 21, &lent.value), UNSOUND);
     REFUSED(cechnuol_write_state_image(TO_READ, 6, lent.bytes, 21, &lent.value), UNSOUND);
+    REFUSED(cechnuol_write_sheet(TO_READ, lent.bytes, 23, &lent.value), UNSOUND);
+    REFUSED(cechnuol_write_state_sheet(TO_READ, 6, lent.bytes, 23, &lent.value), UNSOUND);
     REFUSED(cechnuol_look_up(TO_READ, CECHNUOL_DESK, UINT32_C(1) << 31, 6, &lent.value, &lent.since), UNSOUND);
 }
 

@@ -25,6 +25,7 @@ static void hold_alike(uint64_t by_plain, uint64_t by_struct, const char *what)
     hold(cechnuol_store_checkpoint(&store), plain.head[2], "checkpoint");
     hold(cechnuol_store_tip(&store), plain.head[3], "tip");
     hold(cechnuol_store_image_bytes(&store), cechnuol_image_bytes(plain.head), "bytes of an image");
+    hold(cechnuol_store_sheet_bytes(&store), cechnuol_sheet_bytes(plain.head), "bytes of a sheet");
 }
 
 /* The same words for both. */
@@ -99,34 +100,62 @@ static void images(void)
                cechnuol_store_write_image(&store, other.bytes, 13, &other.value), "write_image, short");
 }
 
-/* Heads, sound or not, and the bytes that are enough for an image. */
-static void image_bytes(void)
+static void sheets(void)
 {
+    const uint8_t sheet[20] = {0, 0, 0, 7, 0, 0, 0, 1, 0, 0, 0, 0, 0x04, 0, 0, 0, 0, 0, 0x04, 0xB0};
+    ALIKE(load_sheet, sheet, 20);
+    IS(cechnuol_store_tip(&store), 7);
+    ALIKE(load_sheet, sheet, 19);
+    give(cechnuol_put(37, 10), 0, 0);
+    ALIKE(commit, other.words, 1);
+    hold_alike(cechnuol_write_sheet(TO_READ, plain.bytes, 64, &plain.value),
+               cechnuol_store_write_sheet(&store, other.bytes, 64, &other.value), "write_sheet");
+    IS(other.value, 32);
+    hold_alike(cechnuol_write_state_sheet(TO_READ, 7, plain.bytes, 64, &plain.value),
+               cechnuol_store_write_state_sheet(&store, 7, other.bytes, 64, &other.value), "write_state_sheet");
+    IS(other.value, 20);
+    hold_alike(cechnuol_write_sheet(TO_READ, plain.bytes, 31, &plain.value),
+               cechnuol_store_write_sheet(&store, other.bytes, 31, &other.value), "write_sheet, short");
+    hold_alike(cechnuol_write_state_sheet(TO_READ, 6, plain.bytes, 64, &plain.value),
+               cechnuol_store_write_state_sheet(&store, 6, other.bytes, 64, &other.value), "write_state_sheet of none");
+}
+
+/* The bytes that are enough for an image and for a sheet are those of so many offers, each in a row of its own. */
+static void hold_room(const uint64_t *head, size_t offers)
+{
+    hold(cechnuol_image_bytes(head), 6 + 8 * offers, "bytes of an image");
+    hold(cechnuol_sheet_bytes(head), 8 + 12 * offers, "bytes of a sheet");
+}
+
+/* Heads, sound or not. */
+static void room(void)
+{
+    const size_t most = 8000 + 4096;
     uint64_t head[CECHNUOL_HEAD_WORDS] = {0};
-    IS(cechnuol_image_bytes(head), 6);
+    hold_room(head, 0);
     head[0] = 2;
-    IS(cechnuol_image_bytes(head), 22);
+    hold_room(head, 2);
     head[1] = 4294967290, head[2] = 4294967291, head[3] = 4294967293;
     head[20] = 4, head[21] = 6, head[22] = 9;
-    IS(cechnuol_image_bytes(head), 62);
+    hold_room(head, 7);
     head[2] = 4294967290;
-    IS(cechnuol_image_bytes(head), 94);
+    hold_room(head, 11);
     head[2] = head[3];
-    IS(cechnuol_image_bytes(head), 22);
+    hold_room(head, 2);
     head[2]++;
-    IS(cechnuol_image_bytes(head), CECHNUOL_IMAGE_BYTES);
+    hold_room(head, most);
     head[2] = 4294967291, head[22] = 3;
-    IS(cechnuol_image_bytes(head), CECHNUOL_IMAGE_BYTES);
+    hold_room(head, most);
     head[22] = 4100;
-    IS(cechnuol_image_bytes(head), 6 + 8 * (2 + 4096));
+    hold_room(head, 2 + 4096);
     head[22] = 4101;
-    IS(cechnuol_image_bytes(head), CECHNUOL_IMAGE_BYTES);
+    hold_room(head, most);
     head[22] = 4100, head[0] = 8000;
-    IS(cechnuol_image_bytes(head), CECHNUOL_IMAGE_BYTES);
+    hold_room(head, most);
     head[0] = 8001;
-    IS(cechnuol_image_bytes(head), CECHNUOL_IMAGE_BYTES);
+    hold_room(head, most);
     memset(head, 0xFF, sizeof head);
-    IS(cechnuol_image_bytes(head), CECHNUOL_IMAGE_BYTES);
+    hold_room(head, most);
 }
 
 /* Heads with slots open as given, and the slot that is the oldest of them. */
@@ -151,8 +180,9 @@ int main(void)
     steps();
     reads();
     images();
+    sheets();
     oldest_slots();
-    image_bytes();
+    room();
     IS(sizeof store.head / sizeof *store.head, 84);
     IS(sizeof store.tally / sizeof *store.tally, 3);
     return differences != 0;

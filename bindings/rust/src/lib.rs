@@ -2,8 +2,9 @@
 //!
 //! A store is fed lists of price changes and answers what an offer costs in any recent state, and how fresh that is. It
 //! steps back when the feed is corrected, lets a read start before the state that it serves exists, prices batches of
-//! orders, and writes and loads images. It is a C library whose functions are proved to do what is said of them, for every
-//! content and length of what they are lent; this crate is that library with Rust's types, and adds no rule of its own.
+//! orders, and writes and loads images and row sheets. It is a C library whose functions are proved to do what is said of
+//! them, for every content and length of what they are lent; this crate is that library with Rust's types, and adds no rule
+//! of its own.
 //!
 //! ```
 //! use cechnuol::{price_batch, Caller, Entry, Order, Refusal, Since, Store};
@@ -66,6 +67,10 @@
 //! ([`Store::write_state_image`]). Loaded, it is that state and nothing else: no step and no open slot. A
 //! [`Store::restart`] keeps the checkpoint and nothing above it.
 //!
+//! A sheet is the same map by row, as box offices exchange it: 32 seats to a row, where an offer is 32 times its row and its
+//! seat ([`Store::write_sheet`], [`Store::write_state_sheet`], [`Store::load_sheet`]). The sheet and the image of a state
+//! load alike.
+//!
 //! # Limits
 //!
 //! | what | limit | |
@@ -83,6 +88,9 @@
 //! | an image | 6 bytes and 8 for each offer | [`image_bytes_of`], [`Store::image_bytes`] |
 //! | the longest image, of a state with a full table and 4,096 new offers above it | 96,774 bytes | [`IMAGE_BYTES`] |
 //! | the longest that can be loaded | 64,006 bytes, in a table of 8,000 words | |
+//! | a sheet | 8 bytes, 8 for each row and 4 for each offer | [`sheet_bytes_of`], [`Store::sheet_bytes`] |
+//! | the longest sheet, of a state with as many offers and each in a row of its own | 145,160 bytes | [`SHEET_BYTES`] |
+//! | the longest that can be loaded | 96,008 bytes, in a table of 8,000 words | |
 //!
 //! # Refusals, threads and stack
 //!
@@ -91,20 +99,21 @@
 //!
 //! A [`Store`] is `Send` and `Sync` where its memory is. Queries take `&self` and may be made from several threads at once.
 //!
-//! A flush, and the writing of an image of a state above the checkpoint, need up to 160 KiB of stack, and any other call
-//! less than 32 KiB. With few prices these two take less than 40 KiB, so that a test with a small store does not show that
-//! a stack is too small. Rust's threads have 2 MiB unless they are given less.
+//! A flush, and the writing of an image or a sheet of a state above the checkpoint, need up to 160 KiB of stack, and any
+//! other call less than 32 KiB. With few prices these take less than 40 KiB, so that a test with a small store does not show
+//! that a stack is too small. Rust's threads have 2 MiB unless they are given less.
 //!
 //! # What a call tests, and what it does not
 //!
-//! Every call on a store but `clear` and `load` tests the whole of it, in one pass over table and journal: some microseconds
-//! where they are as long as can be. A flush of 64 steps of 64 entries into the longest table takes about a hundred, as does
-//! an image of the state that they lead to, and a forward of 64 entries over as many steps some tens.
+//! Every call on a store but `clear` and the loads tests the whole of it, in one pass over table and journal: some
+//! microseconds where they are as long as can be. A flush of 64 steps of 64 entries into the longest table takes about a
+//! hundred, as does an image of the state that they lead to, and a forward of 64 entries over as many steps some tens. A
+//! sheet takes longer to write and to load than the image of the same state, and the longer the more rows it has.
 //!
 //! [`Refusal::Unsound`] is answered where the form of a store is broken: the order of offers, the zeros, or numbers that do
 //! not fit each other. A price, an offer, the end of a step or the checkpoint that was changed within that form is taken as
 //! it is. A call that was cut off, by a kill or a loss of power, may leave such a store: go on from an image, and keep a
-//! checksum of your own where memory may fail. An image has none either.
+//! checksum of your own where memory may fail. An image has none either, nor has a sheet.
 //!
 //! # Linking
 //!
@@ -154,6 +163,9 @@ pub const STEPS: usize = 64;
 /// The bytes of the longest image: of a state that has as many offers as the longest table and the longest journal have words.
 /// No table holds more offers than [`TABLE_WORDS`], so that the longest image that can be loaded is shorter.
 pub const IMAGE_BYTES: usize = image_bytes_of(TABLE_WORDS + JOURNAL_WORDS);
+/// The bytes of the longest sheet: of such a state where each offer is in a row of its own. The longest sheet that can be loaded
+/// is shorter.
+pub const SHEET_BYTES: usize = sheet_bytes_of(TABLE_WORDS + JOURNAL_WORDS);
 /// The words of a head.
 pub const HEAD_WORDS: usize = 84;
 /// The words of a tally.
@@ -176,6 +188,12 @@ pub fn version() -> u64 {
 /// The bytes of an image of so many offers; the largest number where there are more than any memory has.
 pub const fn image_bytes_of(offers: usize) -> usize {
     offers.saturating_mul(8).saturating_add(6)
+}
+
+/// The most bytes that a sheet of so many offers has, which is where each is in a row of its own; the largest number where there
+/// are more than any memory has.
+pub const fn sheet_bytes_of(offers: usize) -> usize {
+    offers.saturating_mul(12).saturating_add(8)
 }
 
 /// Prices orders on a read set, without a store. The orders run in turn, each seeing what the earlier ones did; the changes

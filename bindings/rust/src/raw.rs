@@ -110,6 +110,7 @@ macro_rules! declare_queries {
 declare_calls! {
     cechnuol_clear();
     cechnuol_load(bytes: *const u8, byte_count: usize);
+    cechnuol_load_sheet(bytes: *const u8, byte_count: usize);
     cechnuol_restart(bytes: *mut u8, byte_count: usize);
     cechnuol_commit(words: *const u64, word_count: usize);
     cechnuol_roll_back(state: u32);
@@ -122,6 +123,8 @@ declare_calls! {
 declare_queries! {
     cechnuol_write_image(bytes: *mut u8, byte_count: usize, count: *mut u64);
     cechnuol_write_state_image(state: u32, bytes: *mut u8, byte_count: usize, count: *mut u64);
+    cechnuol_write_sheet(bytes: *mut u8, byte_count: usize, count: *mut u64);
+    cechnuol_write_state_sheet(state: u32, bytes: *mut u8, byte_count: usize, count: *mut u64);
     cechnuol_look_up(caller: u32, offer: u32, state: u32, price: *mut u64, since: *mut u64);
 }
 
@@ -176,6 +179,12 @@ impl StoreMut<'_> {
     #[inline]
     pub fn load(self, image: &[u8]) -> u64 {
         call!(self, cechnuol_load, image.as_ptr(), image.len())
+    }
+
+    /// Makes the store the map of a sheet.
+    #[inline]
+    pub fn load_sheet(self, sheet: &[u8]) -> u64 {
+        call!(self, cechnuol_load_sheet, sheet.as_ptr(), sheet.len())
     }
 
     /// Writes the image of the checkpoint into the bytes and loads it from there.
@@ -233,6 +242,18 @@ impl StoreRef<'_> {
     #[inline]
     pub fn write_state_image(self, state: u32, bytes: &mut [u8], count: &mut u64) -> u64 {
         query!(self, cechnuol_write_state_image, state, bytes.as_mut_ptr(), bytes.len(), count)
+    }
+
+    /// Writes the sheet of the tip to the start of the bytes, and its length to the count.
+    #[inline]
+    pub fn write_sheet(self, bytes: &mut [u8], count: &mut u64) -> u64 {
+        query!(self, cechnuol_write_sheet, bytes.as_mut_ptr(), bytes.len(), count)
+    }
+
+    /// Writes the sheet of a state to the start of the bytes, and its length to the count.
+    #[inline]
+    pub fn write_state_sheet(self, state: u32, bytes: &mut [u8], count: &mut u64) -> u64 {
+        query!(self, cechnuol_write_state_sheet, state, bytes.as_mut_ptr(), bytes.len(), count)
     }
 
     /// Writes an offer's price at a state to the price, where there is one, and to `since` the state to which the last step

@@ -92,14 +92,17 @@ refusals! {
     JournalFull = 14 "JOURNAL_FULL" "the list has more words than the journal has unused",
         "A list that is longer than the journal never fits: test that first, and commit it in parts. Flush; if it is still \
          full, forward or release the slot that was opened at the oldest state, as for [`Refusal::StepsFull`].";
-    BadImage = 15 "BAD_IMAGE" "the length, the order of offers or a kind bit of the image is wrong";
+    BadImage = 15 "BAD_IMAGE" "the length, the order or a bit of the image or sheet is wrong",
+        "An image or a sheet may be loaded by its own call alone: [`Store::load`](crate::Store::load), or \
+         [`Store::load_sheet`](crate::Store::load_sheet).";
     TableFull = 16 "TABLE_FULL" "the state has more prices than the table has words",
         "At a flush: flush to another state whose map fits, or commit removals first and flush to the state after them; \
          or write the image of the state, which needs no room in the table, and load it into a longer one. At a load: load \
          into a longer table.";
     OutputShort = 17 "OUTPUT_SHORT" "the output is shorter than what is to be written",
         "[`Store::image_bytes`](crate::Store::image_bytes) are enough for any image of a store and for its restart, \
-         [`IMAGE_BYTES`](crate::IMAGE_BYTES) for those of every store, and as many entries as there are orders for a batch.";
+         [`IMAGE_BYTES`](crate::IMAGE_BYTES) for those of every store, [`Store::sheet_bytes`](crate::Store::sheet_bytes) and \
+         [`SHEET_BYTES`](crate::SHEET_BYTES) for sheets, and as many entries as there are orders for a batch.";
     LongList = 18 "LONG_LIST" "the foyer's list has over 16 words",
         "A list that the foyer issues, or a read set that it forwards. Ask for the offers in several reads, one after another.";
     OthersSlot = 19 "OTHERS_SLOT" "the slot is not the caller's",

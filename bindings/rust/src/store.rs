@@ -1,8 +1,8 @@
 //! A store: its memory, and the calls on it.
 
 use crate::raw::{self, StoreMut, StoreRef};
-use crate::{image_bytes_of, Caller, Entry, Head, Quote, Refusal, Since, Tally};
-use crate::{IMAGE_BYTES, JOURNAL_WORDS, TABLE_WORDS};
+use crate::{image_bytes_of, sheet_bytes_of, Caller, Entry, Head, Quote, Refusal, Since, Tally};
+use crate::{IMAGE_BYTES, JOURNAL_WORDS, SHEET_BYTES, TABLE_WORDS};
 use std::fmt;
 
 /// A store of prices: states numbered one after another, each a map from offers to prices.
@@ -12,9 +12,10 @@ use std::fmt;
 /// the journal are held by: anything that gives a slice of words.
 ///
 /// The table holds the map at the checkpoint, the journal the steps since the oldest state. Methods that change the store
-/// take `&mut self`, the queries [`look_up`](Store::look_up), [`write_image`](Store::write_image) and
-/// [`write_state_image`](Store::write_state_image) `&self`, so that several threads may query a store at once. No call panics
-/// or allocates; a refused one leaves everything as it came.
+/// take `&mut self`, the queries [`look_up`](Store::look_up), [`write_image`](Store::write_image),
+/// [`write_state_image`](Store::write_state_image), [`write_sheet`](Store::write_sheet) and
+/// [`write_state_sheet`](Store::write_state_sheet) `&self`, so that several threads may query a store at once. No call panics or
+/// allocates; a refused one leaves everything as it came.
 #[derive(Clone, PartialEq, Eq)]
 pub struct Store<T = Vec<u64>, J = T> {
     table: T,
@@ -130,8 +131,33 @@ impl<T, J> Store<T, J> {
     /// # Ok::<(), Refusal>(())
     /// ```
     pub fn image_bytes(&self) -> usize {
-        let offers = self.head.used().saturating_add(self.head.words_above_checkpoint());
-        image_bytes_of(offers).min(IMAGE_BYTES)
+        image_bytes_of(self.most_offers()).min(IMAGE_BYTES)
+    }
+
+    /// So many bytes are enough for the sheet of every state from the checkpoint to the tip: 8, and 12 for each word of the table
+    /// in use and of the steps above the checkpoint, as if each were an offer in a row of its own. Never more than
+    /// [`SHEET_BYTES`](crate::SHEET_BYTES), whatever words the head has.
+    ///
+    /// ```
+    /// use cechnuol::{Entry, Refusal, Store};
+    ///
+    /// let mut store = Store::new(4, 16)?;
+    /// assert_eq!(store.sheet_bytes(), 8);
+    /// store.commit(&[Entry::put(5, 1200), Entry::put(9, 700)])?;
+    /// store.commit(&[Entry::put(40, 800)])?;
+    /// assert_eq!(store.sheet_bytes(), 44);
+    /// let mut bytes = vec![0; store.sheet_bytes()];
+    /// assert_eq!(store.write_sheet(&mut bytes), Ok(36));
+    /// # Ok::<(), Refusal>(())
+    /// ```
+    pub fn sheet_bytes(&self) -> usize {
+        sheet_bytes_of(self.most_offers()).min(SHEET_BYTES)
+    }
+
+    /// The most offers that a state from the checkpoint to the tip may have: as if each change above the checkpoint were an offer
+    /// of its own.
+    fn most_offers(&self) -> usize {
+        self.head.used().saturating_add(self.head.words_above_checkpoint())
     }
 }
 
@@ -256,6 +282,69 @@ impl<T: AsRef<[u64]>, J: AsRef<[u64]>> Store<T, J> {
         // It is at most as long as the bytes.
         Ok(count as usize)
     }
+
+    /// Writes the sheet of the tip to the start of the bytes, and gives its length: 8 bytes, 8 for each row and 4 for each offer.
+    /// Bytes past it stay. [`Store::load_sheet`] says what a sheet is. It loads as the image of the tip does, and as with that
+    /// the tip may have more offers than the table has words.
+    ///
+    /// Needs up to 160 KiB of stack where the tip is above the checkpoint.
+    ///
+    /// Refused: [`Refusal::Lengths`], [`Refusal::Unsound`], [`Refusal::OutputShort`]. At the last lend
+    /// [`Store::sheet_bytes`], or [`SHEET_BYTES`], which are always enough.
+    ///
+    /// ```
+    /// use cechnuol::{Entry, Refusal, Store};
+    ///
+    /// let mut store = Store::new(4, 16)?;
+    /// // Row 1 has offers 32 to 63: 33 is its seat 1, and 63 its last.
+    /// store.commit(&[Entry::put(33, 1200), Entry::put(63, 700)])?;
+    /// let mut bytes = vec![0; store.sheet_bytes()];
+    /// let length = store.write_sheet(&mut bytes)?;
+    /// let header = [0, 0, 0, 1, 0, 0, 0, 1];
+    /// let row = [0, 0, 0, 0x40, 0x40, 0, 0, 1, 0, 0, 0x04, 0xB0, 0, 0, 0x02, 0xBC];
+    /// assert_eq!(bytes[..length], [&header[..], &row].concat());
+    /// # Ok::<(), Refusal>(())
+    /// ```
+    #[inline]
+    pub fn write_sheet(&self, bytes: &mut [u8]) -> Result<usize, Refusal> {
+        let mut count = 0;
+        Refusal::check(self.as_raw().write_sheet(bytes, &mut count))?;
+        // It is at most as long as the bytes.
+        Ok(count as usize)
+    }
+
+    /// Writes the sheet of a state from the checkpoint to the tip to the start of the bytes, and gives its length, as
+    /// [`Store::write_sheet`] does for the tip. The sheet has the state's number, and loads as its map.
+    ///
+    /// Needs up to 160 KiB of stack where the state is above the checkpoint.
+    ///
+    /// Refused: [`Refusal::Lengths`], [`Refusal::Unsound`], [`Refusal::StateRange`], [`Refusal::OutputShort`]. At the last
+    /// lend [`Store::sheet_bytes`], or [`SHEET_BYTES`], which are always enough.
+    ///
+    /// ```
+    /// use cechnuol::{Caller, Entry, Refusal, Store};
+    ///
+    /// let mut store = Store::new(4, 16)?;
+    /// store.commit(&[Entry::put(5, 1200)])?;
+    /// store.commit(&[Entry::put(5, 1100)])?;
+    ///
+    /// // What was quoted at state 1.
+    /// let mut bytes = vec![0; store.sheet_bytes()];
+    /// let length = store.write_state_sheet(1, &mut bytes)?;
+    /// let mut then = Store::new(4, 16)?;
+    /// then.load_sheet(&bytes[..length])?;
+    /// assert_eq!(then.look_up(Caller::Desk, 5, 1)?.price, Some(1200));
+    ///
+    /// assert_eq!(store.write_state_sheet(3, &mut bytes), Err(Refusal::StateRange));
+    /// # Ok::<(), Refusal>(())
+    /// ```
+    #[inline]
+    pub fn write_state_sheet(&self, state: u32, bytes: &mut [u8]) -> Result<usize, Refusal> {
+        let mut count = 0;
+        Refusal::check(self.as_raw().write_state_sheet(state, bytes, &mut count))?;
+        // It is at most as long as the bytes.
+        Ok(count as usize)
+    }
 }
 
 /// What changes a store.
@@ -304,6 +393,31 @@ impl<T: AsMut<[u64]>, J: AsMut<[u64]>> Store<T, J> {
     #[inline]
     pub fn load(&mut self, image: &[u8]) -> Result<(), Refusal> {
         Refusal::check(self.as_raw_mut().load(image))
+    }
+
+    /// Makes the store the map of a sheet, as [`Store::load`] does of an image. The sheet and the image of a state load alike.
+    ///
+    /// A sheet has the prices by row, 32 seats to a row, where an offer is 32 times its row and its seat. It is numbers of 4
+    /// bytes, most significant byte first: the state number and the number of rows, and then for each row, rising, 64 times the
+    /// row's number; a mask with a bit for each seat that has a price, seat 0 most significant, at least one of them set; and a
+    /// price for each set bit, in seat order. A map without offers has no rows. The bytes are the sheet and no more, and each
+    /// map with its number has one sheet.
+    ///
+    /// Refused: [`Refusal::Lengths`], [`Refusal::BadImage`], [`Refusal::TableFull`] (load it into a longer table, of a word for
+    /// each offer).
+    ///
+    /// ```
+    /// use cechnuol::{Caller, Refusal, Store};
+    ///
+    /// let mut store = Store::new(4, 16)?;
+    /// // State 7 has one row, row 0, with seat 5.
+    /// store.load_sheet(&[0, 0, 0, 7, 0, 0, 0, 1, 0, 0, 0, 0, 0x04, 0, 0, 0, 0, 0, 0x04, 0xB0])?;
+    /// assert_eq!(store.look_up(Caller::Desk, 5, 7)?.price, Some(1200));
+    /// # Ok::<(), Refusal>(())
+    /// ```
+    #[inline]
+    pub fn load_sheet(&mut self, sheet: &[u8]) -> Result<(), Refusal> {
+        Refusal::check(self.as_raw_mut().load_sheet(sheet))
     }
 
     /// Writes the image of the checkpoint to the start of the bytes and loads it from there. The tip falls back to the

@@ -5,8 +5,9 @@ mod common;
 use cechnuol::raw::{self, ENDS, TAKEN, TIP};
 use cechnuol::Caller::{Desk, Foyer};
 use cechnuol::Refusal::{self, *};
-use cechnuol::{image_bytes_of, price_batch, Entry, Head, Order, Store, Tally};
-use common::{by_table, of_lengths, refused, since, store, with_head, CALLS, IMAGE, TIP_IMAGE};
+use cechnuol::{image_bytes_of, price_batch, sheet_bytes_of, Entry, Head, Order, Store, Tally};
+use common::{by_table, of_lengths, refused, since, store, with_head};
+use common::{CALLS, IMAGE, SHEET, TIP_IMAGE, TIP_SHEET};
 
 #[test]
 fn every_call_tests_the_lengths() {
@@ -18,13 +19,13 @@ fn every_call_tests_the_lengths() {
 }
 
 #[test]
-fn every_call_but_clear_and_load_tests_the_store() {
+fn every_call_but_clear_and_the_loads_tests_the_store() {
     let damages = [(TIP, 1 << 32), (TAKEN, 2), (ENDS, 100), (0, 9)];
     for damage in damages {
         let damaged = with_head(&store(), &[damage]);
         for (name, call) in CALLS {
             match name {
-                "clear" | "load" => assert_eq!(call(&mut damaged.clone()), Ok(()), "{name}"),
+                "clear" | "load" | "load_sheet" => assert_eq!(call(&mut damaged.clone()), Ok(()), "{name}"),
                 _ => refused(&damaged, Unsound, call),
             }
         }
@@ -59,6 +60,22 @@ fn load() {
     refused(&of_lengths(1, 1), TableFull, |store| store.load(&IMAGE));
 }
 
+/// A sheet loads as the image of its state does: the same table, journal, head and tally.
+#[test]
+fn load_sheet() {
+    let [mut by_image, mut by_sheet] = [store(), store()];
+    assert_eq!((by_image.load(&IMAGE), by_sheet.load_sheet(&SHEET)), (Ok(()), Ok(())));
+    assert_eq!(by_sheet, by_image);
+    assert_eq!(by_sheet.load_sheet(&[0, 0, 0, 9, 0, 0, 0, 0]), Ok(()));
+    assert_eq!((by_sheet.head().tip(), by_sheet.entries()), (9, &[][..]));
+    refused(&by_sheet, BadImage, |store| store.load_sheet(&[]));
+    refused(&by_sheet, BadImage, |store| store.load_sheet(&SHEET[..23]));
+    refused(&by_sheet, BadImage, |store| store.load_sheet(&[&SHEET[..], &[0]].concat()));
+    refused(&by_sheet, BadImage, |store| store.load_sheet(&IMAGE));
+    refused(&by_sheet, BadImage, |store| store.load(&SHEET));
+    refused(&of_lengths(1, 1), TableFull, |store| store.load_sheet(&SHEET));
+}
+
 #[test]
 fn write_image() {
     let mut bytes = [0xAA; 25];
@@ -86,9 +103,36 @@ fn write_state_image() {
     }
 }
 
-/// A table of one word: the image of a state with two offers is written, and loaded where there is room for it.
 #[test]
-fn image_of_a_state_that_the_table_has_no_room_for() {
+fn write_sheet() {
+    let mut bytes = [0xAA; 27];
+    assert_eq!(store().write_sheet(&mut bytes), Ok(24));
+    assert_eq!(bytes[..], [&TIP_SHEET[..], &[0xAA; 3]].concat());
+    let mut bytes = [0xAA; 23];
+    refused(&store(), OutputShort, |store| store.write_sheet(&mut bytes));
+    assert_eq!(bytes, [0xAA; 23]);
+}
+
+#[test]
+fn write_state_sheet() {
+    for (state, sheet) in [(1, SHEET), (2, TIP_SHEET)] {
+        let mut bytes = [0xAA; 27];
+        assert_eq!(store().write_state_sheet(state, &mut bytes), Ok(24));
+        assert_eq!(bytes[..], [&sheet[..], &[0xAA; 3]].concat());
+        refused(&store(), OutputShort, |store| store.write_state_sheet(state, &mut bytes[..23]));
+        assert_eq!(bytes[..24], sheet);
+    }
+    for state in [0, 3, u32::MAX] {
+        let mut bytes = [0xAA; 27];
+        refused(&store(), StateRange, |store| store.write_state_sheet(state, &mut bytes));
+        refused(&store(), StateRange, |store| store.write_state_sheet(state, &mut []));
+        assert_eq!(bytes, [0xAA; 27]);
+    }
+}
+
+/// A table of one word: image and sheet of a state with two offers are written, and loaded where there is room for it.
+#[test]
+fn a_state_that_the_table_has_no_room_for() {
     let mut store = of_lengths(1, 4);
     assert_eq!(store.commit(&[Entry::put(5, 1200), Entry::put(9, 700)]), Ok(()));
     refused(&store, TableFull, |store| store.flush(1));
@@ -99,6 +143,11 @@ fn image_of_a_state_that_the_table_has_no_room_for() {
     let mut longer = of_lengths(2, 1);
     assert_eq!(longer.load(&bytes), Ok(()));
     assert_eq!(longer.entries(), [Entry::put(5, 1200), Entry::put(9, 700)]);
+    let mut bytes = [0xAA; 24];
+    assert_eq!((store.write_sheet(&mut bytes), bytes), (Ok(24), SHEET));
+    refused(&store, TableFull, |store| store.load_sheet(&bytes));
+    let mut by_sheet = of_lengths(2, 1);
+    assert_eq!((by_sheet.load_sheet(&bytes), by_sheet), (Ok(()), longer));
 }
 
 /// Enough bytes for the image of every state, whether or not an open slot holds steps below the checkpoint.
@@ -116,6 +165,18 @@ fn image_bytes() {
     assert_eq!((store.head().oldest(), store.image_bytes()), (2, image_bytes_of(2 + 1)));
     assert_eq!(store.flush(4), Ok(()));
     assert_eq!(store.image_bytes(), image_bytes_of(2));
+}
+
+/// Enough bytes for the sheet of every state: as if each offer were in a row of its own.
+#[test]
+fn sheet_bytes() {
+    assert_eq!(of_lengths(8, 16).sheet_bytes(), 8);
+    let mut store = store();
+    assert_eq!(store.sheet_bytes(), sheet_bytes_of(2 + 3));
+    assert_eq!(store.commit(&[Entry::put(64, 1), Entry::put(96, 1)]), Ok(()));
+    assert_eq!(store.sheet_bytes(), sheet_bytes_of(2 + 5));
+    let mut bytes = vec![0; store.sheet_bytes()];
+    assert_eq!(store.write_sheet(&mut bytes), Ok(8 + 3 * 8 + 4 * 4));
 }
 
 #[test]

@@ -95,6 +95,7 @@ fn constants_are_those_of_the_header() {
         ("FOYER", FOYER as usize),
         ("STEPS", STEPS),
         ("IMAGE_BYTES", IMAGE_BYTES),
+        ("SHEET_BYTES", SHEET_BYTES),
         ("LIST", Order::LIST.into()),
         ("WITHDRAW", Order::WITHDRAW.into()),
         ("RAISE", Order::RAISE.into()),

@@ -4,10 +4,10 @@ mod common;
 
 use cechnuol::raw::{StoreMut, CHECKPOINT, ENDS, OLDEST, TIP, USED};
 use cechnuol::Caller::{Desk, Foyer};
-use cechnuol::{image_bytes_of, price_batch, Entry, Order, Refusal, Store};
+use cechnuol::{image_bytes_of, price_batch, sheet_bytes_of, Entry, Order, Refusal, Store};
 use cechnuol::{
-    BATCH_ORDERS, FOYER_SLOT, FOYER_WORDS, HEAD_WORDS, IMAGE_BYTES, JOURNAL_WORDS, LIST_WORDS, SLOTS, STEPS,
-    TABLE_WORDS, TALLY_WORDS,
+    BATCH_ORDERS, FOYER_SLOT, FOYER_WORDS, HEAD_WORDS, IMAGE_BYTES, JOURNAL_WORDS, LIST_WORDS, SHEET_BYTES,
+    SLOTS, STEPS, TABLE_WORDS, TALLY_WORDS,
 };
 use common::{of_lengths, store, with_head};
 
@@ -113,6 +113,56 @@ fn images() {
     assert_eq!(store.restart(&mut bytes[..full]), Ok(()));
 }
 
+/// Each offer in a row of its own, and all seats of each row.
+#[test]
+fn sheets() {
+    assert_eq!((SHEET_BYTES, sheet_bytes_of(0), sheet_bytes_of(usize::MAX)), (145_160, 8, usize::MAX));
+    for (rise, of_rows) in [(32, 12), (1, 4)] {
+        let offers = |from: usize, to: usize| (from..to).map(move |k| rise * k as u32);
+        let length = |offers: usize| match of_rows {
+            12 => sheet_bytes_of(offers),
+            _ => 8 + 8 * offers.div_ceil(32) + 4 * offers,
+        };
+        let mut store = of_lengths(TABLE_WORDS, JOURNAL_WORDS);
+        let full = sheet_of(0, offers(0, TABLE_WORDS));
+        assert_eq!(full.len(), length(TABLE_WORDS));
+        assert_eq!(store.load_sheet(&full), Ok(()));
+        let mut bytes = vec![0; SHEET_BYTES];
+        assert_eq!(store.write_sheet(&mut bytes[..full.len() - 1]), Err(Refusal::OutputShort));
+        assert_eq!((store.write_sheet(&mut bytes), &bytes[..full.len()]), (Ok(full.len()), &full[..]));
+        for step in 0..STEPS {
+            let first = TABLE_WORDS + step * LIST_WORDS;
+            let list: Vec<Entry> =
+                offers(first, first + LIST_WORDS).map(|offer| Entry::put(offer, 7)).collect();
+            assert_eq!(store.commit(&list), Ok(()));
+        }
+        assert_eq!(store.sheet_bytes(), SHEET_BYTES);
+        let wanted = sheet_of(64, offers(0, TABLE_WORDS + JOURNAL_WORDS));
+        assert_eq!(wanted.len(), length(TABLE_WORDS + JOURNAL_WORDS));
+        assert_eq!(store.write_sheet(&mut bytes[..wanted.len() - 1]), Err(Refusal::OutputShort));
+        assert_eq!(store.write_sheet(&mut bytes), Ok(wanted.len()));
+        assert_eq!(bytes[..wanted.len()], wanted);
+        assert_eq!(store.load_sheet(&wanted), Err(Refusal::TableFull));
+    }
+}
+
+/// The sheet of these offers, each at 7: all seats of a row, or seat 0 alone.
+fn sheet_of(state: u32, offers: impl Iterator<Item = u32>) -> Vec<u8> {
+    let mut rows: Vec<(u32, Vec<u32>)> = Vec::new();
+    for offer in offers {
+        match rows.last_mut() {
+            Some((row, seats)) if *row == offer / 32 => seats.push(offer % 32),
+            _ => rows.push((offer / 32, vec![offer % 32])),
+        }
+    }
+    let mut numbers = vec![state, rows.len() as u32];
+    for (row, seats) in rows {
+        numbers.extend([row * 64, seats.iter().map(|seat| 1 << (31 - seat)).sum()]);
+        numbers.extend(seats.iter().map(|_| 7));
+    }
+    numbers.into_iter().flat_map(u32::to_be_bytes).collect()
+}
+
 /// The image of so many offers, each at 7.
 fn image_of(state: u32, offers: u32) -> Vec<u8> {
     let mut image = state.to_be_bytes().to_vec();
@@ -121,7 +171,7 @@ fn image_of(state: u32, offers: u32) -> Vec<u8> {
     image
 }
 
-/// Of any words of a head, no more bytes than the longest image has.
+/// Of any words of a head, no more bytes than the longest image has, and than the longest sheet has.
 #[test]
 fn bytes_for_images() {
     let (used, end, last) = (USED, ENDS, HEAD_WORDS - 1);
@@ -134,8 +184,10 @@ fn bytes_for_images() {
         &[(OLDEST, 7), (end, 7)],
     ] {
         assert!(with_head(&store(), words).image_bytes() <= IMAGE_BYTES, "{words:?}");
+        assert!(with_head(&store(), words).sheet_bytes() <= SHEET_BYTES, "{words:?}");
     }
     assert_eq!(with_head(&store(), &[(used, u64::MAX)]).image_bytes(), IMAGE_BYTES);
+    assert_eq!(with_head(&store(), &[(used, u64::MAX)]).sheet_bytes(), SHEET_BYTES);
 }
 
 /// The last word of the head is tested, and the last of the tally counted; the library writes nothing behind them.

@@ -4,7 +4,7 @@ mod common;
 
 use cechnuol::Caller::Desk;
 use cechnuol::{Entry, Head, Refusal, Store, Tally};
-use common::{by_table, since, store, IMAGE, TIP_IMAGE};
+use common::{by_table, since, store, IMAGE, SHEET, TIP_IMAGE, TIP_SHEET};
 use std::thread;
 
 const ENTRY: Entry = Entry::put(5, 1200);
@@ -56,6 +56,9 @@ fn memory_to_read() {
     let mut bytes = vec![0; reader.image_bytes()];
     assert_eq!((reader.write_image(&mut bytes), &bytes[..22]), (Ok(22), &TIP_IMAGE[..]));
     assert_eq!((reader.write_state_image(1, &mut bytes), &bytes[..22]), (Ok(22), &IMAGE[..]));
+    let mut bytes = vec![0; reader.sheet_bytes()];
+    assert_eq!((reader.write_sheet(&mut bytes), &bytes[..24]), (Ok(24), &TIP_SHEET[..]));
+    assert_eq!((reader.write_state_sheet(1, &mut bytes), &bytes[..24]), (Ok(24), &SHEET[..]));
     assert_eq!(reader.entries(), kept.entries());
 }
 
@@ -73,6 +76,9 @@ fn queries_from_several_threads() {
                 let mut bytes = [0; 22];
                 assert_eq!((store.write_image(&mut bytes), bytes), (Ok(22), TIP_IMAGE));
                 assert_eq!((store.write_state_image(1, &mut bytes), bytes), (Ok(22), IMAGE));
+                let mut bytes = [0; 24];
+                assert_eq!((store.write_sheet(&mut bytes), bytes), (Ok(24), TIP_SHEET));
+                assert_eq!((store.write_state_sheet(1, &mut bytes), bytes), (Ok(24), SHEET));
             }
         });
     });

@@ -1,4 +1,4 @@
-//! Random bytes as images, random words as lists, orders, heads and stores: no call panics, and a refused one leaves everything
+//! Random bytes as images and sheets, random words as lists, orders, heads and stores: no call panics, and a refused one leaves everything
 //! that it was lent as it came.
 
 mod common;
@@ -39,6 +39,34 @@ fn random_bytes_as_images() {
         }
     }
     assert!((1000..19_000).contains(&accepted), "{accepted}");
+}
+
+/// Bytes of which every number is likely in a sheet: what loads is written the same.
+#[test]
+fn random_bytes_as_sheets() {
+    let (mut rng, mut accepted) = (Rng(8), 0);
+    for _ in 0..20_000 {
+        let mut store = store();
+        let numbers = [0, 1, 1, 2, 64, 1 << 31, 0xFFFF_FFC0, rng.bits() as u32];
+        let count = 2 + rng.below(7);
+        let mut sheet: Vec<u8> = (0..count).flat_map(|_| numbers[rng.below(8)].to_be_bytes()).collect();
+        if rng.below(8) == 0 {
+            sheet.truncate(rng.below(sheet.len()));
+        }
+        let before = (store.clone(), sheet.clone());
+        match store.load_sheet(&sheet) {
+            Ok(()) => {
+                accepted += 1;
+                let mut bytes = vec![0; sheet.len()];
+                assert_eq!((store.write_sheet(&mut bytes), &bytes), (Ok(sheet.len()), &sheet));
+            }
+            Err(refusal) => {
+                assert!(matches!(refusal, Refusal::BadImage | Refusal::TableFull), "{refusal}");
+                assert!((store, sheet) == before);
+            }
+        }
+    }
+    assert!((200..19_000).contains(&accepted), "{accepted}");
 }
 
 /// A commit takes a list by the rules of a list, and its entries are then those that are looked up, since the state that it makes.
@@ -153,7 +181,7 @@ fn last_named(store: &Store, offer: u32, state: u32) -> Since {
 
 /// Random commits, rollbacks, flushes and reads: the image of every state from the checkpoint to the tip fits into
 /// [`Store::image_bytes`], and loaded elsewhere it quotes the prices that the store quotes, all by the table. In the store they
-/// are since the last step that names the offer.
+/// are since the last step that names the offer. The sheet of the state fits into [`Store::sheet_bytes`] and loads alike.
 #[test]
 fn images_of_random_stores() {
     let mut rng = Rng(7);
@@ -182,7 +210,7 @@ fn images_of_random_stores() {
                 }
             };
         }
-        let mut bytes = vec![0; store.image_bytes()];
+        let (mut bytes, mut sheet) = (vec![0; store.image_bytes()], vec![0; store.sheet_bytes()]);
         for state in store.head().checkpoint()..=store.head().tip() {
             let length = store.write_state_image(state, &mut bytes).expect("bytes enough for each state");
             let mut elsewhere = of_lengths(20, 1);
@@ -194,6 +222,9 @@ fn images_of_random_stores() {
                 changed += usize::from(quote.since != Since::Table);
             }
             assert_eq!(length, 6 + 8 * elsewhere.entries().len());
+            let length = store.write_state_sheet(state, &mut sheet).expect("bytes enough for each state");
+            let mut by_sheet = of_lengths(20, 1);
+            assert_eq!((by_sheet.load_sheet(&sheet[..length]), &by_sheet), (Ok(()), &elsewhere));
             images += 1;
             large += usize::from(elsewhere.entries().len() > store.table().len());
         }

@@ -1,5 +1,5 @@
-// The calls on a store, in groups. A list, read set or image is in the words or bytes lent with the call, and takes all
-// of them.
+// The calls on a store, in groups. A list, read set, image or sheet is in the words or bytes lent with the call, and
+// takes all of them.
 
 // A call with its numbers.
 pub enum Call {
@@ -13,10 +13,16 @@ pub enum Call {
 pub enum Reset {
     // The empty map as state 0.
     Clear,
-    // The bytes are the image.
-    Load,
+    // The bytes are a map and its state number, in this format.
+    Load(Format),
     // The checkpoint's image goes to the start of the bytes and is loaded back.
     Restart,
+}
+
+// The format in which a map and its state number are bytes: the image of document 01, or the row sheet of document 02.
+pub enum Format {
+    Image,
+    Sheet,
 }
 
 // The calls that add steps, take them back and flush them.
@@ -54,10 +60,10 @@ pub struct Reader {
 // The calls that change nothing of a store.
 pub enum Query {
     LookUp(LookUp),
-    // The image of the tip goes to the start of the bytes.
-    WriteImage,
-    // A state; its image goes to the start of the bytes.
-    WriteStateImage(u32),
+    // The tip, in this format, goes to the start of the bytes.
+    Write(Format),
+    // A state, which goes to the start of the bytes.
+    WriteState(Format, u32),
 }
 
 // Who asks, for the price of which offer, and at which state. Lookups are open to all callers.

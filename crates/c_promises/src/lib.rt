@@ -8,19 +8,23 @@ use cechnuol::store::cechnuol_flush;
 use cechnuol::store::cechnuol_forward;
 use cechnuol::store::cechnuol_issue;
 use cechnuol::store::cechnuol_load;
+use cechnuol::store::cechnuol_load_sheet;
 use cechnuol::store::cechnuol_look_up;
 use cechnuol::store::cechnuol_release;
 use cechnuol::store::cechnuol_restart;
 use cechnuol::store::cechnuol_roll_back;
 use cechnuol::store::cechnuol_write_image;
+use cechnuol::store::cechnuol_write_sheet;
 use cechnuol::store::cechnuol_write_state_image;
+use cechnuol::store::cechnuol_write_state_sheet;
 use head_words::HEAD_WORDS;
 use lent::storing::TALLY_WORDS;
 ghost use mathlib.Core.Bool.{cond};
 ghost use lib.Dec.{eqb};
 ghost use Rattle.answers.specs.declared.call.Call.the-variants.{Reset, Step, Read};
 ghost use Rattle.answers.specs.declared.call.Caller.the-variants.{Desk, Foyer};
-ghost use Rattle.answers.specs.declared.call.Query.the-variants.{LookUp, WriteImage, WriteStateImage};
+ghost use Rattle.answers.specs.declared.call.Format.the-variants.{Image, Sheet};
+ghost use Rattle.answers.specs.declared.call.Query.the-variants.{LookUp, Write, WriteState};
 ghost use Rattle.answers.specs.declared.call.Read.the-variants.{Issue, Forward, Release};
 ghost use Rattle.answers.specs.declared.call.Reset.the-variants.{Clear, Load, Restart};
 ghost use Rattle.answers.specs.declared.call.Step.the-variants.{Commit, RollBack, Flush};
@@ -48,11 +52,26 @@ pub fn load(
     tally: &mut [u64; TALLY_WORDS],
     bytes: &[u8],
 ) -> u64
-    ensures { λ r. ⌜ BytesKeep (Reset Load)
+    ensures { λ r. ⌜ BytesKeep (Reset (Load Image))
         (now (table .entry)) (now (journal .entry)) (now (head .entry)) (now (tally .entry))
         (now (bytes .entry)) r (now (table .exit)) (now (journal .exit)) (now (head .exit)) (now (tally .exit)) (now (bytes .entry)) ⌝ }
 {
     cechnuol_load(table, journal, head, tally, bytes)
+}
+
+// `cechnuol_load_sheet`.
+pub fn load_sheet(
+    table: &mut [u64],
+    journal: &mut [u64],
+    head: &mut [u64; HEAD_WORDS],
+    tally: &mut [u64; TALLY_WORDS],
+    bytes: &[u8],
+) -> u64
+    ensures { λ r. ⌜ BytesKeep (Reset (Load Sheet))
+        (now (table .entry)) (now (journal .entry)) (now (head .entry)) (now (tally .entry))
+        (now (bytes .entry)) r (now (table .exit)) (now (journal .exit)) (now (head .exit)) (now (tally .exit)) (now (bytes .entry)) ⌝ }
+{
+    cechnuol_load_sheet(table, journal, head, tally, bytes)
 }
 
 // `cechnuol_restart`.
@@ -192,7 +211,7 @@ pub fn write_image(
     bytes: &mut [u8],
     count: &mut u64,
 ) -> u64
-    ensures { λ r. ⌜ QueryKeeps WriteImage
+    ensures { λ r. ⌜ QueryKeeps (Write Image)
         (now (table .entry)) (now (journal .entry)) (now (head .entry))
         (now (bytes .entry)) r (now (count .entry)) (now (count .exit)) (now (bytes .exit)) ⌝ }
 {
@@ -208,11 +227,42 @@ pub fn write_state_image(
     bytes: &mut [u8],
     count: &mut u64,
 ) -> u64
-    ensures { λ r. ⌜ QueryKeeps (WriteStateImage state)
+    ensures { λ r. ⌜ QueryKeeps (WriteState Image state)
         (now (table .entry)) (now (journal .entry)) (now (head .entry))
         (now (bytes .entry)) r (now (count .entry)) (now (count .exit)) (now (bytes .exit)) ⌝ }
 {
     cechnuol_write_state_image(table, journal, head, state, bytes, count)
+}
+
+// `cechnuol_write_sheet`.
+pub fn write_sheet(
+    table: &[u64],
+    journal: &[u64],
+    head: &[u64; HEAD_WORDS],
+    bytes: &mut [u8],
+    count: &mut u64,
+) -> u64
+    ensures { λ r. ⌜ QueryKeeps (Write Sheet)
+        (now (table .entry)) (now (journal .entry)) (now (head .entry))
+        (now (bytes .entry)) r (now (count .entry)) (now (count .exit)) (now (bytes .exit)) ⌝ }
+{
+    cechnuol_write_sheet(table, journal, head, bytes, count)
+}
+
+// `cechnuol_write_state_sheet`.
+pub fn write_state_sheet(
+    table: &[u64],
+    journal: &[u64],
+    head: &[u64; HEAD_WORDS],
+    state: u32,
+    bytes: &mut [u8],
+    count: &mut u64,
+) -> u64
+    ensures { λ r. ⌜ QueryKeeps (WriteState Sheet state)
+        (now (table .entry)) (now (journal .entry)) (now (head .entry))
+        (now (bytes .entry)) r (now (count .entry)) (now (count .exit)) (now (bytes .exit)) ⌝ }
+{
+    cechnuol_write_state_sheet(table, journal, head, state, bytes, count)
 }
 
 // `cechnuol_price_batch`.

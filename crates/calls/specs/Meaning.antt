@@ -10,8 +10,10 @@ use Rattle.answers.specs.declared.answer.Answer.the-variants.{Done, Count}
 use Rattle.answers.specs.First.{Test}
 use Rattle.answers.specs.declared.call.Call.{Call}
 use Rattle.answers.specs.declared.call.Call.the-variants.{Reset, Step, Read, Ask}
+use Rattle.answers.specs.declared.call.Format.{Format}
+use Rattle.answers.specs.declared.call.Format.the-variants.{Image}
 use Rattle.answers.specs.declared.call.Query.{Query}
-use Rattle.answers.specs.declared.call.Query.the-variants.{LookUp, WriteImage, WriteStateImage}
+use Rattle.answers.specs.declared.call.Query.the-variants.{LookUp, Write, WriteState}
 use Rattle.answers.specs.declared.call.Read.{Read as ReadCall}
 use Rattle.answers.specs.declared.call.Read.the-variants.{Issue, Forward, Release}
 use Rattle.answers.specs.declared.call.Reset.{Reset as ResetCall}
@@ -19,6 +21,7 @@ use Rattle.answers.specs.declared.call.Reset.the-variants.{Clear, Load, Restart
 use Rattle.answers.specs.declared.call.Step.{Step as StepCall}
 use Rattle.answers.specs.declared.call.Step.the-variants.{Commit, RollBack, Flush}
 use Rattle.image.specs.Image.{countIn, numberIn, wordsIn}
+use Rattle.formats.specs.Formats.{mapIn}
 use Rattle.soundness.specs.Checks.{lengthGrounds}
 use Rattle.layout.specs.States.{heldOf, mapHere}
 use Rattle.views.specs.Laid.{padded}
@@ -26,7 +29,7 @@ use Rattle.views.specs.Trim.{trimmedHead, trimmedJournal}
 use Rattle.slots.specs.Slots.{opened, closedAt}
 use Rattle.snapshot.specs.Snapshots.{loadGrounds}
 use Rattle.snapshot.specs.Fresh.{freshHead}
-use Rattle.exports.specs.Export.{writeGrounds, ownGrounds, imageSize, imageOver}
+use Rattle.exports.specs.Export.{writeGrounds, ownGrounds, stateSize, stateOver}
 use Rattle.restarts.specs.Restart.{restartGrounds, restartImage}
 use Rattle.commits.specs.Commit.{commitGrounds, usedOf, withList, withStep}
 use Rattle.rollbacks.specs.RollBack.{rollGrounds, keptOf, cutAt, cutTo}
@@ -43,19 +46,20 @@ module _ (l : Lent) where
   resetOf Clear =
       means (lengthGrounds (length (l .table)) (length (l .journal))) Done
       (withStore l (replicate (length (l .table)) 0) (replicate (length (l .journal)) 0) (freshHead 0 0))
-  resetOf Load =
-      means (loadGrounds (length (l .table)) (length (l .journal)) (l .bytes)) Done
+  resetOf (Load format) =
+      let map = mapIn format (l .bytes) in
+      means (loadGrounds (length (l .table)) (length (l .journal)) format (l .bytes)) Done
       (withStore l
-      (padded (length (l .table)) (wordsIn (l .bytes)))
+      (padded (length (l .table)) map)
       (replicate (length (l .journal)) 0)
-      (freshHead (countIn (l .bytes)) (numberIn (l .bytes))))
+      (freshHead (length map) (numberIn (l .bytes))))
   resetOf Restart =
       let image = restartImage (l .table) (l .journal) (l .head) in
       means (restartGrounds (l .table) (l .journal) (l .head) (length (l .bytes))) Done
       (withBytes
       (withStore l (padded (length (l .table)) (wordsIn image)) (replicate (length (l .journal)) 0)
       (freshHead (countIn image) (numberIn image)))
-      (imageOver (l .table) (l .journal) (l .head) (l .head .checkpoint) (l .bytes)))
+      (stateOver Image (l .table) (l .journal) (l .head) (l .head .checkpoint) (l .bytes)))
 
   -- the calls that add steps, take them back and flush them
   abbrev pub stepOf : StepCall → Meaning
@@ -91,13 +95,13 @@ module _ (l : Lent) where
       means (releaseGrounds (l .table) (l .journal) (l .head) reader) Done
       (withStore l (l .table) (trimmedJournal head (l .journal)) (trimmedHead head))
 
-  -- the writing of a state's image
-  abbrev pub imageQuery : List Test → ℕ → Asking
-  imageQuery grounds state = record {
+  -- the writing of a state
+  abbrev pub writing : Format → List Test → ℕ → Asking
+  writing format grounds state = record {
     grounds = grounds;
-    answer = Count (imageSize (l .table) (l .journal) (l .head) state);
+    answer = Count (stateSize format (l .table) (l .journal) (l .head) state);
     words = l .words;
-    bytes = imageOver (l .table) (l .journal) (l .head) state (l .bytes);
+    bytes = stateOver format (l .table) (l .journal) (l .head) state (l .bytes);
   }
 
   -- the calls that change nothing of a store
@@ -110,8 +114,10 @@ module _ (l : Lent) where
     bytes = l .bytes;
   }
   -- "With no state named, the tip is now written"
-  queryOf WriteImage = imageQuery (ownGrounds (l .table) (l .journal) (l .head) (l .head .tip) (length (l .bytes))) (l .head .tip)
-  queryOf (WriteStateImage state) = imageQuery (writeGrounds (l .table) (l .journal) (l .head) state (length (l .bytes))) state
+  queryOf (Write format) =
+      writing format (ownGrounds format (l .table) (l .journal) (l .head) (l .head .tip) (length (l .bytes))) (l .head .tip)
+  queryOf (WriteState format state) =
+      writing format (writeGrounds format (l .table) (l .journal) (l .head) state (length (l .bytes))) state
 
   abbrev pub meaning : Call → Meaning
   meaning (Reset call) = resetOf call

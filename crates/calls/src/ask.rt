@@ -1,8 +1,8 @@
 // The calls that change nothing of a store: they are lent it to read, and memory for what they write.
 use answers::answer::Answer;
 use answers::call::Query;
-use exports::write::write_image;
 use exports::write::write_state;
+use exports::write::write_tip;
 use layout::head::Head;
 use lookups::look_up;
 ghost use Rattle.calls.specs.Lent.{lent, Performs};
@@ -22,7 +22,7 @@ pub fn ask(
 {
     match query {
         Query::LookUp(asked) => look_up(table, journal, head, asked),
-        Query::WriteImage => write_image(table, journal, head, bytes),
-        Query::WriteStateImage(state) => write_state(table, journal, head, state, bytes),
+        Query::Write(format) => write_tip(table, journal, head, format, bytes),
+        Query::WriteState(format, state) => write_state(table, journal, head, format, state, bytes),
     }
 }

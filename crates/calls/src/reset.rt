@@ -22,7 +22,7 @@ pub fn reset(
 {
     match call {
         Reset::Clear => clear(table, journal, head),
-        Reset::Load => load(table, journal, head, bytes),
+        Reset::Load(format) => load(table, journal, head, format, bytes),
         Reset::Restart => restart(table, journal, head, bytes),
     }
 }

@@ -3,6 +3,7 @@
 // no bytes is given none.
 use answers::answer::Answer;
 use answers::call::Call;
+use answers::call::Format;
 use answers::call::LookUp;
 use answers::call::Query;
 use calls::ask::ask;
@@ -23,7 +24,7 @@ use unit::serve::serve_core;
 ghost use mathlib.Core.Path.{_≡_};
 ghost use mathlib.Core.List.{[]};
 ghost use Rattle.answers.specs.declared.call.Query.the-variants.{LookUp as LookUpOf};
-ghost use Rattle.lent.specs.Asked.{clear, commit, load};
+ghost use Rattle.lent.specs.Asked.{clear, commit, loadAs};
 ghost use Rattle.lent.specs.Lent.{Leaves, Serves, Asks, wordsAfter};
 
 // Serves a call on lent memory.
@@ -97,19 +98,20 @@ pub(crate) fn commit_on(
     answer
 }
 
-// Serves a load of an image that is lent to read.
+// Serves a load of bytes that are lent to read.
 pub(crate) fn load_on(
     table: &mut [u64],
     journal: &mut [u64],
-    image: &[u8],
+    bytes: &[u8],
     head: &mut [u64; HEAD_WORDS],
     tally: &mut [u64; TALLY_WORDS],
+    format: Format,
 ) -> Answer
-    ensures { λ r. ⌜ Leaves (now (table .entry)) (now (journal .entry)) [] (now (image .entry)) (now (head .entry))
-        (now (tally .entry)) load r (now (table .exit)) (now (journal .exit)) [] (now (image .entry))
+    ensures { λ r. ⌜ Leaves (now (table .entry)) (now (journal .entry)) [] (now (bytes .entry)) (now (head .entry))
+        (now (tally .entry)) (loadAs format) r (now (table .exit)) (now (journal .exit)) [] (now (bytes .entry))
         (now (head .exit)) (now (tally .exit)) ⌝ }
 {
-    let served = serve_load(tally_in(tally), table, journal, image, unpack(head));
+    let served = serve_load(tally_in(tally), table, journal, bytes, unpack(head), format);
     let reply = served.reply;
     let answer = reply.answer;
     put_served(head, tally, served);

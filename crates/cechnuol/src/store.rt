@@ -8,6 +8,7 @@ use crate::memory::look_up_on;
 use crate::memory::serve_store;
 use crate::memory::serve_words;
 use answers::call::Call;
+use answers::call::Format;
 use answers::call::LookUp;
 use answers::call::Query;
 use answers::call::Read;
@@ -22,8 +23,8 @@ use lent::codes::value_of;
 use lent::storing::TALLY_WORDS;
 ghost use mathlib.Core.Path.{_≡_};
 ghost use mathlib.Core.List.{[]};
-ghost use Rattle.lent.specs.Asked.{clear, load, restart, commit, rollBack, flush, issue, forward, release, lookUp};
-ghost use Rattle.lent.specs.Asked.{writeImage, writeStateImage};
+ghost use Rattle.lent.specs.Asked.{clear, load, loadSheet, restart, commit, rollBack, flush, issue, forward, release, lookUp};
+ghost use Rattle.lent.specs.Asked.{writeImage, writeStateImage, writeSheet, writeStateSheet};
 ghost use Rattle.lent.specs.Lent.{Serves, Tells, TellsSince, wordsAfter, bytesAfter, bytesWritten};
 
 // The empty map as state 0.
@@ -56,7 +57,7 @@ pub extern "C" fn cechnuol_load(
         ≡ bytesAfter (now (table .entry)) (now (journal .entry)) [] (now (bytes .entry)) (now (head .entry))
         (now (tally .entry)) load) ⌝ }
 {
-    let answer = load_on(table, journal, bytes, head, tally);
+    let answer = load_on(table, journal, bytes, head, tally, Format::Image);
     code_of(answer)
 }
 
@@ -75,7 +76,14 @@ pub extern "C" fn cechnuol_write_image(
         ≡ bytesWritten (now (table .entry)) (now (journal .entry)) [] (now (bytes .entry)) (now (head .entry)) writeImage) ⌝ }
 {
     let mut words = [0u64; 0];
-    let answer = ask_on(table, journal, &mut words, bytes, head, Query::WriteImage);
+    let answer = ask_on(
+        table,
+        journal,
+        &mut words,
+        bytes,
+        head,
+        Query::Write(Format::Image),
+    );
     *count = value_of(answer, *count);
     code_of(answer)
 }
@@ -103,7 +111,82 @@ pub extern "C" fn cechnuol_write_state_image(
         &mut words,
         bytes,
         head,
-        Query::WriteStateImage(state),
+        Query::WriteState(Format::Image, state),
+    );
+    *count = value_of(answer, *count);
+    code_of(answer)
+}
+
+// Loads the sheet that the bytes are.
+#[no_mangle]
+pub extern "C" fn cechnuol_load_sheet(
+    table: &mut [u64],
+    journal: &mut [u64],
+    head: &mut [u64; HEAD_WORDS],
+    tally: &mut [u64; TALLY_WORDS],
+    bytes: &[u8],
+) -> u64
+    ensures { λ r. ⌜ Serves (now (table .entry)) (now (journal .entry)) [] (now (bytes .entry)) (now (head .entry))
+        (now (tally .entry)) loadSheet r (now (table .exit)) (now (journal .exit)) (now (head .exit)) (now (tally .exit))
+        × (now (bytes .entry)
+        ≡ bytesAfter (now (table .entry)) (now (journal .entry)) [] (now (bytes .entry)) (now (head .entry))
+        (now (tally .entry)) loadSheet) ⌝ }
+{
+    let answer = load_on(table, journal, bytes, head, tally, Format::Sheet);
+    code_of(answer)
+}
+
+// Writes the sheet of the tip to the start of the bytes, and its length to `count`.
+#[no_mangle]
+pub extern "C" fn cechnuol_write_sheet(
+    table: &[u64],
+    journal: &[u64],
+    head: &[u64; HEAD_WORDS],
+    bytes: &mut [u8],
+    count: &mut u64,
+) -> u64
+    ensures { λ r. ⌜ Tells (now (table .entry)) (now (journal .entry)) [] (now (bytes .entry)) (now (head .entry))
+        writeSheet r (now (count .exit)) (now (count .entry))
+        × (now (bytes .exit)
+        ≡ bytesWritten (now (table .entry)) (now (journal .entry)) [] (now (bytes .entry)) (now (head .entry)) writeSheet) ⌝ }
+{
+    let mut words = [0u64; 0];
+    let answer = ask_on(
+        table,
+        journal,
+        &mut words,
+        bytes,
+        head,
+        Query::Write(Format::Sheet),
+    );
+    *count = value_of(answer, *count);
+    code_of(answer)
+}
+
+// Writes the sheet of a state to the start of the bytes, and its length to `count`.
+#[no_mangle]
+pub extern "C" fn cechnuol_write_state_sheet(
+    table: &[u64],
+    journal: &[u64],
+    head: &[u64; HEAD_WORDS],
+    state: u32,
+    bytes: &mut [u8],
+    count: &mut u64,
+) -> u64
+    ensures { λ r. ⌜ Tells (now (table .entry)) (now (journal .entry)) [] (now (bytes .entry)) (now (head .entry))
+        (writeStateSheet state) r (now (count .exit)) (now (count .entry))
+        × (now (bytes .exit)
+        ≡ bytesWritten (now (table .entry)) (now (journal .entry)) [] (now (bytes .entry)) (now (head .entry))
+        (writeStateSheet state)) ⌝ }
+{
+    let mut words = [0u64; 0];
+    let answer = ask_on(
+        table,
+        journal,
+        &mut words,
+        bytes,
+        head,
+        Query::WriteState(Format::Sheet, state),
     );
     *count = value_of(answer, *count);
     code_of(answer)

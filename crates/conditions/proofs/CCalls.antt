@@ -18,7 +18,7 @@ use Rattle.answers.specs.declared.call.Reset.{Reset as ResetCall}
 use Rattle.answers.specs.declared.ground.Ground.the-variants.{Lengths, Unsound}
 use Rattle.answers.specs.Answers.{saidBy, acceptedB}
 use Rattle.answers.specs.Counts.{largest, resetsB, counts}
-use Rattle.image.specs.Bytes.{Byte}
+use Rattle.big_endian.specs.Bytes.{Byte}
 use Rattle.layout.specs.Clauses.{lengthsB}
 use Rattle.calls.specs.Lent.{Lent, lent, Left, checkOf, settledBy}
 use Rattle.calls.specs.Meaning.{meaning, performed}

@@ -14,7 +14,7 @@ use Rattle.answers.specs.declared.answer.Answer.the-variants.{Done, Price, NoPr
 use Rattle.answers.specs.declared.call.Call.the-variants.{Reset, Step, Read}
 use Rattle.answers.specs.declared.call.Read.{Read as ReadCall}
 use Rattle.answers.specs.declared.call.Read.the-variants.{Issue, Forward, Release}
-use Rattle.answers.specs.declared.call.Reset.the-variants.{Load}
+use Rattle.answers.specs.declared.call.Reset.the-variants.{Load as LoadCall}
 use Rattle.answers.specs.declared.ground.Ground.{Ground}
 use Rattle.answers.specs.Answers.{When, byStep, byBook, Said, accepted, refused as refusedBy, priced, without, saidBy}
 use Rattle.answers.specs.Answers.{grantedB, valuedB, valueIn, whenIn, acceptedB}
@@ -27,7 +27,7 @@ use Rattle.lent.proofs.TallyWords.{tally-back}
 use Rattle.lent.specs.Codes.{codeOf, noPrice, byTable, sinceWord, sinceRead, sinceOf}
 use Rattle.history.specs.Named.{Named, step, read, ask, unitCall, Response, acceptedAs, responseTo, refused}
 use Rattle.history.specs.Named.{noPrice as unpriced}
-use Rattle.history.specs.Plain.{Plain, loadChecked, loadedPlain}
+use Rattle.history.specs.Plain.{Plain, Load, loadChecked, loadedPlain}
 use Rattle.history.specs.Traces.{Asked as AskedIn3, ReadSet}
 use Rattle.history.proofs.Outstanding.{Outstanding}
 use Rattle.history.proofs.Views.{Fit}
@@ -176,30 +176,30 @@ store-steps-c m p f sets o a r w on =
     let c = on .serves in
     steps-c (withTallyC m (on .tally)) p f sets o a r (other-tally m p (on .tally) (c .tally-words) (c .counts) w) c
 
-pub starts-c : (m : Memory) (image : List ℕ) (r : Result) → CLoads m image r
-    → Started (loadedPlain (lengthsC m) image) × FollowsC (r .memory) (loadedPlain (lengthsC m) image)
-starts-c m image r l =
+pub starts-c : (m : Memory) (load : Load) (r : Result) → CLoads m load r
+    → Started (loadedPlain (lengthsC m) load) × FollowsC (r .memory) (loadedPlain (lengthsC m) load)
+starts-c m load r l =
     let k = carriedIn m in
-    let a = loading (l .words) image in
-    let start = starts k image (seenOf k a) (record {
+    let a = loading (l .words) load in
+    let start = starts k load (seenOf k a) (record {
       words = l .words;
       serves = serves-seen k a;
-      accepted = accepted-anew m Load (l .words) image r (l .serves) (l .accepted);
+      accepted = accepted-anew m (LoadCall (load .format)) (l .words) (load .bytes) r (l .serves) (l .accepted);
     }) in (
       start .0,
       record {
         carried = next k a;
-        stands = stands-anew m Load (l .words) image r (l .serves) (l .accepted);
+        stands = stands-anew m (LoadCall (load .format)) (l .words) (load .bytes) r (l .serves) (l .accepted);
         follows = ap storeCarried (sym (next-is k a)) ∙ start .1;
       },
     )
 
 -- a load does not look at the head's words
-pub loads-c-as-plain : (m : Memory) (words image : List ℕ) (r : Result)
-    → lengthsB (length (m .table)) (length (m .journal)) ≡ true → CallOfC m (loading words image) r
-    → r .code ≡ codeOf (saidOf (loadChecked (lengthsC m) image))
-loads-c-as-plain m words image r range c =
+pub loads-c-as-plain : (m : Memory) (words : List ℕ) (load : Load) (r : Result)
+    → lengthsB (length (m .table)) (length (m .journal)) ≡ true → CallOfC m (loading words load) r
+    → r .code ≡ codeOf (saidOf (loadChecked (lengthsC m) load))
+loads-c-as-plain m words load r range c =
     let k = carriedIn m in
-    let a = loading words image in
-    code-is m words image r (Reset Load) (c .promise) refl
-    ∙ ap codeOf (loads-as-plain k words image (seenOf k a) range (serves-seen k a))
+    let a = loading words load in
+    code-is m words (load .bytes) r (Reset (LoadCall (load .format))) (c .promise) refl
+    ∙ ap codeOf (loads-as-plain k words load (seenOf k a) range (serves-seen k a))

@@ -7,7 +7,7 @@ use lib.ListN.{replicate}
 use Rattle.views.specs.View.{Limits}
 use Rattle.unit.specs.Carried.{Asked}
 use Rattle.history.specs.Named.{Named, Call, Response, acceptedCalls, quotes}
-use Rattle.history.specs.Plain.{responseBy, leftBy, Plain, checked, given, changed, loadedPlain}
+use Rattle.history.specs.Plain.{responseBy, leftBy, Plain, checked, given, changed, Load, loadedPlain}
 use Rattle.history.specs.Traces.{Asked as AskedIn3, ReadSet, nothing, readSetsAfter, plainResponses}
 use Rattle.history.proofs.Alike.{plain-alike}
 use Rattle.history.proofs.Following.{fit-after, sets-after}
@@ -29,12 +29,12 @@ pub record Started (p : Plain) : Type 0 where
   pub outstanding : Outstanding p (replicate 8 nothing)
 
 module _ {M S : Type 0} (Does : M → Asked → S → Type 0) (left : S → M) (tells : Named → S → Response)
-    (Loads : M → List ℕ → S → Type 0) (lengths : M → Limits) (Follows : M → Plain → Type 0)
+    (Loads : M → Load → S → Type 0) (lengths : M → Limits) (Follows : M → Plain → Type 0)
     (steps : (m : M) (p : Plain) → Fit p → (sets : List ReadSet) → Outstanding p sets → (a : AskedIn3) (s : S)
     → Follows m p → Does m (lentIn sets a) s
     → (tells (a .call .named) s ≡ answered p (a .call)) × Follows (left s) (after p (a .call)))
-    (starts : (m : M) (image : List ℕ) (s : S) → Loads m image s
-    → Started (loadedPlain (lengths m) image) × Follows (left s) (loadedPlain (lengths m) image)) where
+    (starts : (m : M) (load : Load) (s : S) → Loads m load s
+    → Started (loadedPlain (lengths m) load) × Follows (left s) (loadedPlain (lengths m) load)) where
   follow : (turns : List (Turn AskedIn3 S)) (m : M) (p : Plain) → Fit p → (sets : List ReadSet) → Outstanding p sets → Follows m p
       → RunFrom Does left tells m sets turns → responsesIn tells turns ≡ plainResponses p (callsIn turns)
   unfolding RunFrom plainResponses
@@ -50,15 +50,15 @@ module _ {M S : Type 0} (Does : M → Asked → S → Type 0) (left : S → M) (
       (subst (λ (r : Response). RunFrom Does left tells (left (t .seen)) (sets′ r) turns) (both .0) (run .1)))
 
   pub answers : AnswersAsPlain Does left tells Loads lengths
-  answers m image load turns loads run =
-      let s = starts m image load loads in
-      follow turns (left load) (loadedPlain (lengths m) image) (s .0 .fit) (replicate 8 nothing) (s .0 .outstanding) (s .1) run
+  answers m load loaded turns loads run =
+      let s = starts m load loaded loads in
+      follow turns (left loaded) (loadedPlain (lengths m) load) (s .0 .fit) (replicate 8 nothing) (s .0 .outstanding) (s .1) run
 
   pub alike : QuotesAlike Does left tells Loads lengths
-  alike m₁ m₂ image load₁ load₂ turns₁ turns₂ l₁ r₁ l₂ r₂ same =
-      let e₁ = answers m₁ image load₁ turns₁ l₁ r₁ in
-      let e₂ = answers m₂ image load₂ turns₂ l₂ r₂ in
+  alike m₁ m₂ load loaded₁ loaded₂ turns₁ turns₂ l₁ r₁ l₂ r₂ same =
+      let e₁ = answers m₁ load loaded₁ turns₁ l₁ r₁ in
+      let e₂ = answers m₂ load loaded₂ turns₂ l₂ r₂ in
       ap quotes e₁
-      ∙ plain-alike (lengths m₁) (lengths m₂) image (callsIn turns₁) (callsIn turns₂)
+      ∙ plain-alike (lengths m₁) (lengths m₂) load (callsIn turns₁) (callsIn turns₂)
       (ap (acceptedCalls (callsIn turns₁)) (sym e₁) ∙ same ∙ ap (acceptedCalls (callsIn turns₂)) e₂)
       ∙ ap quotes (sym e₂)

@@ -15,9 +15,10 @@ use Rattle.answers.specs.declared.call.Call.the-variants.{Reset, Step, Read, As
 use Rattle.answers.specs.declared.call.Read.the-variants.{Issue, Forward, Release}
 use Rattle.answers.specs.declared.call.Reset.the-variants.{Clear, Load, Restart}
 use Rattle.answers.specs.declared.call.Step.the-variants.{Commit, RollBack, Flush}
-use Rattle.image.specs.Bytes.{Byte}
+use Rattle.big_endian.specs.Bytes.{Byte}
 use Rattle.image.specs.Image.{numberIn, countIn}
-use Rattle.image.proofs.Bytes.{value-small}
+use Rattle.formats.specs.Formats.{mapIn}
+use Rattle.big_endian.proofs.Bytes.{value-small}
 use Rattle.image.proofs.RoundTrip.{image-number}
 use Rattle.layout.specs.declared.head.Head.{Head}
 use Rattle.layout.specs.Heads.{headWith, withSteps, withSlots}
@@ -27,7 +28,7 @@ use Rattle.views.proofs.Laid.{padded-length}
 use Rattle.views.proofs.SlotLists.{least-up-to}
 use Rattle.slots.specs.Slots.{opened, closedAt}
 use Rattle.snapshot.specs.Fresh.{freshHead}
-use Rattle.exports.specs.Export.{imageHere}
+use Rattle.exports.specs.Export.{stateBytes}
 use Rattle.restarts.specs.Restart.{restartImage}
 use Rattle.commits.specs.Commit.{usedOf, withStep}
 use Rattle.commits.proofs.CommitAccepted.{commit-ok, end-small}
@@ -161,7 +162,7 @@ number-low bytes h =
 -- the number in the image that a restart loads back
 number-is : (table journal : List ℕ) (head : Head) → head .checkpoint < limit
     → numberIn (restartImage table journal head) ≡ head .checkpoint
-unfolding imageHere
+unfolding stateBytes
 number-is table journal head small = image-number (head .checkpoint) (mapHere table journal head (head .checkpoint)) small
 
 by-check : (l : Lent) (c : Check) (made : Left) → Fits (l .head) → (c ≡ Passed → Fits (made .lent .head))
@@ -172,7 +173,8 @@ by-check l (Refused ground) made f g = f
 module _ (l : Lent) (f : Fits (l .head)) (bytes : All Byte (l .bytes)) where
   accepted-fits : (call : Call) → checkOf (meaning l call) ≡ Passed → Fits (meaning l call .accepted .lent .head)
   accepted-fits (Reset Clear) e = fits-fresh 0 0 (omega arith)
-  accepted-fits (Reset Load) e = fits-fresh (countIn (l .bytes)) (numberIn (l .bytes)) (number-low (l .bytes) bytes)
+  accepted-fits (Reset (Load format)) e =
+      fits-fresh (length (mapIn format (l .bytes))) (numberIn (l .bytes)) (number-low (l .bytes) bytes)
   accepted-fits (Reset Restart) e =
       let image = restartImage (l .table) (l .journal) (l .head) in
       fits-fresh (countIn image) (numberIn image)

@@ -27,7 +27,7 @@ use Rattle.lookups.specs.LookUp.{lookUpCheck, quoteOf, sinceOf, sinceHere}
 use Rattle.lookups.proofs.LookUpAccepted.{LookUpOk, look-up-ok}
 use Rattle.unit.specs.Carried.{Carried, lentTo}
 use Rattle.calls.specs.Meaning.{performed}
-use Rattle.conditions.specs.Images.{mapAt}
+use Rattle.conditions.specs.Written.{mapAt}
 use Rattle.conditions.specs.Lookups.{lookingUp, stepTo, LastNaming, SinceIs, PriceIs, Lookups}
 use Rattle.conditions.specs.Serving.{Seen, CallOfServe}
 

@@ -12,7 +12,7 @@ use Rattle.answers.specs.declared.answer.Check.{Check}
 use Rattle.answers.specs.declared.answer.Check.the-variants.{Passed, Refused}
 use Rattle.answers.specs.declared.call.Call.{Call}
 use Rattle.answers.specs.declared.call.Call.the-variants.{Reset, Step, Read, Ask}
-use Rattle.answers.specs.declared.call.Query.the-variants.{LookUp, WriteImage, WriteStateImage}
+use Rattle.answers.specs.declared.call.Query.the-variants.{LookUp, Write, WriteState}
 use Rattle.answers.specs.declared.call.Read.the-variants.{Issue, Forward, Release}
 use Rattle.answers.specs.declared.call.Reset.the-variants.{Clear, Load, Restart}
 use Rattle.answers.specs.declared.call.Step.the-variants.{Commit, RollBack, Flush}
@@ -94,7 +94,7 @@ by-table : (l : Lent) (call : Call)
     × (checkOf (meaning l call) ≡ Passed → Within (l .head .tip) (whenIn (saidBy (meaning l call .accepted .answer))))
 unfolding once numbers
 by-table l (Reset Clear) = (refl, refl, record { rest = _; is = refl }, λ e. tt)
-by-table l (Reset Load) = (refl, refl, record { rest = _; is = refl }, λ e. tt)
+by-table l (Reset (Load format)) = (refl, refl, record { rest = _; is = refl }, λ e. tt)
 by-table l (Reset Restart) = (refl, refl, record { rest = _; is = refl }, λ e. tt)
 by-table l (Step Commit) = (refl, refl, record { rest = _; is = refl }, λ e. tt)
 by-table l (Step (RollBack state)) = (refl, refl, record { rest = _; is = refl }, λ e. tt)
@@ -109,8 +109,8 @@ by-table l (Ask (LookUp asked)) =
       record { rest = _; is = refl },
       since-within (storeOf l) asked found,
     )
-by-table l (Ask WriteImage) = (refl, refl, record { rest = _; is = refl }, λ e. tt)
-by-table l (Ask (WriteStateImage state)) = (refl, refl, record { rest = _; is = refl }, λ e. tt)
+by-table l (Ask (Write format)) = (refl, refl, record { rest = _; is = refl }, λ e. tt)
+by-table l (Ask (WriteState format state)) = (refl, refl, record { rest = _; is = refl }, λ e. tt)
 
 pub granted : (l : Lent) (call : Call) → acceptedB (meaning l call .accepted .answer) ≡ true
 granted l call = by-table l call .0

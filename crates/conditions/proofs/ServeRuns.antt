@@ -16,10 +16,10 @@ use Rattle.views.specs.View.{Store}
 use Rattle.snapshot.specs.Snapshots.{loadCheck}
 use Rattle.calls.specs.Lent.{settledBy}
 use Rattle.calls.specs.Meaning.{resetOf}
-use Rattle.answers.specs.declared.call.Reset.the-variants.{Load}
+use Rattle.answers.specs.declared.call.Reset.the-variants.{Load as LoadCall}
 use Rattle.unit.specs.Carried.{Carried, lentTo}
 use Rattle.history.specs.Named.{Transition, responseTo}
-use Rattle.history.specs.Plain.{Plain, loadChecked, loadedPlain}
+use Rattle.history.specs.Plain.{Plain, Load, loadChecked, loadedPlain}
 use Rattle.history.specs.Traces.{Asked as AskedIn3, ReadSet, wordsLent, storeIn, storeTransition}
 use Rattle.history.proofs.Following.{agrees}
 use Rattle.history.proofs.Loads.{loadedBy, load-checks, load-after, load-fit, no-sets}
@@ -67,23 +67,23 @@ pub store-steps : (k : Carried) (p : Plain) → Fit p → (sets : List ReadSet) 
 store-steps k p f sets o a s w on = steps (withTally k (on .tally)) p f sets o a s w (on .serves)
 
 -- an accepted load
-module _ (k : Carried) (image : List ℕ) (s : Seen) (loads : Loads k image s) where
-  check : loadCheck (k .table) (k .journal) image ≡ Passed
-  check = passed k (loading (loads .words) image) s (loads .serves) (loads .accepted)
+module _ (k : Carried) (load : Load) (s : Seen) (loads : Loads k load s) where
+  check : loadCheck (k .table) (k .journal) (load .format) (load .bytes) ≡ Passed
+  check = passed k (loading (loads .words) load) s (loads .serves) (loads .accepted)
 
   range : lengthsB (length (k .table)) (length (k .journal)) ≡ true
   range = not-false _ (passed-not _ _ _ check .0)
 
-  loaded : storeCarried (handed s) ≡ storeIn (loadedBy Passed (storeCarried k) image .lent)
+  loaded : storeCarried (handed s) ≡ storeIn (loadedBy Passed (storeCarried k) load .lent)
   loaded =
       (λ i. record { table = loads .serves .2 i; journal = loads .serves .3 i; head = loads .serves .0 .0 i .head })
-      ∙ ap (λ (c : Check). storeIn (settledBy c (resetOf (lentTo k (loading (loads .words) image)) Load .accepted)
-      (lentTo k (loading (loads .words) image)) .lent)) check
+      ∙ ap (λ (c : Check). storeIn (settledBy c (resetOf (lentTo k (loading (loads .words) load)) (LoadCall (load .format)) .accepted)
+      (lentTo k (loading (loads .words) load)) .lent)) check
 
-  pub starts : Started (loadedPlain (lengthsIn k) image) × Follows (handed s) (loadedPlain (lengthsIn k) image)
+  pub starts : Started (loadedPlain (lengthsIn k) load) × Follows (handed s) (loadedPlain (lengthsIn k) load)
   starts = (
-    record { fit = load-fit (storeCarried k) image range check; outstanding = no-sets (storeCarried k) image },
-    loaded ∙ load-after (storeCarried k) image range check,
+    record { fit = load-fit (storeCarried k) load range check; outstanding = no-sets (storeCarried k) load },
+    loaded ∙ load-after (storeCarried k) load range check,
   )
 
 -- a load by its check, accepted or refused
@@ -91,10 +91,10 @@ said-by-check : (c : Check) → saidBy (answered c Done) ≡ saidOf (verdictOf c
 said-by-check Passed = refl
 said-by-check (Refused ground) = refl
 
-pub loads-as-plain : (k : Carried) (words image : List ℕ) (s : Seen)
-    → lengthsB (length (k .table)) (length (k .journal)) ≡ true → CallOfServe k (loading words image) s
-    → saidBy (s .reply .answer) ≡ saidOf (loadChecked (lengthsIn k) image)
-loads-as-plain k words image s range serves =
+pub loads-as-plain : (k : Carried) (words : List ℕ) (load : Load) (s : Seen)
+    → lengthsB (length (k .table)) (length (k .journal)) ≡ true → CallOfServe k (loading words load) s
+    → saidBy (s .reply .answer) ≡ saidOf (loadChecked (lengthsIn k) load)
+loads-as-plain k words load s range serves =
     serves .0 .1
-    ∙ said-by-check (loadCheck (k .table) (k .journal) image)
-    ∙ ap saidOf (load-checks (storeCarried k) image range)
+    ∙ said-by-check (loadCheck (k .table) (k .journal) (load .format) (load .bytes))
+    ∙ ap saidOf (load-checks (storeCarried k) load range)

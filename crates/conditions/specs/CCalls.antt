@@ -11,8 +11,8 @@ use Rattle.answers.specs.declared.answer.Answer.{Answer}
 use Rattle.answers.specs.declared.call.Call.{Call}
 use Rattle.answers.specs.declared.call.Call.the-variants.{Reset, Step, Read, Ask}
 use Rattle.answers.specs.declared.call.Query.{Query}
-use Rattle.answers.specs.declared.call.Reset.the-variants.{Load}
-use Rattle.image.specs.Bytes.{Byte}
+use Rattle.answers.specs.declared.call.Reset.the-variants.{Load as LoadCall}
+use Rattle.big_endian.specs.Bytes.{Byte}
 use Rattle.answers.specs.Answers.{saidBy, acceptedB}
 use Rattle.views.specs.View.{Limits}
 use Rattle.batch.specs.Batches.{batch, answer, output}
@@ -22,6 +22,7 @@ use Rattle.lent.specs.Lent.{tallyOf, tallyWords, answerTo, Serves, wordsAfter, 
 use Rattle.lent.specs.Lent.{answerToQuery, Tells, TellsSince, wordsWritten, bytesWritten}
 use Rattle.unit.specs.Carried.{Carried, Asked}
 use Rattle.history.specs.Named.{Named, Response, acceptedAs, refused, noPrice as unpriced}
+use Rattle.history.specs.Plain.{Load}
 use Rattle.conditions.specs.Runs.{lending}
 use Rattle.conditions.specs.Serving.{Seen, Of64Bits}
 
@@ -120,10 +121,10 @@ groundCode code = cond (eqb code noPrice) 0 code
 abbrev pub lengthsC : Memory → Limits
 lengthsC m = record { table = length (m .table); journal = length (m .journal) }
 
--- the store is "just loaded from" the image
-pub record CLoads (m : Memory) (image : List ℕ) (r : Result) : Type 0 where
+-- the store is "just loaded from" the image, or the sheet
+pub record CLoads (m : Memory) (load : Load) (r : Result) : Type 0 where
   pub words : List ℕ
-  pub serves : CallOfC m (lending (Reset Load) words image) r
+  pub serves : CallOfC m (lending (Reset (LoadCall (load .format))) words (load .bytes)) r
   pub accepted : r .code ≡ 0
 
 -- A C function on a store does what `serve` does on the head and the tally that its words hold: code, value and since when say the answer,

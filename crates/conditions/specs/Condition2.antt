@@ -11,6 +11,7 @@ use mathlib.Core.Bool.{true}
 use mathlib.Core.List.{List, map}
 use Prim.Native.Nat.{ℕ}
 use Rattle.answers.specs.declared.call.Call.the-variants.{Step, Ask}
+use Rattle.answers.specs.declared.call.Format.the-variants.{Image, Sheet}
 use Rattle.answers.specs.declared.call.Query.{Query}
 use Rattle.answers.specs.declared.call.Step.the-variants.{Flush}
 use Rattle.views.specs.View.{Shaped}
@@ -20,17 +21,20 @@ use Rattle.moments.specs.Batches.{batches as batchTable}
 use Rattle.moments.specs.Callers.{deskAndFoyer}
 use Rattle.moments.specs.Images.{imagesOfStates}
 use Rattle.moments.specs.Moments.{computed, expected}
+use Rattle.moments.specs.Sheets.{sheetsOfStates}
 use Rattle.moments.specs.Since.{sinceWhen}
 use Rattle.moments.specs.Table.{twelve}
 use Rattle.conditions.specs.Batches.{Batches}
 use Rattle.conditions.specs.CCalls.{Memory, carriedIn, Result, CallOfC, AsServed}
 use Rattle.conditions.specs.CLayout.{CLayout}
-use Rattle.conditions.specs.Images.{Images}
 use Rattle.conditions.specs.Laws.{Laws}
 use Rattle.conditions.specs.Lookups.{Lookups}
+use Rattle.conditions.specs.Restarts.{Restarts}
 use Rattle.conditions.specs.Runs.{lending}
 use Rattle.conditions.specs.Serving.{Seen, CallOfServe, handed, Untouched, Of64Bits}
+use Rattle.conditions.specs.Sheets.{Sheets}
 use Rattle.conditions.specs.Tallies.{Tallies}
+use Rattle.conditions.specs.Written.{Written}
 
 pub record Condition2 : Type 0 where
   -- "Books, changes, forwarded reads": the calculus of changes
@@ -41,7 +45,12 @@ pub record Condition2 : Type 0 where
   pub batches : Batches
   -- "every image written loads, into a book that holds it, as the same map and state number, and every image accepted is written back
   -- byte for byte"
-  pub images : Images
+  pub images : Written Image
+  -- and the same of sheets, of which each map with its number has exactly one, and which load as images do
+  pub sheets-written : Written Sheet
+  pub sheets : Sheets
+  -- restarts, which write and load an image
+  pub restarts : Restarts
   -- lookups: the price at the state named, or none, and since when
   pub lookups : Lookups
   -- "A flush to the anchor changes nothing.", of a head whose arrays have their lengths and a tally of 64 bits, as their types have them
@@ -58,9 +67,10 @@ pub record Condition2 : Type 0 where
   pub c-layout : CLayout
   -- document 01's "Twelve moments at the counter", moment 10 as document 02 has it, by the definitions and by the table
   pub moments : map computed twelve ≡ map expected twelve
-  -- and tables of what document 02 brought, desk and foyer and the images of states, of batches, sixteenths to the nearest unit first, and
-  -- of lookups with since when
+  -- and tables of what document 02 brought, desk and foyer and the images of states, of batches, sixteenths to the nearest unit first, of
+  -- lookups with since when, and of row sheets
   pub desk-and-foyer : map computed deskAndFoyer ≡ map expected deskAndFoyer
   pub images-of-states : map computed imagesOfStates ≡ map expected imagesOfStates
   pub batch-table : map computed batchTable ≡ map expected batchTable
   pub since-when : map computed sinceWhen ≡ map expected sinceWhen
+  pub sheets-of-states : map computed sheetsOfStates ≡ map expected sheetsOfStates

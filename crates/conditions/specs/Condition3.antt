@@ -7,8 +7,9 @@
 -- commit, is cut at a rollback and keeps its maps at a flush. And where both stores accept the same calls in the same order, flushes
 -- apart, their lookups' prices and forwarded reads are equal, one by one."
 --
--- A run (Runs.antt) is of calls that keep the promise of the function that is called. The plain list (history/specs/Plain.antt) is given
--- the lengths, the image and the calls' arguments, except a forward's read set, and nothing of the unit's memory or head.
+-- A run (Runs.antt) is of calls that keep the promise of the function that is called, from a load of an image or a sheet (document 02,
+-- Q-5). The plain list (history/specs/Plain.antt) is given the lengths, the load and the calls' arguments, except a forward's read set,
+-- and nothing of the unit's memory or head.
 -- Assumes nothing.
 use mathlib.Core.Path.{_≡_}
 use mathlib.Core.List.{List, [], _∷_, _++_}
@@ -26,7 +27,7 @@ use Rattle.answers.specs.declared.call.Caller.{Caller}
 use Rattle.history.specs.Named.{Named, ask, Call, Response, Quote, priced, unpriced, quote, dated, responseTo}
 use Rattle.history.specs.Named.{calling, lookUp, issue, forward, release, flush}
 use Rattle.history.specs.Named.{compared, acceptedB, acceptedCalls, quoteIn, quotes}
-use Rattle.history.specs.Plain.{loadChecked, loadedPlain}
+use Rattle.history.specs.Plain.{Load, loadChecked, loadedPlain}
 use Rattle.history.specs.Traces.{Asked as AskedIn3, plainResponses}
 use Rattle.conditions.specs.CCalls.{Memory, Result, CallOfC, CallOnStoreC, memoryAfter, tellsC, CLoads, lengthsC}
 use Rattle.conditions.specs.Runs.{Turn, Run3, responsesIn, callsIn}
@@ -34,22 +35,22 @@ use Rattle.conditions.specs.Serving.{Seen, CallOfServe, CallOnStore, han
 
 -- Of what is called: a call that keeps its promise, what it leaves for the next, its response, an accepted load, and the lengths lent.
 module _ {M S : Type 0} (Does : M → Asked → S → Type 0) (left : S → M) (tells : Named → S → Response)
-    (Loads : M → List ℕ → S → Type 0) (lengths : M → Limits) where
+    (Loads : M → Load → S → Type 0) (lengths : M → Limits) where
   -- "Then in each store each call is accepted exactly when the plain list .. accepts it, and else refused by the same number", with
   -- each read set, image, price, since when and forwarded read
   abbrev pub AnswersAsPlain : Type 0
   AnswersAsPlain =
-      (m : M) (image : List ℕ) (load : S) (turns : List (Turn AskedIn3 S))
-      → Loads m image load → Run3 Does left tells (left load) turns
-      → responsesIn tells turns ≡ plainResponses (loadedPlain (lengths m) image) (callsIn turns)
+      (m : M) (load : Load) (loaded : S) (turns : List (Turn AskedIn3 S))
+      → Loads m load loaded → Run3 Does left tells (left loaded) turns
+      → responsesIn tells turns ≡ plainResponses (loadedPlain (lengths m) load) (callsIn turns)
 
   -- "where both stores accept the same calls in the same order, flushes apart, their lookups' prices and forwarded reads are equal, one
   -- by one"
   abbrev pub QuotesAlike : Type 0
   QuotesAlike =
-      (m₁ m₂ : M) (image : List ℕ) (load₁ load₂ : S) (turns₁ turns₂ : List (Turn AskedIn3 S))
-      → Loads m₁ image load₁ → Run3 Does left tells (left load₁) turns₁
-      → Loads m₂ image load₂ → Run3 Does left tells (left load₂) turns₂
+      (m₁ m₂ : M) (load : Load) (loaded₁ loaded₂ : S) (turns₁ turns₂ : List (Turn AskedIn3 S))
+      → Loads m₁ load loaded₁ → Run3 Does left tells (left loaded₁) turns₁
+      → Loads m₂ load loaded₂ → Run3 Does left tells (left loaded₂) turns₂
       → acceptedCalls (callsIn turns₁) (responsesIn tells turns₁) ≡ acceptedCalls (callsIn turns₂) (responsesIn tells turns₂)
       → quotes (responsesIn tells turns₁) ≡ quotes (responsesIn tells turns₂)
 
@@ -77,12 +78,12 @@ pub record Condition3 : Type 0 where
   pub forwards-count : (q : Quote) → quoteIn (quote q) ≡ q ∷ []
   pub lookups-count : (q : Quote) (since : When) → quoteIn (dated q since) ≡ q ∷ []
   -- a load into memory of lengths in range is accepted exactly when the plain list accepts it, and else refused by the same number
-  pub serve-loads-as-plain : (k : Carried) (words image : List ℕ) (s : Seen)
-      → lengthsB (length (k .table)) (length (k .journal)) ≡ true → CallOfServe k (loading words image) s
-      → saidBy (s .reply .answer) ≡ saidOf (loadChecked (lengthsIn k) image)
-  pub c-loads-as-plain : (m : Memory) (words image : List ℕ) (r : Result)
-      → lengthsB (length (m .table)) (length (m .journal)) ≡ true → CallOfC m (loading words image) r
-      → r .code ≡ codeOf (saidOf (loadChecked (lengthsC m) image))
+  pub serve-loads-as-plain : (k : Carried) (words : List ℕ) (load : Load) (s : Seen)
+      → lengthsB (length (k .table)) (length (k .journal)) ≡ true → CallOfServe k (loading words load) s
+      → saidBy (s .reply .answer) ≡ saidOf (loadChecked (lengthsIn k) load)
+  pub c-loads-as-plain : (m : Memory) (words : List ℕ) (load : Load) (r : Result)
+      → lengthsB (length (m .table)) (length (m .journal)) ≡ true → CallOfC m (loading words load) r
+      → r .code ≡ codeOf (saidOf (loadChecked (lengthsC m) load))
   -- over runs of `serve`
   pub serve-answers-as-plain : AnswersAsPlain CallOnStore handed tells Loads lengthsIn
   pub serve-quotes-alike : QuotesAlike CallOnStore handed tells Loads lengthsIn

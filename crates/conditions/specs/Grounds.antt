@@ -9,7 +9,7 @@ use lib.Dec.{eqb}
 use Rattle.answers.specs.declared.call.Call.{Call}
 use Rattle.answers.specs.declared.call.Call.the-variants.{Reset, Step, Read, Ask}
 use Rattle.answers.specs.declared.call.Query.{Query}
-use Rattle.answers.specs.declared.call.Query.the-variants.{LookUp, WriteImage, WriteStateImage}
+use Rattle.answers.specs.declared.call.Query.the-variants.{LookUp, Write, WriteState}
 use Rattle.answers.specs.declared.call.Read.{Read as ReadCall}
 use Rattle.answers.specs.declared.call.Read.the-variants.{Issue, Forward, Release}
 use Rattle.answers.specs.declared.call.Reset.{Reset as ResetCall}
@@ -25,7 +25,7 @@ highest = 19
 
 abbrev pub ofReset : ResetCall → List ℕ
 ofReset Clear = 1 ∷ []
-ofReset Load = 1 ∷ 15 ∷ 16 ∷ []
+ofReset (Load format) = 1 ∷ 15 ∷ 16 ∷ []
 -- the image that it writes and loads is the checkpoint's, of a map that the table holds: 11, 15 and 16 cannot arise
 ofReset Restart = 1 ∷ 2 ∷ 17 ∷ []
 
@@ -42,8 +42,8 @@ ofRead (Release reader) = 1 ∷ 2 ∷ 3 ∷ 19 ∷ 5 ∷ []
 abbrev pub ofQuery : Query → List ℕ
 ofQuery (LookUp asked) = 1 ∷ 2 ∷ 6 ∷ 11 ∷ []
 -- no state is named: 11 does not concern it
-ofQuery WriteImage = 1 ∷ 2 ∷ 17 ∷ []
-ofQuery (WriteStateImage state) = 1 ∷ 2 ∷ 11 ∷ 17 ∷ []
+ofQuery (Write format) = 1 ∷ 2 ∷ 17 ∷ []
+ofQuery (WriteState format state) = 1 ∷ 2 ∷ 11 ∷ 17 ∷ []
 
 abbrev pub groundsOf : Call → List ℕ
 groundsOf (Reset call) = ofReset call

@@ -20,7 +20,7 @@ use Rattle.answers.specs.declared.answer.Since.the-variants.{State, Table}
 use Rattle.answers.specs.Answers.{When, byStep, byBook, Said, priced, without, saidBySince, saidBy, whenIn, acceptedB}
 use Rattle.layout.specs.States.{stepIndex}
 use Rattle.unit.specs.Carried.{Carried, Asked}
-use Rattle.conditions.specs.Images.{mapAt}
+use Rattle.conditions.specs.Written.{mapAt}
 use Rattle.conditions.specs.Runs.{lending}
 use Rattle.conditions.specs.Serving.{Seen, CallOfServe}
 

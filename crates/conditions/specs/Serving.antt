@@ -8,14 +8,14 @@ use lib.ListN.{length}
 use Rattle.answers.specs.Answers.{Said, accepted, refused, saidBy, acceptedB}
 use Rattle.answers.specs.Counts.{largest}
 use Rattle.answers.specs.declared.call.Call.the-variants.{Reset}
-use Rattle.answers.specs.declared.call.Reset.the-variants.{Load}
+use Rattle.answers.specs.declared.call.Reset.the-variants.{Load as LoadCall}
 use Rattle.answers.specs.declared.tally.Tally.{Tally}
 use Rattle.layout.specs.declared.head.Reply.{Reply}
 use Rattle.views.specs.View.{Limits}
 use Rattle.unit.specs.Carried.{Carried, Asked, lentTo}
 use Rattle.unit.specs.Serve.{Replies}
 use Rattle.history.specs.Named.{Named, Response, responseTo}
-use Rattle.history.specs.Plain.{Verdict, accept, refuse}
+use Rattle.history.specs.Plain.{Verdict, accept, refuse, Load}
 use Rattle.conditions.specs.Runs.{lending}
 
 -- the reply to a call, and what it left of all that was lent
@@ -51,19 +51,19 @@ tells named s = responseTo named (saidBy (s .reply .answer)) (s .words) (s .byte
 abbrev pub lengthsIn : Carried → Limits
 lengthsIn k = record { table = length (k .table); journal = length (k .journal) }
 
--- an image that is loaded into memory that holds anything; words are lent to every call, and a load has no use for them
-abbrev pub loading : List ℕ → List ℕ → Asked
-loading words image = lending (Reset Load) words image
+-- an image or a sheet that is loaded into memory that holds anything; words are lent to every call, and a load has no use for them
+abbrev pub loading : List ℕ → Load → Asked
+loading words load = lending (Reset (LoadCall (load .format))) words (load .bytes)
 
 -- what the plain list says of a load
 abbrev pub saidOf : Verdict → Said
 saidOf accept = accepted 0
 saidOf (refuse n) = refused n
 
--- the store is "just loaded from" the image
-pub record Loads (k : Carried) (image : List ℕ) (s : Seen) : Type 0 where
+-- the store is "just loaded from" the image, or the sheet
+pub record Loads (k : Carried) (load : Load) (s : Seen) : Type 0 where
   pub words : List ℕ
-  pub serves : CallOfServe k (loading words image) s
+  pub serves : CallOfServe k (loading words load) s
   pub accepted : acceptedB (s .reply .answer) ≡ true
 
 -- "counts of 64 bits"

@@ -15,15 +15,15 @@ use Rattle.changes.specs.Lists.{All}
 use Rattle.answers.specs.declared.answer.Check.{Check}
 use Rattle.answers.specs.declared.answer.Check.the-variants.{Passed, Refused}
 use Rattle.answers.specs.declared.answer.Answer.the-variants.{Count}
+use Rattle.answers.specs.declared.call.Format.{Format}
 use Rattle.answers.specs.declared.ground.Ground.the-variants.{TableFull}
 use Rattle.answers.specs.Answers.{answered}
 use Rattle.answers.specs.First.{first}
 use Rattle.answers.proofs.Firsts.{first-met, first-not, none-met, passed-not, new-is}
-use Rattle.image.specs.Bytes.{Byte}
-use Rattle.image.specs.Image.{imageB, imageOf, countIn, numberIn, wordsIn}
-use Rattle.image.proofs.ImageTest.{facts-image}
-use Rattle.image.proofs.Theorems.{accepted-writes-back}
-use Rattle.image.proofs.Words.{words-in-length}
+use Rattle.big_endian.specs.Bytes.{Byte}
+use Rattle.image.specs.Image.{numberIn}
+use Rattle.formats.specs.Formats.{mapIn, bytesFor, sizeFor}
+use Rattle.formats.proofs.Laws.{accepted-writes-back, bytes-length}
 use Rattle.layout.specs.declared.head.Head.{Head}
 use Rattle.layout.specs.Clauses.{lengthsB}
 use Rattle.layout.specs.States.{mapHere}
@@ -40,61 +40,60 @@ use Rattle.snapshot.specs.Snapshots.{loadGrounds, loadCheck, loadHead, loadTabl
 use Rattle.snapshot.specs.Fresh.{freshHead}
 use Rattle.snapshot.proofs.ImagesAccepted.{LoadOk, load-ok}
 use Rattle.snapshot.proofs.OnViews.{load-leaves}
-use Rattle.exports.specs.Export.{imageHere, imageSize, imageOver, writeCheck, writeAnswer}
-use Rattle.exports.proofs.ImagesWritten.{reads-back, count-back}
+use Rattle.exports.specs.Export.{stateBytes, stateSize, stateOver, writeCheck, writeAnswer}
+use Rattle.exports.proofs.ImagesWritten.{reads-back}
 use Rattle.exports.proofs.Writing.{held-passes}
 
 -- the image of a held state loads, into any memory in range whose table holds it, as the state's map and number
-module _ (table journal : List ℕ) (head : Head) (state : ℕ) (p : Shaped head) (h : HeldState table journal head state)
+module _ (format : Format) (table journal : List ℕ) (head : Head) (state : ℕ) (p : Shaped head) (h : HeldState table journal head state)
     (small : state < 2 ^ 32) where
-  abbrev image : List ℕ
-  image = imageHere table journal head state
+  abbrev bytes : List ℕ
+  bytes = stateBytes format table journal head state
 
   pub written-loads : (table′ journal′ : ℕ) → lengthsB table′ journal′ ≡ true → length (mapHere table journal head state) ≤ table′
-      → first (loadGrounds table′ journal′ image) ≡ Passed
+      → first (loadGrounds table′ journal′ format bytes) ≡ Passed
   written-loads table′ journal′ l room =
       first-not _ _ _ (rw l)
-      ∙ first-not _ _ _ (rw (reads-back p h small .0))
-      ∙ first-not _ _ _ (le-ltb table′ (countIn image) (omega (arith, count-back p h small)))
+      ∙ first-not _ _ _ (rw (reads-back format p h small .0))
+      ∙ first-not _ _ _ (le-ltb table′ (length (mapIn format bytes)) (omega (arith, ap length (reads-back format p h small .2))))
       ∙ none-met
 
   -- and where the table is too small it is turned away by 16
   pub written-too-large : (table′ journal′ : ℕ) → lengthsB table′ journal′ ≡ true → table′ < length (mapHere table journal head state)
-      → first (loadGrounds table′ journal′ image) ≡ Refused TableFull
+      → first (loadGrounds table′ journal′ format bytes) ≡ Refused TableFull
   written-too-large table′ journal′ l short =
       first-not _ _ _ (rw l)
-      ∙ first-not _ _ _ (rw (reads-back p h small .0))
-      ∙ first-met _ _ _ (lt-ltb table′ (countIn image) (omega (arith, count-back p h small)))
+      ∙ first-not _ _ _ (rw (reads-back format p h small .0))
+      ∙ first-met _ _ _ (lt-ltb table′ (length (mapIn format bytes)) (omega (arith, ap length (reads-back format p h small .2))))
 
--- an image that was accepted is written back byte for byte
-pub loaded-writes-back : (table journal image : List ℕ) → All Byte image → loadCheck table journal image ≡ Passed
-    → imageOf (numberIn image) (wordsIn image) ≡ image
-loaded-writes-back table journal image b e = accepted-writes-back image b (accepted (load-ok (length table) (length journal) image e))
-  where
-    accepted : LoadOk (length table) (length journal) image → imageB image ≡ true
-    accepted ok = facts-image image (ok .image-ok)
+-- bytes that were accepted are written back byte for byte
+pub loaded-writes-back : (format : Format) (table journal bytes : List ℕ) → All Byte bytes → loadCheck table journal format bytes ≡ Passed
+    → bytesFor format (numberIn bytes) (mapIn format bytes) ≡ bytes
+loaded-writes-back format table journal bytes b e =
+    accepted-writes-back format bytes b (load-ok (length table) (length journal) format bytes e .is)
 
--- The same through the calls. After an accepted load the loaded state is checkpoint and tip. Writing its image into bytes that hold it is
--- accepted, gives the image's length, and leaves the image's own bytes at their start.
-module _ (table journal image out : List ℕ) (head : Head) (bytes : All Byte image) (e : loadCheck table journal image ≡ Passed)
-    (room : length image ≤ length out) where
+-- The same through the calls. After an accepted load the loaded state is checkpoint and tip. Writing it in the same format
+-- into bytes that hold it is accepted, gives the length of what was loaded, and leaves the same bytes at their start.
+module _ (format : Format) (table journal bytes out : List ℕ) (head : Head) (small : All Byte bytes)
+    (e : loadCheck table journal format bytes ≡ Passed)
+    (room : length bytes ≤ length out) where
   abbrev T : List ℕ
-  T = loadTable table journal image
+  T = loadTable table journal format bytes
 
   abbrev J : List ℕ
-  J = loadJournal table journal image
+  J = loadJournal table journal format bytes
 
   abbrev H : Head
-  H = loadHead table journal image head
+  H = loadHead table journal format bytes head
 
-  ok : LoadOk (length table) (length journal) image
-  ok = load-ok (length table) (length journal) image e
+  ok : LoadOk (length table) (length journal) format bytes
+  ok = load-ok (length table) (length journal) format bytes e
 
   abbrev made : Store
   made = record {
-    table = padded (length table) (wordsIn image);
+    table = padded (length table) (mapIn format bytes);
     journal = replicate (length journal) 0;
-    head = freshHead (countIn image) (numberIn image);
+    head = freshHead (length (mapIn format bytes)) (numberIn bytes);
   }
 
   left-is : record { table = T; journal = J; head = H } ≡ made
@@ -105,10 +104,10 @@ module _ (table journal image out : List ℕ) (head : Head) (bytes : All Byte im
         head = new-is e (made .head) head i;
       }
 
-  head-is : H ≡ freshHead (countIn image) (numberIn image)
+  head-is : H ≡ freshHead (length (mapIn format bytes)) (numberIn bytes)
   head-is = ap (λ (s : Store). s .head) left-is
 
-  used-is : H .used ≡ countIn image
+  used-is : H .used ≡ length (mapIn format bytes)
   unfolding freshHead
   used-is = ap (λ (h : Head). h .used) head-is
 
@@ -116,52 +115,53 @@ module _ (table journal image out : List ℕ) (head : Head) (bytes : All Byte im
   unfolding freshHead
   checkpoint-is = ap (λ (h : Head). h .checkpoint) head-is ∙ sym (ap (λ (h : Head). h .tip) head-is)
 
-  tip-is : H .tip ≡ numberIn image
+  tip-is : H .tip ≡ numberIn bytes
   unfolding freshHead
   tip-is = ap (λ (h : Head). h .tip) head-is
 
   shape : Shaped H
   unfolding freshHead
-  shape = subst Shaped (sym head-is) (shaped (freshHead (countIn image) (numberIn image)) refl refl refl)
-
-  fits : length (wordsIn image) ≤ length table
-  fits = omega (arith, words-in-length image, ok .room)
+  shape = subst Shaped (sym head-is) (shaped (freshHead (length (mapIn format bytes)) (numberIn bytes)) refl refl refl)
 
   lengths : lengthsB (length T) (length J) ≡ true
   lengths =
       ap₂ lengthsB
-      (ap (λ (s : Store). length (s .table)) left-is ∙ padded-length (length table) (wordsIn image) fits)
+      (ap (λ (s : Store). length (s .table)) left-is ∙ padded-length (length table) (mapIn format bytes) (ok .room))
       (ap (λ (s : Store). length (s .journal)) left-is ∙ length-replicate (length journal) 0)
       ∙ not-false _ (passed-not _ _ _ e .0)
 
   sound : soundB T J H ≡ true
   sound =
       facts-sound _ _ _
-      (subst (λ (s : Store). Sound (s .table) (s .journal) (s .head)) (sym left-is) (encodes-sound (load-leaves table journal image e)))
+      (subst (λ (s : Store). Sound (s .table) (s .journal) (s .head)) (sym left-is)
+      (encodes-sound (load-leaves table journal format bytes e)))
 
   held : HeldState T J H (H .tip)
   held = record { lengths = lengths; sound = sound; low = omega (arith, checkpoint-is); high = omega arith }
 
-  map-back : mapHere T J H (H .tip) ≡ wordsIn image
+  map-back : mapHere T J H (H .tip) ≡ mapIn format bytes
   map-back =
       map-here (state-facts held) shape (no-words H (H .tip) (sym checkpoint-is))
       ∙ ap₂ take used-is (ap (λ (s : Store). s .table) left-is)
-      ∙ take-at (wordsIn image) (replicate (length table - length (wordsIn image)) 0) (countIn image) (words-in-length image)
+      ∙ take-at (mapIn format bytes) (replicate (length table - length (mapIn format bytes)) 0) (length (mapIn format bytes)) refl
 
-  image-is : imageHere T J H (H .tip) ≡ image
-  unfolding imageHere
-  image-is = ap₂ imageOf tip-is map-back ∙ loaded-writes-back table journal image bytes e
+  bytes-are : stateBytes format T J H (H .tip) ≡ bytes
+  unfolding stateBytes
+  bytes-are = ap₂ (bytesFor format) tip-is map-back ∙ loaded-writes-back format table journal bytes small e
 
-  size-is : imageSize T J H (H .tip) ≡ length image
-  unfolding imageSize
-  size-is = omega (arith, ap length map-back, words-in-length image, ok .image-ok .size)
+  size-is : stateSize format T J H (H .tip) ≡ length bytes
+  unfolding stateSize
+  size-is =
+      ap (sizeFor format) map-back
+      ∙ sym (bytes-length format (numberIn bytes) (mapIn format bytes))
+      ∙ ap length (loaded-writes-back format table journal bytes small e)
 
-  pub load-then-write : writeCheck T J H (H .tip) (length out) ≡ Passed
-  load-then-write = held-passes T J H (H .tip) out held (length out) (omega (arith, size-is))
+  pub load-then-write : writeCheck format T J H (H .tip) (length out) ≡ Passed
+  load-then-write = held-passes format T J H (H .tip) out held (length out) (omega (arith, size-is))
 
-  pub load-then-write-count : writeAnswer T J H (H .tip) (length out) ≡ Count (length image)
+  pub load-then-write-count : writeAnswer format T J H (H .tip) (length out) ≡ Count (length bytes)
   load-then-write-count =
-      ap (λ (o : Check). answered o (Count (imageSize T J H (H .tip)))) load-then-write ∙ ap Count size-is
+      ap (λ (o : Check). answered o (Count (stateSize format T J H (H .tip)))) load-then-write ∙ ap Count size-is
 
-  pub load-then-write-bytes : imageOver T J H (H .tip) out ≡ image ++ drop (length image) out
-  load-then-write-bytes = ap₂ (λ (i : List ℕ) (n : ℕ). i ++ drop n out) image-is size-is
+  pub load-then-write-bytes : stateOver format T J H (H .tip) out ≡ bytes ++ drop (length bytes) out
+  load-then-write-bytes = ap₂ (λ (i : List ℕ) (n : ℕ). i ++ drop n out) bytes-are size-is

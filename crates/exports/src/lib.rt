@@ -1,2 +1,2 @@
-// Writing the image of a state: any from the checkpoint to the tip.
+// Writing a state, as an image or a sheet: any from the checkpoint to the tip.
 pub mod write;

@@ -12,14 +12,14 @@ use Rattle.changes.specs.Calculus.{find}
 use Rattle.views.specs.View.{Limits}
 use Rattle.answers.specs.Answers.{When}
 use Rattle.answers.specs.declared.call.LookUp.{LookUp as Asked}
-use Rattle.answers.specs.declared.call.Query.the-variants.{LookUp, WriteImage, WriteStateImage}
+use Rattle.answers.specs.declared.call.Query.the-variants.{LookUp, Write, WriteState}
 use Rattle.answers.specs.declared.call.Read.the-variants.{Issue, Forward, Release}
 use Rattle.answers.specs.declared.call.Step.the-variants.{Commit, RollBack, Flush}
 use Rattle.history.specs.Named.{Named, step, read, ask, Call, calling, priced, unpriced, brought, Response}
 use Rattle.history.specs.Named.{done, forwarded, acceptedCalls, quotes}
 use Rattle.history.specs.Plain.{Verdict, accept, refuse, responseBy, leftBy, Line, Place, closed, reading, Plain, mapAt}
 use Rattle.history.specs.Plain.{shown, quoted, sinceAt, offersIn, grown, cutAbove, withPlace, checked, stepped, answerTo, givenBy}
-use Rattle.history.specs.Plain.{given, changedBy, changed, loadedPlain}
+use Rattle.history.specs.Plain.{given, changedBy, changed, Load, loadedPlain}
 use Rattle.history.specs.Traces.{plainResponses}
 
 -- what quotes are read from: the whole maps, and the offers of each place (none at a closed one)
@@ -109,8 +109,8 @@ module _ (calls : List Call) (rest : (q : Plain) → Told q calls (plainResponse
   accepted p (read (Release reader)) list bytes = after-set p (reader .slot) closed
   accepted p (ask (LookUp asked)) list bytes =
       looked p asked list bytes (sinceAt p (asked .offer) (asked .state)) (find (asked .offer) (mapAt (p .line) (asked .state))) refl
-  accepted p (ask WriteImage) list bytes = rest p
-  accepted p (ask (WriteStateImage state)) list bytes = rest p
+  accepted p (ask (Write format)) list bytes = rest p
+  accepted p (ask (WriteState format state)) list bytes = rest p
 
   -- a call by its verdict: a refused one changes nothing and has no name
   transition : (p : Plain) (c : Call) (v : Verdict)
@@ -126,11 +126,11 @@ told-by-names p [] = refl
 told-by-names p (c ∷ calls) = transition calls (λ q. told-by-names q calls) p c (checked p c)
 
 -- The traces start from the same sketch, whatever the lengths, so they quote the same where the names are.
-pub plain-alike : (limits₁ limits₂ : Limits) (image : List ℕ) (calls₁ calls₂ : List Call)
-    → acceptedCalls calls₁ (plainResponses (loadedPlain limits₁ image) calls₁)
-    ≡ acceptedCalls calls₂ (plainResponses (loadedPlain limits₂ image) calls₂)
-    → quotes (plainResponses (loadedPlain limits₁ image) calls₁) ≡ quotes (plainResponses (loadedPlain limits₂ image) calls₂)
-plain-alike limits₁ limits₂ image calls₁ calls₂ same =
-    told-by-names (loadedPlain limits₁ image) calls₁
-    ∙ ap (λ (names : List Call). quotes (again (sketchOf (loadedPlain limits₁ image)) names)) same
-    ∙ sym (told-by-names (loadedPlain limits₂ image) calls₂)
+pub plain-alike : (limits₁ limits₂ : Limits) (load : Load) (calls₁ calls₂ : List Call)
+    → acceptedCalls calls₁ (plainResponses (loadedPlain limits₁ load) calls₁)
+    ≡ acceptedCalls calls₂ (plainResponses (loadedPlain limits₂ load) calls₂)
+    → quotes (plainResponses (loadedPlain limits₁ load) calls₁) ≡ quotes (plainResponses (loadedPlain limits₂ load) calls₂)
+plain-alike limits₁ limits₂ load calls₁ calls₂ same =
+    told-by-names (loadedPlain limits₁ load) calls₁
+    ∙ ap (λ (names : List Call). quotes (again (sketchOf (loadedPlain limits₁ load)) names)) same
+    ∙ sym (told-by-names (loadedPlain limits₂ load) calls₂)

@@ -6,7 +6,7 @@ use Prim.Native.Nat.{ℕ, _≤_}
 use native.Mathlib.Omega.{arith}
 use lib.ListN.{getD}
 use Rattle.entry.specs.Word.{offerOf}
-use Rattle.answers.specs.declared.call.Query.the-variants.{LookUp, WriteImage, WriteStateImage}
+use Rattle.answers.specs.declared.call.Query.the-variants.{LookUp, Write, WriteState}
 use Rattle.answers.specs.declared.call.Read.the-variants.{Issue, Forward, Release}
 use Rattle.answers.specs.declared.call.Step.the-variants.{Commit, RollBack, Flush}
 use Rattle.history.specs.Named.{Named, step, read, ask, Call, calling, refused}
@@ -15,7 +15,7 @@ use Rattle.history.specs.Plain.{grown, cutAbove, tests, checked, givenBy
 use Rattle.history.specs.Traces.{ReadSet, nothing, holds, holdsOr, wordsLent, readSetsAfter}
 use Rattle.history.specs.Traces.{storeTransition}
 use Rattle.history.proofs.FlushCall.{flush-agrees, flush-fit, flush-range}
-use Rattle.history.proofs.ImageCall.{write-agrees, write-state-agrees}
+use Rattle.history.proofs.WriteCall.{write-agrees, write-state-agrees}
 use Rattle.history.proofs.Lines.{grown-map, grown-between, cut-map, cut-between}
 use Rattle.history.proofs.ReadCalls.{ShowsAt, look-up-agrees, issue-agrees, issue-fit, issue-set, forward-agrees}
 use Rattle.history.proofs.ReadCalls.{forward-fit, release-agrees, release-fit}
@@ -45,8 +45,8 @@ module _ (p : Plain) (f : Fit p) (sets : List ReadSet) (t : Outstanding p sets) 
       forward-agrees p f reader state (holdsOr (getD sets (reader .slot) nothing) words) (lent-shows (reader .slot) words) list bytes
   agrees (read (Release reader)) list bytes words = release-agrees p f reader list bytes
   agrees (ask (LookUp asked)) list bytes words = look-up-agrees p f asked list bytes
-  agrees (ask WriteImage) list bytes words = write-agrees p f bytes list
-  agrees (ask (WriteStateImage state)) list bytes words = write-state-agrees p f state bytes list
+  agrees (ask (Write format)) list bytes words = write-agrees p f format bytes list
+  agrees (ask (WriteState format state)) list bytes words = write-state-agrees p f format state bytes list
 
   -- a store can follow what it leaves,
   fits : (named : Named) (list bytes : List ℕ) → firstOf (tests p named list bytes) ≡ accept → Fit (changedBy p named list)

@@ -1,6 +1,5 @@
 pub mod Alike
 pub mod FlushCall
-pub mod ImageCall
 pub mod Lines
 pub mod NamedStates
 pub mod Loads
@@ -10,3 +9,4 @@ pub mod Stored
 pub mod Following
 pub mod Outstanding
 pub mod Views
+pub mod WriteCall

@@ -5,16 +5,15 @@ use mathlib.Core.Bool.{true, not}
 use mathlib.Core.List.{List, [], _∷_}
 use Prim.Native.Nat.{ℕ, zero, suc, _+_, _-_}
 use native.Mathlib.Omega.{arith}
-use lib.Dec.{ltb}
 use lib.ListN.{length, getD, take, drop, replicate}
 use lib.Seq.{take-nil, drop-nil}
 use Rattle.changes.specs.Lists.{All}
 use Rattle.answers.specs.declared.answer.Check.{Check}
 use Rattle.answers.specs.declared.answer.Check.the-variants.{Passed}
-use Rattle.answers.specs.declared.call.Reset.the-variants.{Load}
+use Rattle.answers.specs.declared.call.Reset.the-variants.{Load as LoadCall}
 use Rattle.answers.proofs.Firsts.{first-not}
-use Rattle.image.specs.Image.{imageB, numberIn, wordsIn}
-use Rattle.image.proofs.Words.{words-in-length}
+use Rattle.image.specs.Image.{numberIn}
+use Rattle.formats.specs.Formats.{mapIn}
 use Rattle.layout.specs.Clauses.{lengthsB}
 use Rattle.views.specs.View.{Store, viewTable, encode, Good}
 use Rattle.snapshot.specs.Snapshots.{loadCheck}
@@ -22,7 +21,7 @@ use Rattle.snapshot.specs.Fresh.{freshHead}
 use Rattle.snapshot.specs.FreshView.{freshView}
 use Rattle.snapshot.proofs.ImagesAccepted.{load-ok}
 use Rattle.snapshot.proofs.OnViews.{load-leaves}
-use Rattle.history.specs.Plain.{met, closed, firstOf, leastOf, Line, listsBetween, loadChecked, loadedPlain}
+use Rattle.history.specs.Plain.{closed, leastOf, Line, listsBetween, Load, loadChecked, loadedPlain}
 use Rattle.history.specs.Traces.{nothing, lentWith, storeIn, lengthsOf}
 use Rattle.calls.specs.Lent.{Left, settledBy}
 use Rattle.calls.specs.Meaning.{resetOf}
@@ -38,53 +37,56 @@ between-none l a b e =
     ∙ take-nil (b - a)
 
 -- what a load leaves, by its check
-abbrev pub loadedBy : Check → Store → List ℕ → Left
-loadedBy c s image =
-    let l = lentWith s [] image in
-    settledBy c (resetOf l Load .accepted) l
+abbrev pub loadedBy : Check → Store → Load → Left
+loadedBy c s load =
+    let l = lentWith s [] (load .bytes) in
+    settledBy c (resetOf l (LoadCall (load .format)) .accepted) l
 
-module _ (lent : Store) (image : List ℕ) (range : lengthsB (length (lent .table)) (length (lent .journal)) ≡ true) where
+module _ (lent : Store) (load : Load) (range : lengthsB (length (lent .table)) (length (lent .journal)) ≡ true) where
   -- ground 1 does not arise, and 15 and 16 are the plain list's
-  pub load-checks : verdictOf (loadCheck (lent .table) (lent .journal) image) ≡ loadChecked (lengthsOf lent) image
-  load-checks =
-      ap verdictOf (first-not _ _ _ (ap not range))
-      ∙ verdict-of _
-      ∙ ap (λ (n : ℕ). firstOf (met (not (imageB image)) 15 ∷ met (ltb (length (lent .table)) n) 16 ∷ [])) (sym (words-in-length image))
+  pub load-checks : verdictOf (loadCheck (lent .table) (lent .journal) (load .format) (load .bytes)) ≡ loadChecked (lengthsOf lent) load
+  load-checks = ap verdictOf (first-not _ _ _ (ap not range)) ∙ verdict-of _
+
+  abbrev words : List ℕ
+  words = mapIn (load .format) (load .bytes)
+
+  abbrev number : ℕ
+  number = numberIn (load .bytes)
 
   -- the view of one state
-  first-map : getD (wordsIn image ∷ []) (numberIn image - numberIn image) [] ≡ wordsIn image
+  first-map : getD (words ∷ []) (number - number) [] ≡ words
   first-map =
-      let none : numberIn image - numberIn image ≡ 0 = omega arith in
-      ap (λ (k : ℕ). getD (wordsIn image ∷ []) k []) none
+      let none : number - number ≡ 0 = omega arith in
+      ap (λ (k : ℕ). getD (words ∷ []) k []) none
 
-  fresh-view : freshView (wordsIn image) (numberIn image) (lengthsOf lent) ≡ viewOf (loadedPlain (lengthsOf lent) image)
+  fresh-view : freshView words number (lengthsOf lent) ≡ viewOf (loadedPlain (lengthsOf lent) load)
   unfolding freshView viewOf leastOf
   fresh-view i =
-      let l = loadedPlain (lengthsOf lent) image .line in
-      viewTable (freshView (wordsIn image) (numberIn image) (lengthsOf lent))
+      let l = loadedPlain (lengthsOf lent) load .line in
+      viewTable (freshView words number (lengthsOf lent))
       (sym first-map i)
-      (sym (between-none l (numberIn image) (numberIn image) refl) i)
-      (sym (between-none l (numberIn image) (numberIn image + 0) refl) i)
-      (numberIn image)
+      (sym (between-none l number number refl) i)
+      (sym (between-none l number (number + 0) refl) i)
+      number
 
-  module _ (e : loadCheck (lent .table) (lent .journal) image ≡ Passed) where
-    pub load-after : storeIn (loadedBy Passed lent image .lent) ≡ storeOf (loadedPlain (lengthsOf lent) image)
-    load-after = load-leaves (lent .table) (lent .journal) image e .is ∙ ap (encode (freshHead 0 0)) fresh-view
+  module _ (e : loadCheck (lent .table) (lent .journal) (load .format) (load .bytes) ≡ Passed) where
+    pub load-after : storeIn (loadedBy Passed lent load .lent) ≡ storeOf (loadedPlain (lengthsOf lent) load)
+    load-after = load-leaves (lent .table) (lent .journal) (load .format) (load .bytes) e .is ∙ ap (encode (freshHead 0 0)) fresh-view
 
-    pub load-fit : Fit (loadedPlain (lengthsOf lent) image)
+    pub load-fit : Fit (loadedPlain (lengthsOf lent) load)
     unfolding leastOf All
     load-fit =
         record {
           range = range;
           whole = record {
             count = refl;
-            first = load-ok (length (lent .table)) (length (lent .journal)) image e .image-ok .map;
+            first = load-ok (length (lent .table)) (length (lent .journal)) (load .format) (load .bytes) e .map;
             lists = tt;
             next = λ k h. absurd (omega arith);
           };
           low = omega arith;
           high = omega arith;
-          good = subst Good fresh-view (load-leaves (lent .table) (lent .journal) image e .good);
+          good = subst Good fresh-view (load-leaves (lent .table) (lent .journal) (load .format) (load .bytes) e .good);
         }
 
 -- no read set is out
@@ -93,10 +95,10 @@ closed-at zero slot = refl
 closed-at (suc n) zero = refl
 closed-at (suc n) (suc slot) = closed-at n slot
 
-pub no-sets : (lent : Store) (image : List ℕ) → Outstanding (loadedPlain (lengthsOf lent) image) (replicate 8 nothing)
-no-sets lent image =
-    let l = loadedPlain (lengthsOf lent) image .line in
-    let c = numberIn image in
+pub no-sets : (lent : Store) (load : Load) → Outstanding (loadedPlain (lengthsOf lent) load) (replicate 8 nothing)
+no-sets lent load =
+    let l = loadedPlain (lengthsOf lent) load .line in
+    let c = numberIn (load .bytes) in
     record {
       eight = refl;
       each = λ slot.

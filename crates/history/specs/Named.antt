@@ -8,8 +8,10 @@ use Rattle.answers.specs.declared.call.Call.{Call as UnitCall}
 use Rattle.answers.specs.declared.call.Caller.{Caller}
 use Rattle.answers.specs.declared.call.Caller.the-variants.{Desk}
 use Rattle.answers.specs.declared.call.Call.the-variants.{Step, Read, Ask}
+use Rattle.answers.specs.declared.call.Format.{Format}
+use Rattle.answers.specs.declared.call.Format.the-variants.{Image, Sheet}
 use Rattle.answers.specs.declared.call.Query.{Query}
-use Rattle.answers.specs.declared.call.Query.the-variants.{LookUp, WriteImage, WriteStateImage}
+use Rattle.answers.specs.declared.call.Query.the-variants.{LookUp, Write, WriteState}
 use Rattle.answers.specs.declared.call.Read.{Read as ReadCall}
 use Rattle.answers.specs.declared.call.Read.the-variants.{Issue, Forward, Release}
 use Rattle.answers.specs.declared.call.Step.{Step as StepCall}
@@ -66,11 +68,17 @@ release caller slot = calling (read (Release (readerOf caller slot))) [] []
 
 -- the bytes lent, with no state named
 abbrev pub writeImage : List ℕ → Call
-writeImage out = calling (ask WriteImage) [] out
+writeImage out = calling (ask (Write Image)) [] out
+
+abbrev pub writeSheet : List ℕ → Call
+writeSheet out = calling (ask (Write Sheet)) [] out
 
 -- a state, and the bytes lent
 abbrev pub writeStateImage : ℕ → List ℕ → Call
-writeStateImage state out = calling (ask (WriteStateImage state)) [] out
+writeStateImage state out = calling (ask (WriteState Image state)) [] out
+
+abbrev pub writeStateSheet : ℕ → List ℕ → Call
+writeStateSheet state out = calling (ask (WriteState Sheet state)) [] out
 
 -- what two stores that accept the same calls must answer alike
 pub data Quote : Type 0 where
@@ -83,7 +91,7 @@ pub data Quote : Type 0 where
 -- what a query answers besides
 pub data Report : Type 0 where
   -- the count of the bytes written, and the bytes lent as they are then
-  image : ℕ → List ℕ → Report
+  output : ℕ → List ℕ → Report
 
 -- what a call answers, with what it leaves in the caller's words or bytes
 pub data Response : Type 0 where
@@ -110,7 +118,7 @@ abbrev pub forwarded : List ℕ → Response
 forwarded words = quote (brought words)
 
 abbrev pub written : ℕ → List ℕ → Response
-written count bytes = report (image count bytes)
+written count bytes = report (output count bytes)
 
 -- an accepted call with its value, with since when if it is a lookup, and the words and bytes that it leaves
 abbrev pub acceptedAs : Named → ℕ → When → List ℕ → List ℕ → Response
@@ -119,8 +127,8 @@ acceptedAs (read (Issue reader)) value since words bytes = filled words
 acceptedAs (read (Forward reader state)) value since words bytes = forwarded words
 acceptedAs (read (Release reader)) value since words bytes = done
 acceptedAs (ask (LookUp asked)) value since words bytes = price value since
-acceptedAs (ask WriteImage) value since words bytes = written value bytes
-acceptedAs (ask (WriteStateImage state)) value since words bytes = written value bytes
+acceptedAs (ask (Write format)) value since words bytes = written value bytes
+acceptedAs (ask (WriteState format state)) value since words bytes = written value bytes
 
 -- a lookup says since when (`pricedBy`, `without`), and no other call does
 abbrev pub responseTo : Named → Said → List ℕ → List ℕ → Response
@@ -160,8 +168,8 @@ readByAny (Release reader) = Release (readerOf Desk (reader .slot))
 
 abbrev pub askedByAny : Query → Query
 askedByAny (LookUp asked) = LookUp (record { caller = Desk; offer = asked .offer; state = asked .state })
-askedByAny WriteImage = WriteImage
-askedByAny (WriteStateImage state) = WriteStateImage state
+askedByAny (Write format) = Write format
+askedByAny (WriteState format state) = WriteState format state
 
 abbrev pub byAny : Named → Named
 byAny (step call) = step call
@@ -169,8 +177,8 @@ byAny (read call) = read (readByAny call)
 byAny (ask query) = ask (askedByAny query)
 
 -- "Two calls are the same when kind, offer, state, place and list agree; a forward's read set and an image's bytes aren't compared".
--- The caller is not among what must agree, so it is not compared either; a state that is named is, and so is that none is; and flushes
--- are left apart. What of a call is compared:
+-- The caller is not among what must agree, so it is not compared either; a state that is named is, and so is that none is, and whether an
+-- image or a sheet is written; and flushes are left apart. What of a call is compared:
 abbrev pub nameOf : Call → Call
 nameOf call = calling (byAny (call .named)) (listIn (call .named) (call .list)) []
 

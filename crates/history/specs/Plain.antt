@@ -1,7 +1,7 @@
--- The plain list of whole maps (document 01, "The plain list"): what the calls mean, with no memory and no head.
--- It shares with the unit the entry word, the rules of a list, search and application, the form of an image, and how since when is said;
--- what holds of these is in changes/proofs/Laws.antt and image/proofs/Theorems.antt. It shares what a caller has, which stands in one place
--- (slots/specs/Callers.antt). The numbers of the grounds are its own.
+-- The plain list of whole maps (document 01, "The plain list"): what the calls mean, with no memory and no head. It shares with the unit
+-- the entry word, the rules of a list, search and application, the forms of image and sheet, and how since when is said; what holds of
+-- these is in changes/proofs/Laws.antt, image/proofs/Theorems.antt and sheet/proofs/Theorems.antt. It shares what a caller has, which
+-- stands in one place (slots/specs/Callers.antt). The numbers of the grounds are its own.
 -- Assumes nothing.
 use mathlib.Core.Bool.{Bool, true, false, not}
 use mathlib.Core.List.{List, [], _∷_, _++_, map}
@@ -14,12 +14,14 @@ use Rattle.changes.specs.declared.search.Found.the-variants.{Word, Nothing}
 use Rattle.changes.specs.Calculus.{find, apply}
 use Rattle.changes.specs.Lists.{listB, noPutB}
 use Rattle.changes.specs.ReadSets.{foundOr}
-use Rattle.image.specs.Image.{imageB, numberIn, wordsIn, imageOf}
+use Rattle.image.specs.Image.{numberIn}
+use Rattle.formats.specs.Formats.{formatB, mapIn, bytesFor}
 use Rattle.views.specs.View.{Limits, flat}
 use Rattle.slots.specs.Callers.{hasB, mostWords}
 use Rattle.answers.specs.Answers.{When, byStep, byBook}
+use Rattle.answers.specs.declared.call.Format.{Format}
 use Rattle.answers.specs.declared.call.Query.{Query}
-use Rattle.answers.specs.declared.call.Query.the-variants.{LookUp, WriteImage, WriteStateImage}
+use Rattle.answers.specs.declared.call.Query.the-variants.{LookUp, Write, WriteState}
 use Rattle.answers.specs.declared.call.Read.{Read as ReadCall}
 use Rattle.answers.specs.declared.call.Read.the-variants.{Issue, Forward, Release}
 use Rattle.answers.specs.declared.call.Reader.{Reader}
@@ -143,9 +145,9 @@ openAt p slot = openB (getD (p .places) slot closed)
 abbrev pub offersAt : Plain → ℕ → List ℕ
 offersAt p slot = offersIn (getD (p .places) slot closed)
 
--- the image of a state's number and map
-abbrev pub imageAt : Plain → ℕ → List ℕ
-imageAt p state = imageOf state (mapAt (p .line) state)
+-- the image, or the sheet, of a state's number and map
+abbrev pub bytesAt : Plain → Format → ℕ → List ℕ
+bytesAt p format state = bytesFor format state (mapAt (p .line) state)
 
 -- ground 17: "Output is shorter than what is to be written."
 abbrev pub roomTests : List ℕ → List ℕ → List Test
@@ -193,11 +195,10 @@ module _ (p : Plain) where
   readTests (Release reader) list = slotTests reader ++ (met (not (openAt p (reader .slot))) 5 ∷ [])
 
   -- "bytes past it are unchanged"
-  abbrev pub writing : List Test → ℕ → List ℕ → Asking
-  writing tests state bytes = record {
-    tests = tests ++ roomTests (imageAt p state) bytes;
-    gives = written (length (imageAt p state)) (imageAt p state ++ drop (length (imageAt p state)) bytes);
-  }
+  abbrev pub writing : Format → List Test → ℕ → List ℕ → Asking
+  writing format tests state bytes =
+      let new = bytesAt p format state in
+      record { tests = tests ++ roomTests new bytes; gives = written (length new) (new ++ drop (length new) bytes) }
 
   -- a query changes nothing: its grounds, and what it gives where it is accepted
   abbrev pub asking : Query → List ℕ → Asking
@@ -207,9 +208,9 @@ module _ (p : Plain) where
     gives = quoted (find (asked .offer) (mapAt (p .line) (asked .state))) (sinceAt p (asked .offer) (asked .state));
   }
   -- "With no state named, the tip is now written instead of the anchor."
-  asking WriteImage bytes = writing [] (tipOf (p .line)) bytes
-  -- "Writing an image may now name any state from anchor to tip."
-  asking (WriteStateImage state) bytes = writing (stateTests p state) state bytes
+  asking (Write format) bytes = writing format [] (tipOf (p .line)) bytes
+  -- "Writing an image may now name any state from anchor to tip.", and sheets are written "for the same states as images"
+  asking (WriteState format state) bytes = writing format (stateTests p state) state bytes
 
   abbrev pub queryTests : Query → List ℕ → List Test
   queryTests query bytes = asking query bytes .tests
@@ -294,18 +295,27 @@ changed p call = changedBy p (call .named) (call .list)
 abbrev pub plainTransition : Plain → Call → Transition Plain
 plainTransition p call = record { response = responseBy (checked p call) (given p call); next = leftBy (checked p call) (changed p call) p }
 
--- The load: grounds 15 and 16. "The load gives the image's map under its number, that number as anchor, all places closed."
-abbrev pub loadChecked : Limits → List ℕ → Verdict
-loadChecked limits image =
+-- the load that begins a run: an image's bytes or a sheet's
+pub record Load : Type 0 where
+  pub format : Format
+  pub bytes : List ℕ
+
+abbrev pub loadOf : Format → List ℕ → Load
+loadOf format bytes = record { format = format; bytes = bytes }
+
+-- The load: grounds 15 and 16. "The load gives the image's map under its number, that number as anchor, all places closed."; "sheet and
+-- image of a state load alike".
+abbrev pub loadChecked : Limits → Load → Verdict
+loadChecked limits load =
     firstOf
-    (met (not (imageB image)) 15
-    ∷ met (ltb (limits .table) (length (wordsIn image))) 16
+    (met (not (formatB (load .format) (load .bytes))) 15
+    ∷ met (ltb (limits .table) (length (mapIn (load .format) (load .bytes)))) 16
     ∷ [])
 
-abbrev pub loadedPlain : Limits → List ℕ → Plain
-loadedPlain limits image = record {
-  line = record { start = numberIn image; maps = wordsIn image ∷ []; lists = [] };
-  checkpoint = numberIn image;
+abbrev pub loadedPlain : Limits → Load → Plain
+loadedPlain limits load = record {
+  line = record { start = numberIn (load .bytes); maps = mapIn (load .format) (load .bytes) ∷ []; lists = [] };
+  checkpoint = numberIn (load .bytes);
   places = replicate 8 closed;
   limits = limits;
 }

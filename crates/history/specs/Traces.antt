@@ -7,7 +7,7 @@ use Prim.Native.Nat.{ℕ}
 use lib.ListN.{length, getD, set, replicate}
 use Rattle.answers.specs.declared.call.Call.the-variants.{Reset}
 use Rattle.answers.specs.declared.call.Read.the-variants.{Issue, Forward, Release}
-use Rattle.answers.specs.declared.call.Reset.the-variants.{Load}
+use Rattle.answers.specs.declared.call.Reset.the-variants.{Load as LoadCall}
 use Rattle.answers.specs.Answers.{Said, accepted, refused as refusedBy, priced, without, saidBy}
 use Rattle.views.specs.View.{Store, Limits}
 use Rattle.calls.specs.Lent.{Lent, lent, Left}
@@ -15,7 +15,7 @@ use Rattle.calls.specs.Meaning.{performed}
 use Rattle.history.specs.Named.{Named, step, read, ask, unitCall, Call, Response, refused, done, price}
 use Rattle.history.specs.Named.{noPrice, filled, quote, dated, report}
 use Rattle.history.specs.Named.{responseTo, Transition, acceptedB}
-use Rattle.history.specs.Plain.{Plain, plainTransition}
+use Rattle.history.specs.Plain.{Plain, plainTransition, Load}
 
 -- a call, with words that are lent to it as read set if it is a forward on a slot that is not open
 pub record Asked : Type 0 where
@@ -101,12 +101,12 @@ afterLoad (priced p since) responses = record { load = price p since; responses 
 afterLoad (without since) responses = record { load = noPrice since; responses = [] }
 
 -- a load into lent memory that holds anything, and then the calls
-abbrev pub loaded : Store → List ℕ → Left
-loaded s image = performed (lentWith s [] image) (Reset Load)
+abbrev pub loaded : Store → Load → Left
+loaded s load = performed (lentWith s [] (load .bytes)) (Reset (LoadCall (load .format)))
 
-abbrev pub storeTrace : Store → List ℕ → List Asked → Answers
-storeTrace s image asked =
-    let left = loaded s image in
+abbrev pub storeTrace : Store → Load → List Asked → Answers
+storeTrace s load asked =
+    let left = loaded s load in
     afterLoad (saidBy (left .answer)) (storeResponses (storeIn (left .lent)) (replicate 8 nothing) asked)
 
 abbrev pub lengthsOf : Store → Limits

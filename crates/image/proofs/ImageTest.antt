@@ -13,7 +13,7 @@ use Rattle.entry.specs.Word.{kindOf, offerOf, keyOf}
 use Rattle.changes.specs.Lists.{mapB, Map}
 use Rattle.changes.proofs.ListTest.{and-both}
 use Rattle.changes.proofs.MapTest.{map-none, map-not-put, map-below, map-next, map-facts, facts-map}
-use Rattle.image.specs.Bytes.{valueOf}
+use Rattle.big_endian.specs.Bytes.{valueOf}
 use Rattle.image.specs.Image.{wordsOf, countIn, wordsIn, imageB}
 use Rattle.image.proofs.Words.{words-next, words-end, words-all}
 

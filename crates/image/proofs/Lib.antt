@@ -1,5 +1,3 @@
-pub mod Bytes
-pub mod Fields
 pub mod ImageTest
 pub mod RoundTrip
 pub mod Storing

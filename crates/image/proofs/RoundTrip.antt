@@ -9,9 +9,9 @@ use lib.Seq.{take-at, drop-at, take-add, length-take-le}
 use Rattle.entry.specs.Word.{Put}
 use Rattle.changes.specs.Lists.{All}
 use Rattle.changes.proofs.Each.{all-take, all-drop}
-use Rattle.image.specs.Bytes.{bytesOf, valueOf, Byte}
+use Rattle.big_endian.specs.Bytes.{bytesOf, valueOf, Byte}
 use Rattle.image.specs.Image.{wordBytes, imageOf, wordsOf, numberIn, countIn, wordsIn}
-use Rattle.image.proofs.Bytes.{length-bytes, value-of-bytes, bytes-of-value}
+use Rattle.big_endian.proofs.Bytes.{length-bytes, value-of-bytes, bytes-of-value}
 use Rattle.image.proofs.Words.{word-bytes-length, image-parts, words-in-length}
 
 -- words, to bytes and back

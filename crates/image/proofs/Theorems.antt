@@ -7,7 +7,7 @@ use Prim.Native.Nat.{ℕ, _^_, _<_}
 use native.Mathlib.Omega.{arith}
 use lib.ListN.{length}
 use Rattle.changes.specs.Lists.{All, Map}
-use Rattle.image.specs.Bytes.{Byte}
+use Rattle.big_endian.specs.Bytes.{Byte}
 use Rattle.image.specs.Image.{imageOf, numberIn, wordsIn, imageB}
 use Rattle.image.proofs.ImageTest.{Image, image-facts, facts-image}
 use Rattle.image.proofs.RoundTrip.{image-length, image-number, image-count, image-words, image-back}

@@ -7,9 +7,9 @@ use native.Mathlib.Omega.{arith}
 use lib.ListN.{length, take, drop, getD, length-append, drop-of-length-le}
 use lib.Seq.{drop-drop}
 use Rattle.words.proofs.Parts.{next}
-use Rattle.image.specs.Bytes.{bytesOf, valueOf}
+use Rattle.big_endian.specs.Bytes.{bytesOf, valueOf}
 use Rattle.image.specs.Image.{wordBytes, imageOf, wordsOf, countIn, wordsIn}
-use Rattle.image.proofs.Bytes.{length-bytes}
+use Rattle.big_endian.proofs.Bytes.{length-bytes}
 
 -- the bytes of words
 pub word-bytes-none : wordBytes [] ≡ []

@@ -7,7 +7,7 @@ use Prim.Native.Nat.{ℕ, zero, suc, _+_, _*_}
 use lib.Dec.{eqb, leb}
 use lib.ListN.{length, take, drop}
 use Rattle.changes.specs.Lists.{mapB}
-use Rattle.image.specs.Bytes.{bytesOf, valueOf}
+use Rattle.big_endian.specs.Bytes.{bytesOf, valueOf}
 
 -- the bytes of words, one word behind another
 unfoldable pub wordBytes : List ℕ → List ℕ

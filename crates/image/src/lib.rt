@@ -1,6 +1,5 @@
 // The image of a map and its state number (document 01, "Image and listing"): a state number of 32 bits, a
 // count of 16 bits and the map's words, all most significant byte first, in bytes that the caller lends.
-mod numbers;
 pub mod reading;
 pub mod writing;
 

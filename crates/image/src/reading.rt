@@ -1,9 +1,9 @@
 // An image tested and read.
 use crate::HEADER_BYTES;
 use crate::WORD_BYTES;
-use crate::numbers::u16_at;
-use crate::numbers::u32_at;
-use crate::numbers::u64_at;
+use big_endian::numbers::u16_at;
+use big_endian::numbers::u32_at;
+use big_endian::numbers::u64_at;
 use entry::Entry;
 ghost use mathlib.Core.Path.{_≡_};
 ghost use mathlib.Core.List.{_++_};

@@ -1,9 +1,9 @@
 // An image written.
 use crate::HEADER_BYTES;
 use crate::WORD_BYTES;
-use crate::numbers::put_u16;
-use crate::numbers::put_u32;
-use crate::numbers::put_u64;
+use big_endian::numbers::put_u16;
+use big_endian::numbers::put_u32;
+use big_endian::numbers::put_u64;
 ghost use mathlib.Core.Path.{_≡_};
 ghost use mathlib.Core.List.{_++_};
 ghost use Prim.Native.Nat.{_+_, _*_, _^_, _<_, _≤_};

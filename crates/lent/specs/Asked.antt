@@ -3,8 +3,10 @@
 use Prim.Native.Nat.{ℕ}
 use Rattle.answers.specs.declared.call.Call.{Call}
 use Rattle.answers.specs.declared.call.Call.the-variants.{Reset, Step, Read}
+use Rattle.answers.specs.declared.call.Format.{Format}
+use Rattle.answers.specs.declared.call.Format.the-variants.{Image, Sheet}
 use Rattle.answers.specs.declared.call.Query.{Query}
-use Rattle.answers.specs.declared.call.Query.the-variants.{LookUp, WriteImage, WriteStateImage}
+use Rattle.answers.specs.declared.call.Query.the-variants.{LookUp, Write, WriteState}
 use Rattle.answers.specs.declared.call.Read.the-variants.{Issue, Forward, Release}
 use Rattle.answers.specs.declared.call.Reset.the-variants.{Clear, Load, Restart}
 use Rattle.answers.specs.declared.call.Step.the-variants.{Commit, RollBack, Flush}
@@ -13,8 +15,14 @@ use Rattle.lent.specs.Callers.{callerOf}
 abbrev pub clear : Call
 clear = Reset Clear
 
+abbrev pub loadAs : Format → Call
+loadAs format = Reset (Load format)
+
 abbrev pub load : Call
-load = Reset Load
+load = loadAs Image
+
+abbrev pub loadSheet : Call
+loadSheet = loadAs Sheet
 
 abbrev pub restart : Call
 restart = Reset Restart
@@ -41,7 +49,13 @@ abbrev pub lookUp : ℕ → ℕ → ℕ → Query
 lookUp caller offer state = LookUp (record { caller = callerOf caller; offer = offer; state = state })
 
 abbrev pub writeImage : Query
-writeImage = WriteImage
+writeImage = Write Image
+
+abbrev pub writeSheet : Query
+writeSheet = Write Sheet
 
 abbrev pub writeStateImage : ℕ → Query
-writeStateImage state = WriteStateImage state
+writeStateImage state = WriteState Image state
+
+abbrev pub writeStateSheet : ℕ → Query
+writeStateSheet state = WriteState Sheet state

@@ -16,7 +16,7 @@ fn reset_tests(reset: Reset) -> bool
 {
     match reset {
         Reset::Clear => false,
-        Reset::Load => false,
+        Reset::Load(_) => false,
         Reset::Restart => true,
     }
 }

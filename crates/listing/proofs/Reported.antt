@@ -14,12 +14,12 @@ use Rattle.answers.specs.declared.answer.Check.the-variants.{Passed, Refused}
 use Rattle.answers.specs.declared.ground.Ground.{Ground}
 use Rattle.answers.specs.declared.ground.Ground.the-variants.{Lengths}
 use Rattle.answers.specs.Answers.{answered}
+use Rattle.answers.specs.declared.call.Format.the-variants.{Image}
 use Rattle.answers.specs.First.{first}
 use Rattle.answers.specs.Numbers.{numberOf}
 use Rattle.answers.proofs.Firsts.{new-is}
 use Rattle.answers.proofs.Telling.{Unlike, not-refused}
-use Rattle.image.specs.Image.{countIn, numberIn, wordsIn}
-use Rattle.image.proofs.Words.{words-in-length}
+use Rattle.image.specs.Image.{numberIn, wordsIn}
 use Rattle.layout.specs.declared.head.Head.{Head}
 use Rattle.views.specs.View.{padded}
 use Rattle.views.proofs.Views.{padded-length}
@@ -46,7 +46,7 @@ pub report-long : (image : List ℕ) → 64006 < length image → reportOf image
 unfolding reportOf
 report-long image h = rw (lt-ltb 64006 (length image) h)
 
-report-by : (image : List ℕ) → length image ≤ 64006 → reportOf image ≡ byCheck (first (loadGrounds 8000 1 image)) image
+report-by : (image : List ℕ) → length image ≤ 64006 → reportOf image ≡ byCheck (first (loadGrounds 8000 1 Image image)) image
 unfolding reportOf
 report-by image h = rw (le-ltb 64006 (length image) h)
 
@@ -58,23 +58,24 @@ pub record Listed (image : List ℕ) (head : Head) (table : List ℕ) : Type 0 w
 
 -- an image that is short enough, loaded into a table and a journal of these lengths
 module _ (table journal image : List ℕ) (lt : length table ≡ 8000) (lj : length journal ≡ 1) (short : length image ≤ 64006)
-    {answer : Answer} (ea : answer ≡ answered (loadCheck table journal image) Done) where
-  here : {check : Check} → loadCheck table journal image ≡ check → reportOf image ≡ byCheck check image
+    {answer : Answer} (ea : answer ≡ answered (loadCheck table journal Image image) Done) where
+  here : {check : Check} → loadCheck table journal Image image ≡ check → reportOf image ≡ byCheck check image
   here e =
       report-by image short
-      ∙ ap₂ (λ (t j : ℕ). byCheck (first (loadGrounds t j image)) image) (sym lt) (sym lj)
+      ∙ ap₂ (λ (t j : ℕ). byCheck (first (loadGrounds t j Image image)) image) (sym lt) (sym lj)
       ∙ ap (λ (check : Check). byCheck check image) e
 
   pub report-refused : {g : Ground} → answer ≡ Away g → refusalText (numberOf g) ≡ reportOf image
-  report-refused e = sym (here (refused-of (loadCheck table journal image) (sym e ∙ ea)))
+  report-refused e = sym (here (refused-of (loadCheck table journal Image image) (sym e ∙ ea)))
 
-  module _ (e : loadCheck table journal image ≡ Passed) {h : Head} (before : Head) (eh : h ≡ loadHead table journal image before)
-      {last : List ℕ} (el : last ≡ loadTable table journal image) where
-    ok : LoadOk (length table) (length journal) image
-    ok = load-ok (length table) (length journal) image e
+  module _ (e : loadCheck table journal Image image ≡ Passed) {h : Head} (before : Head)
+      (eh : h ≡ loadHead table journal Image image before)
+      {last : List ℕ} (el : last ≡ loadTable table journal Image image) where
+    ok : LoadOk (length table) (length journal) Image image
+    ok = load-ok (length table) (length journal) Image image e
 
-    head-is : h ≡ freshHead (countIn image) (numberIn image)
-    head-is = eh ∙ new-is e (freshHead (countIn image) (numberIn image)) before
+    head-is : h ≡ freshHead (length (wordsIn image)) (numberIn image)
+    head-is = eh ∙ new-is e (freshHead (length (wordsIn image)) (numberIn image)) before
 
     table-is : last ≡ padded (length table) (wordsIn image)
     table-is = el ∙ new-is e (padded (length table) (wordsIn image)) table
@@ -83,18 +84,18 @@ module _ (table journal image : List ℕ) (lt : length table ≡ 8000) (lj : len
     unfolding freshHead
     state-is = ap (λ (x : Head). x .checkpoint) head-is
 
-    used-is : h .used ≡ countIn image
+    used-is : h .used ≡ length (wordsIn image)
     unfolding freshHead
     used-is = ap (λ (x : Head). x .used) head-is
 
     words-are : take (h .used) last ≡ wordsIn image
     words-are =
         let zeros : List ℕ = replicate (length table - length (wordsIn image)) 0 in
-        ap₂ take used-is table-is ∙ take-at (wordsIn image) zeros (countIn image) (words-in-length image)
+        ap₂ take used-is table-is ∙ take-at (wordsIn image) zeros (length (wordsIn image)) refl
 
     pub loaded : Listed image h last
     loaded =
-        let long = padded-length (length table) (wordsIn image) (omega (arith, words-in-length image, ok .room)) in
+        let long = padded-length (length table) (wordsIn image) (ok .room) in
         record {
           text = ap₂ textOf state-is words-are ∙ sym (here e);
           used-in = omega (arith, used-is, ap length table-is, long, ok .room);
@@ -102,9 +103,9 @@ module _ (table journal image : List ℕ) (lt : length table ≡ 8000) (lj : len
         }
 
   -- the same from the answer
-  pub report-loaded : NoGround answer → {h : Head} (before : Head) → h ≡ loadHead table journal image before → {last : List ℕ}
-      → last ≡ loadTable table journal image → Listed image h last
-  report-loaded n before eh el = loaded (passed-of (loadCheck table journal image) ea n) before eh el
+  pub report-loaded : NoGround answer → {h : Head} (before : Head) → h ≡ loadHead table journal Image image before → {last : List ℕ}
+      → last ≡ loadTable table journal Image image → Listed image h last
+  report-loaded n before eh el = loaded (passed-of (loadCheck table journal Image image) ea n) before eh el
 
 -- a text that was rendered lies within its bytes
 pub rendered-in : {text bytes last : List ℕ} {n : ℕ} → Rendered text bytes last n → n ≤ length last

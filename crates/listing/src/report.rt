@@ -1,5 +1,6 @@
 // What the listing prints, rendered into lent bytes.
 use answers::answer::Answer;
+use answers::call::Format;
 use answers::ground::number;
 use listing_text::listing::render;
 use listing_text::listing::render_refusal;
@@ -24,7 +25,7 @@ pub fn report(image: &[u8], table: &mut [u64], journal: &mut [u64], text: &mut [
     if IMAGE_BYTES < image.len() {
         return render_refusal(15, text);
     }
-    let reply = load(table, journal, fresh_head(0, 0), image);
+    let reply = load(table, journal, fresh_head(0, 0), Format::Image, image);
     let answer = reply.answer;
     let head = reply.head;
     let used = head.used;

@@ -4,3 +4,4 @@ pub mod Table
 pub mod Images
 pub mod Batches
 pub mod Since
+pub mod Sheets

@@ -7,6 +7,7 @@ use Prim.Native.Nat.{ℕ, _+_, _*_, _^_}
 use lib.ListN.{length, replicate}
 use Rattle.entry.specs.Word.{putOf}
 use Rattle.answers.specs.declared.call.Call.the-variants.{Reset, Step}
+use Rattle.answers.specs.declared.call.Format.the-variants.{Image, Sheet}
 use Rattle.answers.specs.declared.call.Reset.the-variants.{Clear, Load, Restart}
 use Rattle.answers.specs.declared.call.Step.the-variants.{Commit}
 use Rattle.answers.specs.Answers.{Said, accepted, saidBy}
@@ -15,13 +16,15 @@ use Rattle.batch.specs.Batches.{batch, answer, output}
 use Rattle.snapshot.specs.Fresh.{freshHead}
 use Rattle.calls.specs.Lent.{Left}
 use Rattle.calls.specs.Meaning.{performed}
-use Rattle.history.specs.Named.{Call, Response, done}
+use Rattle.history.specs.Named.{Call, Response, done, refused}
+use Rattle.history.specs.Plain.{loadOf}
 use Rattle.history.specs.Traces.{Asked, nothing, lentWith, storeIn, storeResponses, Answers, afterLoad, storeTrace}
 
--- where a store starts: lent memory of two lengths, the table's and the journal's, which is cleared, or loaded from an image
+-- where a store starts: lent memory of two lengths, the table's and the journal's, which is cleared, or loaded from an image or a sheet
 pub data Start : Type 0 where
   cleared : ℕ → ℕ → Start
   loaded : ℕ → ℕ → List ℕ → Start
+  ofSheet : ℕ → ℕ → List ℕ → Start
 
 -- a call, and the answer expected of it
 infix 68 _⇒_
@@ -33,6 +36,8 @@ pub data Moment : Type 0 where
   word : ℕ → ℕ → ℕ → Moment
   -- a start, which is accepted, and then the calls in turn
   calls : Start → List Exchange → Moment
+  -- a start that is refused, and the number
+  notStarted : Start → ℕ → Moment
   -- a read set, orders and output memory; the answer, and the output memory then
   priced : List ℕ → List ℕ → List ℕ → Said → List ℕ → Moment
   -- a start and a list that is committed, both accepted, and a restart that is lent bytes; its answer, the bytes then, and the calls
@@ -56,14 +61,16 @@ clearTrace s asked =
 -- what a start leaves, and a commit on it
 abbrev pub startedAt : Start → Left
 startedAt (cleared table journal) = performed (lentWith (lentOf table journal) [] []) (Reset Clear)
-startedAt (loaded table journal image) = performed (lentWith (lentOf table journal) [] image) (Reset Load)
+startedAt (loaded table journal image) = performed (lentWith (lentOf table journal) [] image) (Reset (Load Image))
+startedAt (ofSheet table journal sheet) = performed (lentWith (lentOf table journal) [] sheet) (Reset (Load Sheet))
 
 abbrev pub committedOn : Left → List ℕ → Left
 committedOn left list = performed (lentWith (storeIn (left .lent)) list []) (Step Commit)
 
 abbrev pub traceFrom : Start → List Asked → Answers
 traceFrom (cleared table journal) asked = clearTrace (lentOf table journal) asked
-traceFrom (loaded table journal image) asked = storeTrace (lentOf table journal) image asked
+traceFrom (loaded table journal image) asked = storeTrace (lentOf table journal) (loadOf Image image) asked
+traceFrom (ofSheet table journal sheet) asked = storeTrace (lentOf table journal) (loadOf Sheet sheet) asked
 
 -- No moment forwards a slot that is not open: a forward is lent what the slot's issue filled, and no other words.
 abbrev pub askedIn : Exchange → Asked
@@ -84,6 +91,7 @@ pub data Result : Type 0 where
 abbrev pub computed : Moment → Result
 computed (word offer price w) = asWord (putOf offer price)
 computed (calls start exchanges) = asAnswers (traceFrom start (map askedIn exchanges))
+computed (notStarted start n) = asAnswers (traceFrom start [])
 computed (priced reads orders out a after) =
     let executed = batch reads orders (length out) in
     asOutput (answer executed) (output executed out)
@@ -98,5 +106,6 @@ computed (restarted start list bytes a after exchanges) =
 abbrev pub expected : Moment → Result
 expected (word offer price w) = asWord w
 expected (calls start exchanges) = asAnswers (record { load = done; responses = map responseIn exchanges })
+expected (notStarted start n) = asAnswers (record { load = refused n; responses = [] })
 expected (priced reads orders out a after) = asOutput a after
 expected (restarted start list bytes a after exchanges) = asRestart (accepted 0) (accepted 0) a after (map responseIn exchanges)

@@ -3,7 +3,7 @@
 use mathlib.Core.Path.{_≡_, refl, sym, ap, _∙_}
 use mathlib.Core.Bool.{true}
 use mathlib.Core.List.{List}
-use Prim.Native.Nat.{ℕ, _+_, _*_, _^_, _≤_, _<_}
+use Prim.Native.Nat.{ℕ, _-_, _/_, _^_, _≤_, _<_}
 use native.Mathlib.Omega.{arith}
 use lib.ListN.{length, take, replicate, length-append}
 use lib.Seq.{take-at}
@@ -12,11 +12,11 @@ use Rattle.answers.specs.declared.answer.Answer.{Answer}
 use Rattle.answers.specs.declared.answer.Answer.the-variants.{Done}
 use Rattle.answers.specs.declared.answer.Check.{Check}
 use Rattle.answers.specs.declared.answer.Check.the-variants.{Passed}
+use Rattle.answers.specs.declared.call.Format.the-variants.{Image}
 use Rattle.answers.specs.Answers.{Gives, answered}
 use Rattle.answers.proofs.Counted.{TurnedAway}
 use Rattle.answers.proofs.Firsts.{gives, gives-passed, if-refused, if-passed, new-is, old-is}
 use Rattle.image.specs.Image.{imageB, countIn, numberIn, wordsIn, imageOf}
-use Rattle.image.proofs.ImageTest.{image-facts}
 use Rattle.image.proofs.RoundTrip.{image-length}
 use Rattle.image.proofs.Theorems.{written-reads-back}
 use Rattle.image.proofs.Words.{words-in-length}
@@ -28,13 +28,13 @@ use Rattle.views.proofs.SoundFacts.{used-long}
 use Rattle.state_maps.proofs.MapSizes.{map-at-checkpoint}
 use Rattle.snapshot.specs.Fresh.{freshHead}
 use Rattle.exports.proofs.Writing.{own-check}
-use Rattle.exports.specs.Export.{imageHere, imageSize, imageOver, writeCheck, writeBytes}
+use Rattle.exports.specs.Export.{stateBytes, stateSize, stateOver, writeCheck, writeBytes}
 use Rattle.restarts.specs.Restart.{restartCheck, restartImage, restartHead, restartTable, restartJournal, restartBytes}
 
 module _ (table journal : List ℕ) (head : Head) where
   -- the grounds are those of writing the image with the checkpoint named
-  pub names-checkpoint : (room : ℕ) → writeCheck table journal head (head .checkpoint) room ≡ restartCheck table journal head room
-  names-checkpoint room = own-check table journal head (head .checkpoint) (λ s. (omega arith, s .high)) room
+  pub names-checkpoint : (room : ℕ) → writeCheck Image table journal head (head .checkpoint) room ≡ restartCheck table journal head room
+  names-checkpoint room = own-check Image table journal head (head .checkpoint) (λ s. (omega arith, s .high)) room
 
   -- an accepted restart: the image is that of the table's map, and reads back as it
   module _ (room : ℕ) (e : restartCheck table journal head room ≡ Passed) where
@@ -42,7 +42,7 @@ module _ (table journal : List ℕ) (head : Head) where
     ok = store-passed table journal head _ e .0
 
     image-here : restartImage table journal head ≡ imageOf (head .checkpoint) (take (head .used) table)
-    unfolding imageHere
+    unfolding stateBytes
     image-here = ap (imageOf (head .checkpoint)) (map-at-checkpoint table journal head (ok .sound))
 
     pub map-is : Map (take (head .used) table)
@@ -79,8 +79,8 @@ module _ (table journal : List ℕ) (head : Head) where
         × (b ≡ restartBytes table journal head bytes)
 
     pub restart-refused : {answer : Answer} {left : List ℕ}
-        → TurnedAway (writeCheck table journal head (head .checkpoint) (length bytes)) answer
-        → left ≡ writeBytes table journal head (head .checkpoint) bytes → Restarts answer head table journal left
+        → TurnedAway (writeCheck Image table journal head (head .checkpoint) (length bytes)) answer
+        → left ≡ writeBytes Image table journal head (head .checkpoint) bytes → Restarts answer head table journal left
     restart-refused t el =
         let e = sym (names-checkpoint (length bytes)) ∙ t .found in
         let away = ap (λ (c : Check). answered c Done) e in (
@@ -92,17 +92,17 @@ module _ (table journal : List ℕ) (head : Head) where
         )
 
     -- and where it is accepted: the bytes up to the count are the image, which has what a load asks of it
-    module _ {n : ℕ} {left : List ℕ} (e : writeCheck table journal head (head .checkpoint) (length bytes) ≡ Passed)
-        (en : n ≡ imageSize table journal head (head .checkpoint))
-        (el : left ≡ writeBytes table journal head (head .checkpoint) bytes) where
+    module _ {n : ℕ} {left : List ℕ} (e : writeCheck Image table journal head (head .checkpoint) (length bytes) ≡ Passed)
+        (en : n ≡ stateSize Image table journal head (head .checkpoint))
+        (el : left ≡ writeBytes Image table journal head (head .checkpoint) bytes) where
       accepted : restartCheck table journal head (length bytes) ≡ Passed
       accepted = sym (names-checkpoint (length bytes)) ∙ e
 
-      left-is : left ≡ imageOver table journal head (head .checkpoint) bytes
+      left-is : left ≡ stateOver Image table journal head (head .checkpoint) bytes
       left-is = el ∙ new-is e _ _
 
       image-long : length (restartImage table journal head) ≡ n
-      unfolding imageHere imageSize
+      unfolding stateBytes stateSize
       image-long = image-length (head .checkpoint) (mapHere table journal head (head .checkpoint)) ∙ sym en
 
       pub image-inside : n ≤ length left
@@ -111,18 +111,28 @@ module _ (table journal : List ℕ) (head : Head) where
       image-part : take n left ≡ restartImage table journal head
       image-part = ap (take n) left-is ∙ take-at (restartImage table journal head) _ n image-long
 
-      pub load-room : head .checkpoint < 2 ^ 32
-          → (6 + 8 * countIn (take n left) ≤ length (take n left)) × (countIn (take n left) ≤ length table)
-      load-room small =
-          let whole = image-facts (restartImage table journal head) (back (length bytes) accepted small .0) in
-          rw image-part
-          (omega (arith, whole .size), omega (arith, count-back (length bytes) accepted small, map-room (length bytes) accepted))
+      pub long-enough : 6 ≤ n
+      unfolding stateSize
+      long-enough = omega (arith, en)
 
-      pub restart-done : {next : Head} {t j : List ℕ} → next ≡ freshHead (countIn (take n left)) (numberIn (take n left))
+      pub load-room : head .checkpoint < 2 ^ 32
+          → (imageB (take n left) ≡ true)
+          × ((n - 6) / 8 ≡ length (wordsIn (take n left)))
+          × ((n - 6) / 8 ≤ length table)
+      unfolding stateSize
+      load-room small =
+          let b = back (length bytes) accepted small in
+          let map = ap length (map-at-checkpoint table journal head (ok (length bytes) accepted .sound)) in
+          rw image-part
+          (b .0, omega (arith, en, map, ap length (b .2)), omega (arith, en, map, map-room (length bytes) accepted))
+
+      pub restart-done : {next : Head} {t j : List ℕ} → next ≡ freshHead (length (wordsIn (take n left))) (numberIn (take n left))
           → t ≡ padded (length table) (wordsIn (take n left)) → j ≡ replicate (length journal) 0 → Restarts Done next t j left
       restart-done h t j = (
         gives-passed accepted refl,
-        if-passed accepted _ _ (h ∙ ap (λ (b : List ℕ). freshHead (countIn b) (numberIn b)) image-part),
+        if-passed accepted _ _ (h
+            ∙ ap (λ (k : ℕ). freshHead k (numberIn (take n left))) (words-in-length (take n left))
+            ∙ ap (λ (b : List ℕ). freshHead (countIn b) (numberIn b)) image-part),
         if-passed accepted _ _ (t ∙ ap (λ (b : List ℕ). padded (length table) (wordsIn b)) image-part),
         if-passed accepted _ _ j,
         if-passed accepted _ _ left-is,

@@ -1,7 +1,10 @@
 // Restart: the checkpoint's image is written into lent bytes and loaded back, so that the tip becomes the checkpoint and
 // all slots close.
 use answers::answer::Answer;
+use answers::call::Format;
 use exports::write::write_state;
+use image::HEADER_BYTES;
+use image::WORD_BYTES;
 use layout::head::Head;
 use layout::head::Reply;
 use snapshot::fresh::fill;
@@ -19,11 +22,12 @@ pub fn restart(table: &mut [u64], journal: &mut [u64], head: Head, bytes: &mut [
         × (now (journal .exit) ≡ restartJournal (now (table .entry)) (now (journal .entry)) head (length (now (bytes .entry))))
         × (now (bytes .exit) ≡ restartBytes (now (table .entry)) (now (journal .entry)) head (now (bytes .entry))) ⌝ }
 {
-    let answer = write_state(table, journal, head, head.checkpoint, bytes);
+    let answer = write_state(table, journal, head, Format::Image, head.checkpoint, bytes);
     let Answer::Count(written) = answer else {
         return Reply { answer, head };
     };
-    let next = fill(table, journal, &bytes[..written]);
+    let count = (written - HEADER_BYTES) / WORD_BYTES;
+    let next = fill(table, journal, Format::Image, &bytes[..written], count);
     Reply {
         answer: Answer::Done,
         head: next,

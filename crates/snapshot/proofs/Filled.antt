@@ -1,4 +1,4 @@
--- A table whose first words were read from an image and whose other words were cleared.
+-- A table whose first words are a map's, and whose other words were cleared.
 -- Assumes nothing.
 use mathlib.Core.Path.{_≡_, sym, ap, ap₂, _∙_}
 use mathlib.Core.List.{List, _++_}
@@ -8,21 +8,18 @@ use borrow.Rule.Slice.PartMut.{putMid}
 use lib.ListN.{length, take, drop, replicate, length-append, length-drop}
 use lib.Seq.{take-at}
 use Rattle.words.proofs.Parts.{part, put-part}
-use Rattle.image.specs.Image.{countIn, wordsIn}
-use Rattle.image.proofs.Words.{words-in-length}
 use Rattle.views.specs.View.{padded}
 
-pub filled : (table image : List ℕ) (n : ℕ) (read zeros : List ℕ) → n ≡ countIn image → read ≡ wordsIn image
-    ++ drop (countIn image) table → countIn image ≤ length table
+pub filled : (table words : List ℕ) (n : ℕ) (read zeros : List ℕ) → n ≡ length words → read ≡ words ++ drop (length words) table
+    → n ≤ length table
     → zeros ≡ replicate (length (take (length read - n) (drop n read))) 0
-    → putMid n (length read - n) read zeros ≡ padded (length table) (wordsIn image)
-filled table image n read zeros en er room ez =
-    let count : length (wordsIn image) ≡ n = words-in-length image ∙ sym en in
-    let long : length read ≡ length table = ap length er ∙ simp (length-append, length-drop) (omega (arith, words-in-length image)) in
-    let rest : length (take (length read - n) (drop n read)) ≡ length table - length (wordsIn image) =
-    ap length (part read n) ∙ length-drop n read ∙ ap₂ (λ (a b : ℕ). a - b) long (sym count) in
+    → putMid n (length read - n) read zeros ≡ padded (length table) words
+filled table words n read zeros en er room ez =
+    let long : length read ≡ length table = ap length er ∙ simp (length-append, length-drop) (omega (arith, en)) in
+    let rest : length (take (length read - n) (drop n read)) ≡ length table - length words =
+    ap length (part read n) ∙ length-drop n read ∙ ap₂ (λ (a b : ℕ). a - b) long en in
     put-part read zeros n (omega arith)
-    ∙ ap₂ _++_ (ap (take n) er ∙ take-at (wordsIn image) (drop (countIn image) table) n count) (ez ∙ ap (λ (k : ℕ). replicate k 0) rest)
+    ∙ ap₂ _++_ (ap (take n) er ∙ take-at words (drop (length words) table) n (sym en)) (ez ∙ ap (λ (k : ℕ). replicate k 0) rest)
 
 -- a slice that was cleared from its start
 pub emptied : (words zeros : List ℕ) → zeros ≡ replicate (length (take (length words - 0) (drop 0 words))) 0

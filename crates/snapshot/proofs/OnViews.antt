@@ -8,8 +8,9 @@ use native.Mathlib.Omega.{arith}
 use lib.ListN.{length, replicate}
 use Rattle.changes.specs.Lists.{From, All, Map}
 use Rattle.answers.specs.declared.answer.Check.the-variants.{Passed}
-use Rattle.image.specs.Image.{countIn, numberIn, wordsIn}
-use Rattle.image.proofs.Words.{words-in-length}
+use Rattle.answers.specs.declared.call.Format.{Format}
+use Rattle.image.specs.Image.{numberIn}
+use Rattle.formats.specs.Formats.{mapIn}
 use Rattle.layout.specs.Heads.{withSteps, withFloor}
 use Rattle.views.specs.View.{Store, Limits, leastSlot, flat, marksFrom, padded, encode, decode, Good}
 use Rattle.soundness.proofs.Sounds.{Sound}
@@ -85,28 +86,17 @@ module _ (table journal : List ℕ) where
       zeros : replicate (length table) 0 ≡ padded (length table) []
       zeros = ap (λ (n : ℕ). replicate n 0) (sym (sub-zero (length table)))
 
-  module _ (image : List ℕ) (e : loadCheck table journal image ≡ Passed) where
+  module _ (format : Format) (bytes : List ℕ) (e : loadCheck table journal format bytes ≡ Passed) where
     abbrev loaded : Store
-    loaded = record {
-      table = padded (length table) (wordsIn image);
-      journal = replicate (length journal) 0;
-      head = freshHead (countIn image) (numberIn image);
-    }
+    loaded = freshStore (mapIn format bytes) (numberIn bytes) (limitsOf table journal)
 
-    ok : LoadOk (length table) (length journal) image
-    ok = load-ok (length table) (length journal) image e
+    ok : LoadOk (length table) (length journal) format bytes
+    ok = load-ok (length table) (length journal) format bytes e
 
-    -- "Loading gives floor, anchor and tip that number and no open place", and the image's map
-    pub load-leaves : Encodes loaded (freshHead 0 0) (freshView (wordsIn image) (numberIn image) (limitsOf table journal))
+    -- "Loading gives floor, anchor and tip that number and no open place", and the map
+    pub load-leaves : Encodes loaded (freshHead 0 0) (freshView (mapIn format bytes) (numberIn bytes) (limitsOf table journal))
     load-leaves =
         record {
-          is =
-              (λ i. record { table = loaded .table; journal = loaded .journal; head = count i })
-              ∙ sym (fresh-encoded (wordsIn image) (numberIn image) (limitsOf table journal));
-          good =
-              fresh-good (wordsIn image) (numberIn image) (limitsOf table journal) (ok .image-ok .map)
-              (omega (arith, words-in-length image, ok .room));
+          is = sym (fresh-encoded (mapIn format bytes) (numberIn bytes) (limitsOf table journal));
+          good = fresh-good (mapIn format bytes) (numberIn bytes) (limitsOf table journal) (ok .map) (ok .room);
         }
-      where
-        count : freshHead (countIn image) (numberIn image) ≡ freshHead (length (wordsIn image)) (numberIn image)
-        count = ap (λ (n : ℕ). freshHead n (numberIn image)) (sym (words-in-length image))

@@ -7,9 +7,11 @@ use Prim.Native.Nat.{ℕ}
 use lib.Dec.{ltb}
 use lib.ListN.{length, replicate}
 use Rattle.answers.specs.declared.answer.Check.{Check}
+use Rattle.answers.specs.declared.call.Format.{Format}
 use Rattle.answers.specs.declared.ground.Ground.the-variants.{BadImage, TableFull}
 use Rattle.answers.specs.First.{Test, met, first, ifPassed}
-use Rattle.image.specs.Image.{imageB, countIn, numberIn, wordsIn}
+use Rattle.image.specs.Image.{numberIn}
+use Rattle.formats.specs.Formats.{formatB, mapIn}
 use Rattle.layout.specs.declared.head.Head.{Head}
 use Rattle.soundness.specs.Checks.{lengthGrounds}
 use Rattle.views.specs.View.{padded}
@@ -25,19 +27,23 @@ clearHead table journal head = ifPassed (clearCheck table journal) (freshHead 0 
 abbrev pub clearWords : List ℕ → List ℕ → List ℕ → List ℕ
 clearWords table journal words = ifPassed (clearCheck table journal) (replicate (length words) 0) words
 
--- load: grounds 1, 15, 16, for memory of these lengths
-abbrev pub loadGrounds : ℕ → ℕ → List ℕ → List Test
-loadGrounds table journal image =
-    lengthGrounds table journal ++ (met (not (imageB image)) BadImage ∷ met (ltb table (countIn image)) TableFull ∷ [])
+-- load, of an image or a sheet: grounds 1, 15, 16, for memory of these lengths. "A broken sheet is 15, then 16 and 17 follow as for
+-- images."
+abbrev pub loadGrounds : ℕ → ℕ → Format → List ℕ → List Test
+loadGrounds table journal format bytes =
+    lengthGrounds table journal
+    ++ (met (not (formatB format bytes)) BadImage ∷ met (ltb table (length (mapIn format bytes))) TableFull ∷ [])
 
-abbrev pub loadCheck : List ℕ → List ℕ → List ℕ → Check
-loadCheck table journal image = first (loadGrounds (length table) (length journal) image)
+abbrev pub loadCheck : List ℕ → List ℕ → Format → List ℕ → Check
+loadCheck table journal format bytes = first (loadGrounds (length table) (length journal) format bytes)
 
-abbrev pub loadHead : List ℕ → List ℕ → List ℕ → Head → Head
-loadHead table journal image head = ifPassed (loadCheck table journal image) (freshHead (countIn image) (numberIn image)) head
+abbrev pub loadHead : List ℕ → List ℕ → Format → List ℕ → Head → Head
+loadHead table journal format bytes head =
+    ifPassed (loadCheck table journal format bytes) (freshHead (length (mapIn format bytes)) (numberIn bytes)) head
 
-abbrev pub loadTable : List ℕ → List ℕ → List ℕ → List ℕ
-loadTable table journal image = ifPassed (loadCheck table journal image) (padded (length table) (wordsIn image)) table
+abbrev pub loadTable : List ℕ → List ℕ → Format → List ℕ → List ℕ
+loadTable table journal format bytes =
+    ifPassed (loadCheck table journal format bytes) (padded (length table) (mapIn format bytes)) table
 
-abbrev pub loadJournal : List ℕ → List ℕ → List ℕ → List ℕ
-loadJournal table journal image = ifPassed (loadCheck table journal image) (replicate (length journal) 0) journal
+abbrev pub loadJournal : List ℕ → List ℕ → Format → List ℕ → List ℕ
+loadJournal table journal format bytes = ifPassed (loadCheck table journal format bytes) (replicate (length journal) 0) journal

@@ -23,6 +23,7 @@ use Rattle.answers.specs.Answers.{acceptedB, answered}
 use Rattle.answers.specs.First.{first, ifPassed}
 use Rattle.answers.specs.Counts.{resetsB, counts, stepCounts, countsOf}
 use Rattle.image.specs.Image.{countIn, numberIn}
+use Rattle.formats.specs.Formats.{mapIn}
 use Rattle.layout.specs.declared.head.Head.{Head}
 use Rattle.layout.specs.States.{heldOf, mapHere}
 use Rattle.views.specs.Trim.{trimmedHead}
@@ -111,7 +112,8 @@ resets : (l : Lent) (call : ResetCall) (count : Tally)
     → let left = settled (resetOf l call) l in
     Effect (acceptedB (left .answer)) true count (l .head) (left .lent .head)
 resets l Clear count = begins l count (resetOf l Clear) refl (fresh-one 0 0)
-resets l Load count = begins l count (resetOf l Load) refl (fresh-one (countIn (l .bytes)) (numberIn (l .bytes)))
+resets l (Load format) count =
+    begins l count (resetOf l (Load format)) refl (fresh-one (length (mapIn format (l .bytes))) (numberIn (l .bytes)))
 resets l Restart count =
     let image = restartImage (l .table) (l .journal) (l .head) in
     begins l count (resetOf l Restart) refl (fresh-one (countIn image) (numberIn image))

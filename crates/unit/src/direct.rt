@@ -2,6 +2,7 @@
 // bytes are input alone, which they are lent to read.
 use crate::serve::Served;
 use answers::call::Call;
+use answers::call::Format;
 use answers::call::Reset;
 use answers::call::Step;
 use answers::tally::Tally;
@@ -61,18 +62,19 @@ pub fn serve_commit(
     }
 }
 
-// Serves a load of the image.
+// Serves a load of the bytes.
 pub fn serve_load(
     tally: Tally,
     table: &mut [u64],
     journal: &mut [u64],
-    image: &[u8],
+    bytes: &[u8],
     head: Head,
+    format: Format,
 ) -> Served
-    ensures { λ r. ⌜ ServesCore tally (lent (now (table .entry)) (now (journal .entry)) [] (now (image .entry)) head)
-        (ResetOf LoadOf) r (now (table .exit)) (now (journal .exit)) [] (now (image .entry)) ⌝ }
+    ensures { λ r. ⌜ ServesCore tally (lent (now (table .entry)) (now (journal .entry)) [] (now (bytes .entry)) head)
+        (ResetOf (LoadOf format)) r (now (table .exit)) (now (journal .exit)) [] (now (bytes .entry)) ⌝ }
 {
-    let reply = load(table, journal, head, image);
+    let reply = load(table, journal, head, format, bytes);
     let answer = reply.answer;
     Served {
         reply,
@@ -80,7 +82,7 @@ pub fn serve_load(
             tally,
             head.checkpoint,
             head.tip,
-            Call::Reset(Reset::Load),
+            Call::Reset(Reset::Load(format)),
             answer,
         ),
     }

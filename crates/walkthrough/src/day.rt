@@ -12,6 +12,7 @@ use crate::print::show_text;
 use answers::answer::Answer;
 use answers::call::Call;
 use answers::call::Caller;
+use answers::call::Format;
 use answers::call::Query;
 use answers::call::Read;
 use answers::call::Reader;
@@ -50,7 +51,7 @@ pub(crate) fn load() -> Counter {
         &IMAGE,
     );
     show_text(b"\n  load");
-    let counter = ask(unused(), Call::Reset(Reset::Load));
+    let counter = ask(unused(), Call::Reset(Reset::Load(Format::Image)));
     quote(counter, 7);
     counter
 }
@@ -130,7 +131,7 @@ fn count(tally: Tally) {
 
 pub(crate) fn write(counter: Counter) {
     show_text(b"\n  write the image");
-    let written = ask(counter, Call::Ask(Query::WriteImage));
+    let written = ask(counter, Call::Ask(Query::Write(Format::Image)));
     let bytes = written.bytes;
     show_bytes(b"\n  image", &bytes);
     count(written.tally);

@@ -57,7 +57,8 @@ pub fn clear<S: Subject>(scene: &Scene) -> Side<'_> {
     steady(scene, 0, |store: &mut S, _| store.clear())
 }
 
-/// Images, or room for them, which lie differently to the pages of memory: how table and image lie to each other is chance else.
+/// Images or sheets, or room for them, which lie differently to the pages of memory: how table and image lie to each other is
+/// chance else.
 struct Images {
     bytes: Vec<u8>,
     length: usize,
@@ -75,6 +76,16 @@ impl Images {
     /// Room for the image of any state of a scene.
     fn room(scene: &Scene) -> Images {
         Images::copies(&vec![0; scene.image_bytes()])
+    }
+
+    /// Sheets of a scene's table.
+    fn sheets(scene: &Scene) -> Images {
+        Images::copies(&scene.sheet())
+    }
+
+    /// Room for the sheet of any state of a scene.
+    fn sheet_room(scene: &Scene) -> Images {
+        Images::copies(&vec![0; scene.sheet_bytes()])
     }
 
     fn copies(image: &[u8]) -> Images {
@@ -117,6 +128,25 @@ pub fn flush_and_write<S: Subject>(scene: &Scene) -> Side<'_> {
     moving(scene, all_of(scene), move |store: &mut S, _, turn| match store.flush(state) {
         0 => store.write_state_image(state, images.turn(turn)),
         refusal => refusal,
+    })
+}
+
+pub fn load_sheet<S: Subject>(scene: &Scene) -> Side<'_> {
+    let mut sheets = Images::sheets(scene);
+    steady(scene, 0, move |store: &mut S, turn| store.load_sheet(sheets.turn(turn)))
+}
+
+/// The sheet of the checkpoint.
+pub fn write_checkpoint_sheet<S: Subject>(scene: &Scene) -> Side<'_> {
+    let (mut sheets, state) = (Images::sheets(scene), scene.variant(0).head.checkpoint);
+    steady(scene, 0, move |store: &mut S, turn| store.write_state_sheet(state, sheets.turn(turn)))
+}
+
+/// The sheet of the tip, over all steps.
+pub fn write_tip_sheet<S: Subject>(scene: &Scene) -> Side<'_> {
+    let (mut sheets, state) = (Images::sheet_room(scene), scene.variant(0).head.tip);
+    moving(scene, steps_of(scene), move |store: &mut S, _, turn| {
+        store.write_state_sheet(state, sheets.turn(turn))
     })
 }
 

@@ -39,11 +39,14 @@ macro_rules! call {
     };
 }
 
-const CALLS: [Call; 13] = [
+const CALLS: [Call; 16] = [
     call!("clear", Steps, clear),
     call!("load", Steps, load),
     call!("write_image, checkpoint", Steps, write_checkpoint),
     call!("write_image, tip", Steps, write_tip),
+    call!("load_sheet", Steps, load_sheet),
+    call!("write_sheet, checkpoint", Steps, write_checkpoint_sheet),
+    call!("write_sheet, tip", Steps, write_tip_sheet),
     call!("restart", Steps, restart),
     call!("commit of 1", Steps, commit_1),
     call!("roll_back of all steps", Steps, roll_back),

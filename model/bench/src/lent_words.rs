@@ -30,12 +30,24 @@ impl Subject for LentWords {
         code(self.any(|store| store.load(bytes)))
     }
 
+    fn load_sheet(&mut self, bytes: &[u8]) -> u64 {
+        code(self.any(|store| store.load_sheet(bytes)))
+    }
+
     fn write_image(&mut self, bytes: &mut [u8]) -> u64 {
         code(self.query(|store| store.write_image(bytes)))
     }
 
     fn write_state_image(&mut self, state: u32, bytes: &mut [u8]) -> u64 {
         code(self.query(|store| store.write_state_image(state, bytes)))
+    }
+
+    fn write_sheet(&mut self, bytes: &mut [u8]) -> u64 {
+        code(self.query(|store| store.write_sheet(bytes)))
+    }
+
+    fn write_state_sheet(&mut self, state: u32, bytes: &mut [u8]) -> u64 {
+        code(self.query(|store| store.write_state_sheet(state, bytes)))
     }
 
     fn restart(&mut self, bytes: &mut [u8]) -> u64 {

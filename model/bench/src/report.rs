@@ -76,9 +76,10 @@ stores take turns.
 ";
 
 const IMAGES: &str = "\
-All steps held lie between the checkpoint and the tip whose images are written. The tip's is measured beside (a) in the
-same one call, and beside a flush of (a) to the tip and the image of the checkpoint that it then is; the store is copied
-before the flush, which is not timed.
+All steps held lie between the checkpoint and the tip whose images and sheets are written. The tip's image is measured
+beside (a) in the same one call, and beside a flush of (a) to the tip and the image of the checkpoint that it then is;
+the store is copied before the flush, which is not timed. A sheet is one of a table with full rows, of 32 seats each, or
+with one seat a row, as the table of every other call has; what the steps add lies in any row.
 
 ";
 

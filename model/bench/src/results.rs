@@ -4,7 +4,7 @@ use crate::baseline::Memory;
 use crate::calls;
 use crate::fixed::{fixed, Fixed};
 use crate::peer::{Loaded, KINDS};
-use crate::scene::{Scene, Shape};
+use crate::scene::{Scene, Seats, Shape};
 use crate::timing::{measure, Rounds, Side, Spread};
 use ffi::Lent;
 
@@ -104,12 +104,17 @@ pub enum Stage {
     Full,
     /// A store without steps: the call does not look at them.
     Any,
+    /// A store with all steps above its checkpoint, and one without steps, whose tables have full rows. Those of the others have
+    /// each offer in a row of its own.
+    StepsInRows,
+    AnyInRows,
 }
 
 impl Stage {
     pub fn scene(self, shape: Shape) -> Scene {
         match self {
             Stage::Early => Scene::with_early_read(shape),
+            Stage::StepsInRows | Stage::AnyInRows => Scene::new(Shape { seats: Seats::All, ..shape }),
             _ => Scene::new(shape),
         }
     }
@@ -141,12 +146,18 @@ macro_rules! call {
 /// The image of the tip beside what makes the same one in two calls.
 pub const TIP_BY_FLUSH: &str = "write_image, tip, (a) flushes and writes";
 
-const CALLS: [Call; 17] = [
+const CALLS: [Call; 23] = [
     call!("clear", Any, clear),
     call!("load", Any, load),
     call!("write_image, checkpoint", Steps, write_checkpoint),
     call!("write_image, tip", Steps, write_tip),
     call!(TIP_BY_FLUSH, Steps, write_tip, flush_and_write),
+    call!("load_sheet, full rows", AnyInRows, load_sheet),
+    call!("load_sheet, one seat a row", Any, load_sheet),
+    call!("write_sheet, checkpoint, full rows", StepsInRows, write_checkpoint_sheet),
+    call!("write_sheet, checkpoint, one seat a row", Steps, write_checkpoint_sheet),
+    call!("write_sheet, tip, full rows", StepsInRows, write_tip_sheet),
+    call!("write_sheet, tip, one seat a row", Steps, write_tip_sheet),
     call!("restart", Steps, restart),
     call!("commit of 64", Room, commit_64),
     call!("commit of 1", Room, commit_1),
@@ -167,8 +178,8 @@ impl Call {
         match self.stage {
             Stage::Room => Some(held.min(63)),
             Stage::Full => (held == 64).then_some(held),
-            Stage::Any => (held == 0).then_some(held),
-            Stage::Steps | Stage::Early => Some(held),
+            Stage::Any | Stage::AnyInRows => (held == 0).then_some(held),
+            Stage::Steps | Stage::StepsInRows | Stage::Early => Some(held),
         }
     }
 
@@ -185,7 +196,7 @@ impl Call {
 }
 
 fn shape(offers: usize, held: usize) -> Shape {
-    Shape { table: TABLE, journal: JOURNAL, offers, held, step: STEP, read: STEP }
+    Shape { table: TABLE, journal: JOURNAL, offers, seats: Seats::One, held, step: STEP, read: STEP }
 }
 
 /// Measures everything; `tell` is told what comes next.
@@ -283,7 +294,7 @@ pub fn half_full(words: usize) -> Shape {
     let journal = words - table;
     let step = (journal / 64).max(1);
     let held = (journal / step / 2).min(32);
-    Shape { table, journal, offers: table, held, step, read: step }
+    Shape { table, journal, offers: table, seats: Seats::One, held, step, read: step }
 }
 
 #[cfg(test)]

@@ -2,9 +2,10 @@
 
 use crate::baseline::{word, Head};
 use cechnuol::raw::DESK;
-use cechnuol::{image_bytes_of, HEAD_WORDS};
+use cechnuol::{image_bytes_of, sheet_bytes_of, HEAD_WORDS};
 use ffi::Lent;
 use model::rng::Rng;
+use model::sheet;
 use std::collections::BTreeSet;
 
 /// The most stores that a scene has, and the most words that they have in all. They differ in their newest steps, so that no
@@ -12,19 +13,32 @@ use std::collections::BTreeSet;
 const VARIANTS: usize = 64;
 const WORDS: usize = 1 << 16;
 
+/// The seats of a row.
+const SEATS: u32 = 32;
+
 /// The size of a store.
 #[derive(Clone, Copy, Debug)]
 pub struct Shape {
     /// Words lent.
     pub table: usize,
     pub journal: usize,
-    /// Offers in the table.
+    /// Offers in the table, and how they lie in rows.
     pub offers: usize,
+    pub seats: Seats,
     /// Steps held, and the words of each.
     pub held: usize,
     pub step: usize,
     /// Offers that a read is of.
     pub read: usize,
+}
+
+/// How the offers of a table lie in rows of 32 seats.
+#[derive(Clone, Copy, Debug, PartialEq, Eq)]
+pub enum Seats {
+    /// No two of them are in one row.
+    One,
+    /// Every row has all its seats, the last those that are left.
+    All,
 }
 
 /// Stores of a shape, which share a table and, if slot 0 is open, its read set.
@@ -57,7 +71,7 @@ impl Scene {
 
     fn draw(shape: Shape, early: bool) -> Scene {
         let mut rng = Rng::new((shape.offers * 100 + shape.held) as u64);
-        let mut present = Offers::draw(shape.offers, &mut rng);
+        let mut present = Offers::draw(shape.offers, shape.seats, &mut rng);
         let map: Vec<u64> =
             present.rising().into_iter().map(|offer| word::put(offer, price(&mut rng))).collect();
         let mut lent = Lent::of_lengths(shape.table, shape.journal);
@@ -103,6 +117,16 @@ impl Scene {
     /// The bytes of the longest image that a state of these stores may have.
     pub fn image_bytes(&self) -> usize {
         image_bytes_of(self.shape.offers + self.shape.held * self.shape.step)
+    }
+
+    /// The sheet of the table.
+    pub fn sheet(&self) -> Vec<u8> {
+        sheet::write(0, &self.table[..self.shape.offers])
+    }
+
+    /// As many bytes as the longest sheet that a state of these stores may have, or more.
+    pub fn sheet_bytes(&self) -> usize {
+        sheet_bytes_of(self.shape.offers + self.shape.held * self.shape.step)
     }
 
     /// The words lent.
@@ -153,12 +177,21 @@ fn price(rng: &mut Rng) -> u32 {
 struct Offers(Vec<u32>);
 
 impl Offers {
-    fn draw(count: usize, rng: &mut Rng) -> Offers {
-        let mut offers = BTreeSet::new();
+    fn draw(count: usize, seats: Seats, rng: &mut Rng) -> Offers {
+        let mut rows = BTreeSet::new();
+        let mut offers = Vec::new();
         while offers.len() < count {
-            offers.insert(rng.bits() as u32 % word::OFFERS);
+            let offer = rng.bits() as u32 % word::OFFERS;
+            if rows.insert(offer / SEATS) {
+                let first = offer / SEATS * SEATS;
+                match seats {
+                    Seats::One => offers.push(offer),
+                    Seats::All => offers.extend((first..first + SEATS).take(count - offers.len())),
+                }
+            }
         }
-        Offers(offers.into_iter().collect())
+        offers.sort_unstable();
+        Offers(offers)
     }
 
     fn rising(&self) -> Vec<u32> {

@@ -16,8 +16,11 @@ pub trait Subject: 'static {
 
     fn clear(&mut self) -> u64;
     fn load(&mut self, bytes: &[u8]) -> u64;
+    fn load_sheet(&mut self, bytes: &[u8]) -> u64;
     fn write_image(&mut self, bytes: &mut [u8]) -> u64;
     fn write_state_image(&mut self, state: u32, bytes: &mut [u8]) -> u64;
+    fn write_sheet(&mut self, bytes: &mut [u8]) -> u64;
+    fn write_state_sheet(&mut self, state: u32, bytes: &mut [u8]) -> u64;
     fn restart(&mut self, bytes: &mut [u8]) -> u64;
     fn commit(&mut self, list: &[u64]) -> u64;
     fn roll_back(&mut self, state: u32) -> u64;
@@ -55,12 +58,24 @@ impl Subject for Lent {
         self.lend().load(bytes)
     }
 
+    fn load_sheet(&mut self, bytes: &[u8]) -> u64 {
+        self.lend().load_sheet(bytes)
+    }
+
     fn write_image(&mut self, bytes: &mut [u8]) -> u64 {
         self.to_read().write_image(bytes, &mut 0)
     }
 
     fn write_state_image(&mut self, state: u32, bytes: &mut [u8]) -> u64 {
         self.to_read().write_state_image(state, bytes, &mut 0)
+    }
+
+    fn write_sheet(&mut self, bytes: &mut [u8]) -> u64 {
+        self.to_read().write_sheet(bytes, &mut 0)
+    }
+
+    fn write_state_sheet(&mut self, state: u32, bytes: &mut [u8]) -> u64 {
+        self.to_read().write_state_sheet(state, bytes, &mut 0)
     }
 
     fn restart(&mut self, bytes: &mut [u8]) -> u64 {
@@ -147,12 +162,24 @@ impl Subject for Memory {
         code(self.lend().load(bytes))
     }
 
+    fn load_sheet(&mut self, bytes: &[u8]) -> u64 {
+        code(self.lend().load_sheet(bytes))
+    }
+
     fn write_image(&mut self, bytes: &mut [u8]) -> u64 {
         code(self.lend().write_image(bytes))
     }
 
     fn write_state_image(&mut self, state: u32, bytes: &mut [u8]) -> u64 {
         code(self.lend().write_state_image(state, bytes))
+    }
+
+    fn write_sheet(&mut self, bytes: &mut [u8]) -> u64 {
+        code(self.lend().write_sheet(bytes))
+    }
+
+    fn write_state_sheet(&mut self, state: u32, bytes: &mut [u8]) -> u64 {
+        code(self.lend().write_state_sheet(state, bytes))
     }
 
     fn restart(&mut self, bytes: &mut [u8]) -> u64 {

@@ -6,6 +6,7 @@ use bench::subject::{quote_code, Subject};
 use ffi::differ::Pair;
 use ffi::said::{Said, UNTOUCHED};
 use ffi::{Lent, FOYERS};
+use model::format::Format::{Image, Sheet};
 use model::gen::{items, Item};
 use model::rng::Rng;
 use model::script::Command;
@@ -36,9 +37,12 @@ fn say(memory: &mut Memory, bytes: &mut [u8], caller: u32, call: &Call, filled: 
     let counted = |answer| coded(answer, |count: usize| (0, count as u64));
     let (code, value) = match call {
         Call::Clear => done(store.clear()),
-        Call::Load => done(store.load(bytes)),
-        Call::WriteImage { state: None } => counted(store.write_image(bytes)),
-        Call::WriteImage { state: Some(state) } => counted(store.write_state_image(*state, bytes)),
+        Call::Load { format: Image } => done(store.load(bytes)),
+        Call::Load { format: Sheet } => done(store.load_sheet(bytes)),
+        Call::Write { format: Image, state: None } => counted(store.write_image(bytes)),
+        Call::Write { format: Image, state: Some(state) } => counted(store.write_state_image(*state, bytes)),
+        Call::Write { format: Sheet, state: None } => counted(store.write_sheet(bytes)),
+        Call::Write { format: Sheet, state: Some(state) } => counted(store.write_state_sheet(*state, bytes)),
         Call::Restart => done(store.restart(bytes)),
         Call::Commit { list } => done(store.commit(list)),
         Call::RollBack { state } => done(store.roll_back(*state)),
@@ -118,9 +122,12 @@ fn code_of<S: Subject>(
     };
     let code = match call {
         Call::Clear => store.clear(),
-        Call::Load => store.load(bytes),
-        Call::WriteImage { state: None } => store.write_image(bytes),
-        Call::WriteImage { state: Some(state) } => store.write_state_image(*state, bytes),
+        Call::Load { format: Image } => store.load(bytes),
+        Call::Load { format: Sheet } => store.load_sheet(bytes),
+        Call::Write { format: Image, state: None } => store.write_image(bytes),
+        Call::Write { format: Image, state: Some(state) } => store.write_state_image(*state, bytes),
+        Call::Write { format: Sheet, state: None } => store.write_sheet(bytes),
+        Call::Write { format: Sheet, state: Some(state) } => store.write_state_sheet(*state, bytes),
         Call::Restart => store.restart(bytes),
         Call::Commit { .. } => store.commit(&words),
         Call::RollBack { state } => store.roll_back(*state),

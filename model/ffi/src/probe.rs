@@ -26,7 +26,7 @@ fn scramble(lent: &mut Lent, rng: &mut Rng) {
     lent.head.iter_mut().chain(&mut lent.tally).for_each(|word| *word = rng.bits());
 }
 
-/// Makes a call on copies with such a head: ground 1, else ground 2, and everything as it came. But clear and load test
+/// Makes a call on copies with such a head: ground 1, else ground 2, and everything as it came. But clear and the loads test
 /// nothing of head and tally, and do as ever whatever words are there.
 pub fn probe(pair: &Pair, call: &Call, rng: &mut Rng) -> Result<(), String> {
     if matches!(call, Call::PriceBatch { .. }) {
@@ -34,7 +34,7 @@ pub fn probe(pair: &Pair, call: &Call, rng: &mut Rng) -> Result<(), String> {
     }
     let mut library = pair.library.clone();
     damage(&mut library.lent, rng);
-    if !matches!(call, Call::Clear | Call::Load) {
+    if !matches!(call, Call::Clear | Call::Load { .. }) {
         return turned_away(call, library);
     }
     if rng.percent(50) {
@@ -65,7 +65,7 @@ fn turned_away(call: &Call, mut library: Library) -> Result<(), String> {
     Ok(())
 }
 
-/// Clear and load take any words for head and tally: an accepted call writes them anew, a refused one leaves them.
+/// Clear and the loads take any words for head and tally: an accepted call writes them anew, a refused one leaves them.
 fn as_with_any_words(pair: &Pair, call: &Call, library: Library) -> Result<(), String> {
     let before = library.clone();
     let mut other = Pair { model: pair.model.clone(), library };

@@ -1,7 +1,8 @@
 //! A call made on the library, and what it said.
 
 use crate::{Lent, BY_TABLE, NO_PRICE};
-use cechnuol::raw::price_batch;
+use cechnuol::raw::{price_batch, StoreRef};
+use model::format::Format;
 use model::script::words_text;
 use model::unit::{Call, Filled, Since};
 use std::fmt;
@@ -51,7 +52,25 @@ impl fmt::Display for Said {
 
 /// Whether the call is a query: it takes the store to read only, and no tally.
 pub fn is_query(call: &Call) -> bool {
-    matches!(call, Call::WriteImage { .. } | Call::LookUp { .. })
+    matches!(call, Call::Write { .. } | Call::LookUp { .. })
+}
+
+/// Loads an image or a sheet.
+pub fn load(lent: &mut Lent, format: Format, bytes: &[u8]) -> u64 {
+    match format {
+        Format::Image => lent.lend().load(bytes),
+        Format::Sheet => lent.lend().load_sheet(bytes),
+    }
+}
+
+/// Writes the image or the sheet of a state, or of the tip if none is named.
+pub fn write(store: StoreRef, format: Format, state: Option<u32>, bytes: &mut [u8], count: &mut u64) -> u64 {
+    match (format, state) {
+        (Format::Image, None) => store.write_image(bytes, count),
+        (Format::Image, Some(state)) => store.write_state_image(state, bytes, count),
+        (Format::Sheet, None) => store.write_sheet(bytes, count),
+        (Format::Sheet, Some(state)) => store.write_state_sheet(state, bytes, count),
+    }
 }
 
 /// Makes a call on the library, with the number of whoever calls. A forward without words of its own is given those filled for
@@ -61,11 +80,8 @@ pub fn say(lent: &mut Lent, bytes: &mut [u8], caller: u32, call: &Call, filled: 
     let mut words = Vec::new();
     let code = match call {
         Call::Clear => lent.lend().clear(),
-        Call::Load => lent.lend().load(bytes),
-        Call::WriteImage { state: None } => lent.to_read().write_image(bytes, &mut value),
-        Call::WriteImage { state: Some(state) } => {
-            lent.to_read().write_state_image(*state, bytes, &mut value)
-        }
+        Call::Load { format } => load(lent, *format, bytes),
+        Call::Write { format, state } => write(lent.to_read(), *format, *state, bytes, &mut value),
         Call::Restart => lent.lend().restart(bytes),
         Call::Commit { list } => lent.lend().commit(list),
         Call::RollBack { state } => lent.lend().roll_back(*state),

@@ -4,10 +4,12 @@ use cechnuol::raw::price_batch;
 use cechnuol::{HEAD_WORDS, TALLY_WORDS};
 use ffi::differ::{expected, Pair};
 use ffi::library::Library;
-use ffi::said::{say, UNTOUCHED};
+use ffi::said::{load, say, UNTOUCHED};
 use ffi::Lent;
 use model::caller::Caller::{Desk, Foyer};
+use model::format::Format::{Image, Sheet};
 use model::script::{Command, Memory, Poke};
+use model::sheet;
 use model::unit::{Call, Filled, Unit};
 use model::word::entry;
 
@@ -15,17 +17,25 @@ const TABLES: [usize; 8] = [0, 1, 2, 3, 7999, 8000, 8001, 8192];
 const JOURNALS: [usize; 8] = [0, 1, 2, 3, 4095, 4096, 4097, 4608];
 const WORDS: [u64; 6] = [0, 1, 2, 7, 1 << 32, u64::MAX];
 
+/// Offer 5 at 1200 as state 7: its image, which document 01 has, and its sheet.
+const IMAGE: [u8; 14] = [0, 0, 0, 7, 0, 1, 0x80, 0, 0, 5, 0, 0, 0x04, 0xB0];
+const SHEET: [u8; 20] = [0, 0, 0, 7, 0, 0, 0, 1, 0, 0, 0, 0, 0x04, 0, 0, 0, 0, 0, 0x04, 0xB0];
+
 /// A call of each kind, with lists, read sets and outputs of a length; from both callers where they are named, and of each state
-/// of an image.
+/// of an image and of a sheet.
 fn calls(words: usize) -> Vec<Call> {
     let puts: Vec<u64> = (0..words as u32).map(|offer| entry(offer, Some(offer))).collect();
     let asks: Vec<u64> = (0..words as u32).map(|offer| entry(offer, None)).collect();
     vec![
         Call::Clear,
-        Call::Load,
-        Call::WriteImage { state: None },
-        Call::WriteImage { state: Some(0) },
-        Call::WriteImage { state: Some(1) },
+        Call::Load { format: Image },
+        Call::Load { format: Sheet },
+        Call::Write { format: Image, state: None },
+        Call::Write { format: Image, state: Some(0) },
+        Call::Write { format: Image, state: Some(1) },
+        Call::Write { format: Sheet, state: None },
+        Call::Write { format: Sheet, state: Some(0) },
+        Call::Write { format: Sheet, state: Some(1) },
         Call::Restart,
         Call::Commit { list: puts.clone() },
         Call::LookUp { caller: Desk, offer: 0, state: 1 },
@@ -68,14 +78,13 @@ fn every_length_of_a_store() {
 }
 
 fn tests_store(call: &Call) -> bool {
-    !matches!(call, Call::Clear | Call::Load | Call::PriceBatch { .. })
+    !matches!(call, Call::Clear | Call::Load { .. } | Call::PriceBatch { .. })
 }
 
 /// "Clear and load don't test this": any words for head and tally are accepted, and written anew. A refusal, on ground
-/// 1 or of an image, leaves them.
+/// 1 or of an image or a sheet, leaves them.
 #[test]
 fn clear_and_load_take_any_head_and_tally() {
-    let image = [0, 0, 0, 7, 0, 1, 0x80, 0, 0, 5, 0, 0, 0x04, 0xB0];
     for (head, tally) in WORDS.iter().flat_map(|&head| WORDS.map(|tally| (head, tally))) {
         let lend = |table: usize| Lent {
             table: vec![7; table],
@@ -86,16 +95,18 @@ fn clear_and_load_take_any_head_and_tally() {
         let mut lent = lend(2);
         assert_eq!(lent.lend().clear(), 0);
         assert_eq!(lent, Lent::of_lengths(2, 4));
-        let mut lent = lend(2);
-        assert_eq!(lent.lend().load(&image), 0);
         let mut loaded = Lent::of_lengths(2, 4);
         loaded.table[0] = entry(5, Some(1200));
         loaded.head[..4].copy_from_slice(&[1, 7, 7, 7]);
-        assert_eq!(lent, loaded);
-        for (table, code) in [(0, 1), (2, 15)] {
-            let mut lent = lend(table);
-            assert_eq!(lent.lend().load(&image[..13]), code);
-            assert_eq!(lent, lend(table));
+        for (format, bytes) in [(Image, &IMAGE[..]), (Sheet, &SHEET)] {
+            let mut lent = lend(2);
+            assert_eq!(load(&mut lent, format, bytes), 0);
+            assert_eq!(lent, loaded);
+            for (table, code) in [(0, 1), (2, 15)] {
+                let mut lent = lend(table);
+                assert_eq!(load(&mut lent, format, &bytes[1..]), code);
+                assert_eq!(lent, lend(table));
+            }
         }
         let mut lent = lend(0);
         assert_eq!(lent.lend().clear(), 1);
@@ -140,7 +151,7 @@ fn words_that_no_head_has() {
     }
 }
 
-/// Tables and journals of every length, and lists, images and outputs of short and longest lengths, as in the model.
+/// Tables and journals of every length, and lists, images, sheets and outputs of short and longest lengths, as in the model.
 #[test]
 fn every_length_of_what_a_call_is_lent() {
     for (table, journal) in TABLES.iter().flat_map(|&table| JOURNALS.map(|journal| (table, journal))) {
@@ -151,7 +162,7 @@ fn every_length_of_what_a_call_is_lent() {
         step(Command::Lend { memory: Memory::Journal, length: journal as u64 });
         step(Command::Call(Call::Clear));
         for words in [0, 1, 2, 3, 16, 17, 63, 64, 65] {
-            for bytes in [0, 1, 2, 3, 5, 6, 7, 13, 14, 15] {
+            for bytes in [0, 1, 2, 3, 5, 6, 7, 8, 9, 13, 14, 15] {
                 step(Command::Lend { memory: Memory::Bytes, length: bytes });
                 for call in calls(words) {
                     step(Command::Call(call));
@@ -161,26 +172,29 @@ fn every_length_of_what_a_call_is_lent() {
     }
 }
 
-/// A table of two words that is full, a step that adds two offers and one that removes all: every number of bytes for the image of
-/// each state, of none, and for a restart, as in the model.
+/// A table of two words that is full, a step that adds two offers, one of them in another row, and one that removes all: every
+/// number of bytes for the image and for the sheet of each state, of none, and for a restart, as in the model.
 #[test]
-fn every_length_of_the_bytes_for_an_image() {
+fn every_length_of_the_bytes_that_are_written() {
     let mut pair = Pair::default();
     let mut step = |command: Command| pair.step(&command).unwrap_or_else(|it| panic!("{command:?}: {it}"));
     step(Command::Lend { memory: Memory::Table, length: 2 });
     step(Command::Lend { memory: Memory::Journal, length: 8 });
     let image = [0, 0, 0, 7, 0, 2, 0x80, 0, 0, 5, 0, 0, 0x04, 0xB0, 0x80, 0, 0, 9, 0, 0, 0x02, 0xBC];
-    let adds = vec![entry(1, Some(0)), entry(7, Some(u32::MAX))];
-    let removes = [1, 5, 7, 9].map(|offer| entry(offer, None)).to_vec();
-    for length in 0..=40 {
+    let adds = vec![entry(1, Some(0)), entry(70, Some(u32::MAX))];
+    let removes = [1, 5, 9, 70].map(|offer| entry(offer, None)).to_vec();
+    for length in 0..=44 {
         step(Command::Lend { memory: Memory::Bytes, length: 22 });
         step(Command::Poke { at: 0, poke: Poke::Bytes(image.to_vec()) });
-        step(Command::Call(Call::Load));
+        step(Command::Call(Call::Load { format: Image }));
         for list in [&adds, &removes] {
             step(Command::Call(Call::Commit { list: list.clone() }));
         }
-        let states = (6..=10).map(Some).chain([None]);
-        for call in states.map(|state| Call::WriteImage { state }).chain([Call::Restart]) {
+        let states: Vec<Option<u32>> = (6..=10).map(Some).chain([None]).collect();
+        let writes = [Image, Sheet]
+            .into_iter()
+            .flat_map(|format| states.iter().map(move |&state| Call::Write { format, state }));
+        for call in writes.chain([Call::Restart]) {
             step(Command::Lend { memory: Memory::Bytes, length });
             step(Command::Fill { memory: Memory::Bytes, at: 0, count: length / 8, word: u64::MAX, rise: 0 });
             step(Command::Call(call));
@@ -219,22 +233,50 @@ fn every_lookup_of_a_few_steps() {
     }
 }
 
-/// The image of document 01, and each of its beginnings.
+/// The image of document 01, the sheet of the same state, and each of their beginnings.
 #[test]
-fn every_beginning_of_an_image() {
-    let image = [0, 0, 0, 7, 0, 1, 0x80, 0, 0, 5, 0, 0, 0x04, 0xB0];
-    for length in 0..=image.len() {
+fn every_beginning_of_an_image_and_of_a_sheet() {
+    let images = (0..=IMAGE.len()).map(|length| (Image, &IMAGE[..length]));
+    let sheets = (0..=SHEET.len()).map(|length| (Sheet, &SHEET[..length]));
+    for (format, bytes) in images.chain(sheets) {
         let mut pair = Pair::default();
         let mut step =
             |command: Command| pair.step(&command).unwrap_or_else(|it| panic!("{command:?}: {it}"));
         step(Command::Lend { memory: Memory::Table, length: 1 });
         step(Command::Lend { memory: Memory::Journal, length: 1 });
-        step(Command::Lend { memory: Memory::Bytes, length: length as u64 });
-        if length > 0 {
-            step(Command::Poke { at: 0, poke: Poke::Bytes(image[..length].to_vec()) });
+        step(Command::Lend { memory: Memory::Bytes, length: bytes.len() as u64 });
+        if !bytes.is_empty() {
+            step(Command::Poke { at: 0, poke: Poke::Bytes(bytes.to_vec()) });
         }
-        step(Command::Call(Call::Load));
+        step(Command::Call(Call::Load { format }));
         step(Command::Call(Call::LookUp { caller: Foyer, offer: 5, state: 7 }));
+    }
+}
+
+/// Every bit of a sheet of three rows, damaged alone, and every count of rows at its ends, as in the model.
+#[test]
+fn every_damaged_bit_of_a_sheet() {
+    let words = [5, 31, 192, 193, 2_147_483_647].map(|offer| entry(offer, Some(offer)));
+    let sheet = sheet::write(7, &words);
+    let mut pair = Pair::default();
+    let mut step = |command: Command| pair.step(&command).unwrap_or_else(|it| panic!("{command:?}: {it}"));
+    step(Command::Lend { memory: Memory::Table, length: 5 });
+    step(Command::Lend { memory: Memory::Journal, length: 1 });
+    step(Command::Lend { memory: Memory::Bytes, length: sheet.len() as u64 });
+    let mut load = |bytes: &[u8]| {
+        step(Command::Poke { at: 0, poke: Poke::Bytes(bytes.to_vec()) });
+        step(Command::Call(Call::Load { format: Sheet }));
+    };
+    for bit in 0..8 * sheet.len() {
+        let mut bytes = sheet.clone();
+        bytes[bit / 8] ^= 1 << (bit % 8);
+        load(&bytes);
+        load(&sheet);
+    }
+    for count in (0..=5).chain((0..32).map(|power| 1 << power)).chain([u32::MAX]) {
+        let mut bytes = sheet.clone();
+        bytes[4..8].copy_from_slice(&count.to_be_bytes());
+        load(&bytes);
     }
 }
 

@@ -3,8 +3,9 @@
 
 use cechnuol::raw::{price_batch, StoreRef, BY_TABLE, DESK, FOYER, NO_PRICE};
 use cechnuol::{HEAD_WORDS, TALLY_WORDS};
-use ffi::said::UNTOUCHED;
+use ffi::said::{write, UNTOUCHED};
 use ffi::{Lent, FOYERS};
+use model::format::Format::{self, Image, Sheet};
 use model::word::entry;
 use std::ffi::{c_int, c_void};
 use std::ptr::null_mut;
@@ -29,6 +30,12 @@ const TIP: [u8; 30] = [
     0, 0, 0, 2, 0, 3, 0x80, 0, 0, 5, 0, 0, 0x04, 0x4C, 0x80, 0, 0, 11, 0, 0, 0, 0, 0x80, 0, 0, 12, 0, 0, 0, 1,
 ];
 
+/// The sheets of the same states: row 0 with seats 5 and 9, and with seats 5, 11 and 12.
+const SHEET: [u8; 24] =
+    [0, 0, 0, 1, 0, 0, 0, 1, 0, 0, 0, 0, 0x04, 0x40, 0, 0, 0, 0, 0x04, 0xB0, 0, 0, 0x02, 0xBC];
+const TIP_SHEET: [u8; 28] =
+    [0, 0, 0, 2, 0, 0, 0, 1, 0, 0, 0, 0, 0x04, 0x18, 0, 0, 0, 0, 0x04, 0x4C, 0, 0, 0, 0, 0, 0, 0, 1];
+
 /// What a lookup answers, and what it leaves in the words for the price and for how fresh it is, which held [`UNTOUCHED`] and lie
 /// between others that it leaves.
 fn look_up(store: StoreRef, caller: u32, offer: u32, state: u32) -> (u64, u64, u64) {
@@ -39,14 +46,11 @@ fn look_up(store: StoreRef, caller: u32, offer: u32, state: u32) -> (u64, u64, u
     (code, *price, *since)
 }
 
-/// What writing the image of a state, or of none, answers, what it leaves in a count that held [`UNTOUCHED`], and so many bytes
-/// that were 0xAA.
-fn write_image(store: StoreRef, state: Option<u32>, length: usize) -> (u64, u64, Vec<u8>) {
+/// What writing the image or the sheet of a state, or of none, answers, what it leaves in a count that held [`UNTOUCHED`], and so
+/// many bytes that were 0xAA.
+fn written(store: StoreRef, format: Format, state: Option<u32>, length: usize) -> (u64, u64, Vec<u8>) {
     let (mut bytes, mut count) = (vec![0xAA; length], UNTOUCHED);
-    let code = match state {
-        None => store.write_image(&mut bytes, &mut count),
-        Some(state) => store.write_state_image(state, &mut bytes, &mut count),
-    };
+    let code = write(store, format, state, &mut bytes, &mut count);
     (code, count, bytes)
 }
 
@@ -73,15 +77,19 @@ fn ask(store: StoreRef) {
             );
         }
     }
-    for (state, image) in [(None, &TIP[..]), (Some(1), &IMAGE), (Some(2), &TIP)] {
-        let length = image.len();
-        assert_eq!(write_image(store, state, length), (0, length as u64, image.to_vec()));
-        assert_eq!(write_image(store, state, length + 3), (0, length as u64, [image, &[0xAA; 3]].concat()));
-        assert_eq!(write_image(store, state, length - 1), (17, UNTOUCHED, vec![0xAA; length - 1]));
-        assert_eq!(write_image(store, state, 0), (17, UNTOUCHED, vec![]));
+    let images = [(Image, None, &TIP[..]), (Image, Some(1), &IMAGE), (Image, Some(2), &TIP)];
+    let sheets = [(Sheet, None, &TIP_SHEET[..]), (Sheet, Some(1), &SHEET), (Sheet, Some(2), &TIP_SHEET)];
+    for (format, state, wanted) in images.into_iter().chain(sheets) {
+        let (length, longer) = (wanted.len(), [wanted, &[0xAA; 3]].concat());
+        assert_eq!(written(store, format, state, length), (0, length as u64, wanted.to_vec()));
+        assert_eq!(written(store, format, state, length + 3), (0, length as u64, longer));
+        assert_eq!(written(store, format, state, length - 1), (17, UNTOUCHED, vec![0xAA; length - 1]));
+        assert_eq!(written(store, format, state, 0), (17, UNTOUCHED, vec![]));
     }
     for (state, length) in [(0, 30), (3, 30), (0, 0), (u32::MAX, 0)] {
-        assert_eq!(write_image(store, Some(state), length), (11, UNTOUCHED, vec![0xAA; length]));
+        for format in [Image, Sheet] {
+            assert_eq!(written(store, format, Some(state), length), (11, UNTOUCHED, vec![0xAA; length]));
+        }
     }
 }
 
@@ -91,8 +99,10 @@ fn ask_in_vain(store: StoreRef, ground: u64) {
         assert_eq!(look_up(store, caller, 5, 1), (ground, UNTOUCHED, UNTOUCHED));
     }
     for state in [None, Some(0), Some(1), Some(2), Some(3)] {
-        assert_eq!(write_image(store, state, 30), (ground, UNTOUCHED, vec![0xAA; 30]));
-        assert_eq!(write_image(store, state, 0), (ground, UNTOUCHED, vec![]));
+        for format in [Image, Sheet] {
+            assert_eq!(written(store, format, state, 30), (ground, UNTOUCHED, vec![0xAA; 30]));
+            assert_eq!(written(store, format, state, 0), (ground, UNTOUCHED, vec![]));
+        }
     }
 }
 
@@ -232,18 +242,30 @@ fn a_full_store_in_read_only_memory() {
     assert_eq!(look_up(full, DESK, 127, 64), (0, 6363, 64));
     assert_eq!(look_up(full, FOYER, 127, 0), (NO_PRICE, UNTOUCHED, BY_TABLE));
     assert_eq!(look_up(full, FOYER, 129, 64), (NO_PRICE, UNTOUCHED, BY_TABLE));
-    assert_eq!(write_image(full, Some(0), 64_006), (0, 64_006, image));
+    assert_eq!(written(full, Image, Some(0), 64_006), (0, 64_006, image));
     // State 64 has the 64 odd offers up to 127 beside the even ones, at the prices of the last step.
     let mut tip = vec![0, 0, 0, 64];
     tip.extend(8064u16.to_be_bytes());
     let price = |offer: u32| if offer.is_multiple_of(2) { offer / 2 } else { 6300 + offer / 2 };
     let offers = (0..128).chain((128..16_000).step_by(2));
     tip.extend(offers.flat_map(|offer| entry(offer, Some(price(offer))).to_be_bytes()));
-    assert_eq!(write_image(full, Some(64), 64_518), (0, 64_518, tip.clone()));
-    assert_eq!(write_image(full, None, 64_518), (0, 64_518, tip));
+    assert_eq!(written(full, Image, Some(64), 64_518), (0, 64_518, tip.clone()));
+    assert_eq!(written(full, Image, None, 64_518), (0, 64_518, tip));
+    // Rows 0 to 3 have all seats at state 64, and the other 496 the even ones.
+    let mut numbers = vec![64, 500];
+    for row in 0..500 {
+        numbers.extend([64 * row, if row < 4 { u32::MAX } else { 0xAAAA_AAAA }]);
+        let seats = (0..32).filter(|seat| row < 4 || seat % 2 == 0);
+        numbers.extend(seats.map(|seat| price(32 * row + seat)));
+    }
+    let sheet: Vec<u8> = numbers.into_iter().flat_map(u32::to_be_bytes).collect();
+    assert_eq!(sheet.len(), 8 + 8 * 500 + 4 * 8064);
+    assert_eq!(written(full, Sheet, Some(64), sheet.len()), (0, 36_264, sheet.clone()));
+    assert_eq!(written(full, Sheet, None, sheet.len()), (0, 36_264, sheet));
 }
 
-/// The list of a commit, the image of a load, and the read set and orders of a batch, whether they are accepted or not.
+/// The list of a commit, the image and the sheet of a load, and the read set and orders of a batch, whether they are accepted or
+/// not.
 #[test]
 fn inputs_in_read_only_memory() {
     let mut lent = store();
@@ -252,6 +274,9 @@ fn inputs_in_read_only_memory() {
     }
     for (image, code) in [(&IMAGE[..], 0), (&IMAGE[..21], 15)] {
         assert_eq!(lent.lend().load(read_only(image)), code);
+    }
+    for (sheet, code) in [(&SHEET[..], 0), (&SHEET[..23], 15)] {
+        assert_eq!(lent.lend().load_sheet(read_only(sheet)), code);
     }
     let (reads, mut out, mut count) = (read_only(&[entry(5, Some(1200))]), [7; 2], UNTOUCHED);
     let order = |kind: u64, amount: u64| kind << 56 | amount << 31 | 5;

@@ -5,8 +5,8 @@ use ffi::Lent;
 use model::word::entry;
 use std::thread;
 
-/// What the header says that a flush and the image of a state above the checkpoint need at most, and any other call; and what a
-/// thread has beside it for itself and for the test.
+/// What the header says that a flush and the image or the sheet of a state above the checkpoint need at most, and any other call;
+/// and what a thread has beside it for itself and for the test.
 const MOST: usize = 160 << 10;
 const OTHERS: usize = 32 << 10;
 const REST: usize = 16 << 10;
@@ -60,10 +60,28 @@ fn the_image_of_a_state_above_the_checkpoint() {
     }
 }
 
+/// The same of its sheet: all seats of 256 rows and half of those of 244 more, at the most, and half of those of 500.
+#[test]
+fn the_sheet_of_a_state_above_the_checkpoint() {
+    for (new, length) in [(true, 8 + 8 * 500 + 4 * 12_096), (false, 8 + 8 * 500 + 4 * 8000)] {
+        let lent = full(new);
+        let mut bytes = vec![0; length];
+        with_stack(MOST, move || {
+            let mut value = 0;
+            assert_eq!((lent.to_read().write_sheet(&mut bytes, &mut value), value), (0, length as u64));
+            assert_eq!(lent.to_read().write_state_sheet(64, &mut bytes, &mut value), 0);
+            assert_eq!(lent.to_read().write_state_sheet(63, &mut bytes, &mut value), 0);
+            assert_eq!(lent.to_read().write_state_sheet(1, &mut bytes, &mut value), 0);
+            assert_eq!(lent.to_read().write_state_sheet(64, &mut bytes[1..], &mut value), 17);
+            assert_eq!(lent.to_read().write_sheet(&mut [], &mut value), 17);
+        });
+    }
+}
+
 #[test]
 fn every_other_call() {
     let mut lent = full(false);
-    let mut bytes = vec![0; 64_006];
+    let (mut bytes, mut sheet) = (vec![0; 64_006], vec![0; 8 + 8 * 500 + 4 * 8000]);
     with_stack(OTHERS, move || {
         let (mut value, mut since) = (0, 0);
         let mut reads: Vec<u64> = (0..64).map(|k| entry(2 * k, None)).collect();
@@ -90,14 +108,19 @@ fn every_other_call() {
         assert_eq!(lent.to_read().write_state_image(0, &mut bytes, &mut value), 0);
         assert_eq!(lent.to_read().write_state_image(0, &mut bytes[1..], &mut value), 17);
         assert_eq!(lent.to_read().write_state_image(33, &mut bytes, &mut value), 11);
+        assert_eq!(lent.to_read().write_state_sheet(0, &mut sheet, &mut value), 0);
+        assert_eq!(lent.to_read().write_state_sheet(0, &mut sheet[1..], &mut value), 17);
+        assert_eq!(lent.to_read().write_state_sheet(33, &mut sheet, &mut value), 11);
         assert_eq!(lent.lend().restart(&mut bytes), 0);
         assert_eq!(lent.to_read().write_image(&mut bytes, &mut value), 0);
         assert_eq!(lent.lend().load(&bytes), 0);
+        assert_eq!(lent.to_read().write_sheet(&mut sheet, &mut value), 0);
+        assert_eq!(lent.lend().load_sheet(&sheet), 0);
         assert_eq!(lent.lend().clear(), 0);
     });
 }
 
-/// The checkpoint's image is no larger for a tip that the table has no room for.
+/// The checkpoint's image and its sheet are no larger for a tip that the table has no room for.
 #[test]
 fn the_checkpoint_below_a_large_tip() {
     let mut lent = full(true);
@@ -105,6 +128,7 @@ fn the_checkpoint_below_a_large_tip() {
     with_stack(OTHERS, move || {
         let mut value = 0;
         assert_eq!((lent.to_read().write_state_image(0, &mut bytes, &mut value), value), (0, 64_006));
+        assert_eq!((lent.to_read().write_state_sheet(0, &mut bytes, &mut value), value), (0, 36_008));
         assert_eq!(lent.lend().restart(&mut bytes), 0);
         assert_eq!((lent.to_read().write_image(&mut bytes, &mut value), value), (0, 64_006));
     });

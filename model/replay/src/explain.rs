@@ -1,12 +1,13 @@
 //! What a line prints with `--explain`: each call and its answer as a person says them.
 
-use crate::phrases::{count, entry, freshness, order, question, words};
+use crate::phrases::{article, count, entry, file, freshness, order, question, words};
 use crate::shown;
 use cechnuol::Refusal;
 use ffi::library::Library;
 use ffi::said::{Said, UNTOUCHED};
 use ffi::NO_PRICE;
 use model::caller::Caller;
+use model::format::Format;
 use model::script::{file_bytes, parse, perform, Command, Line, Poke, Quoted, Reason};
 use model::unit::Call;
 
@@ -16,7 +17,9 @@ pub fn respond(library: &mut Library, line: &[u8]) -> Result<Vec<String>, Reason
         Line::Blank => Ok(Vec::new()),
         Line::NoCall(reason) => Err(reason),
         Line::Command(Command::Call(call)) => Ok(vec![served(library, &call)]),
-        Line::Command(Command::LoadFile { name }) => load_file(library, &name).map(|text| vec![text]),
+        Line::Command(Command::LoadFile { format, name }) => {
+            load_file(library, format, &name).map(|text| vec![text])
+        }
         Line::Command(command) => {
             perform(library, &command)?;
             Ok(explained(library, &command))
@@ -32,11 +35,12 @@ fn served(library: &mut Library, call: &Call) -> String {
     format!("{by}{request}: {}", answer(call, &said))
 }
 
-fn load_file(library: &mut Library, name: &[u8]) -> Result<String, Reason> {
+fn load_file(library: &mut Library, format: Format, name: &[u8]) -> Result<String, Reason> {
     library.bytes = file_bytes(name)?;
     let length = count(library.bytes.len() as u64, "byte");
-    let said = library.serve(&Call::Load);
-    Ok(format!("load the file {}, {length}: {}", Quoted::new(name), answer(&Call::Load, &said)))
+    let call = Call::Load { format };
+    let said = library.serve(&call);
+    Ok(format!("load the {} {}, {length}: {}", file(format), Quoted::new(name), answer(&call, &said)))
 }
 
 /// What is shown, or set: the latter as a script writes it, but for words.
@@ -57,9 +61,11 @@ fn explained(library: &mut Library, command: &Command) -> Vec<String> {
 fn request(library: &Library, call: &Call) -> String {
     match call {
         Call::Clear => "clear".to_string(),
-        Call::Load => format!("load an image of {}", count(library.bytes.len() as u64, "byte")),
-        Call::WriteImage { state: None } => "write the image of the tip".to_string(),
-        Call::WriteImage { state: Some(state) } => format!("write the image of state {state}"),
+        Call::Load { format } => {
+            format!("load {} of {}", article(*format), count(library.bytes.len() as u64, "byte"))
+        }
+        Call::Write { format, state: None } => format!("write the {format} of the tip"),
+        Call::Write { format, state: Some(state) } => format!("write the {format} of state {state}"),
         Call::Restart => "restart".to_string(),
         Call::Commit { list } => format!("commit {}", words(list, entry)),
         Call::RollBack { state } => format!("roll back to state {state}"),
@@ -100,7 +106,7 @@ fn accepted(call: &Call, said: &Said) -> String {
             format!("ok{}", since(said))
         }
         Call::LookUp { .. } => format!("price {}{}", said.value, since(said)),
-        Call::WriteImage { .. } => format!("ok, {}", count(said.value, "byte")),
+        Call::Write { .. } => format!("ok, {}", count(said.value, "byte")),
         Call::Issue { .. } | Call::Forward { .. } => format!("ok: {}", words(&said.words, entry)),
         Call::PriceBatch { .. } => format!("ok: {}", words(written(said), entry)),
         _ => format!("ok {}", said.value),

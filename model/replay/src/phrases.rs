@@ -2,6 +2,7 @@
 
 use ffi::BY_TABLE;
 use model::batch::order_offer;
+use model::format::Format;
 use model::word::{is_entry, kind, offer, price};
 
 /// An entry word: an offer's price, or that it has none.
@@ -57,6 +58,22 @@ pub fn listed(phrases: impl Iterator<Item = String>, between: &str) -> String {
         "nothing".to_string()
     } else {
         phrases.join(between)
+    }
+}
+
+/// An image or a sheet.
+pub fn article(format: Format) -> &'static str {
+    match format {
+        Format::Image => "an image",
+        Format::Sheet => "a sheet",
+    }
+}
+
+/// A file that is loaded as an image, or as a sheet.
+pub fn file(format: Format) -> &'static str {
+    match format {
+        Format::Image => "file",
+        Format::Sheet => "sheet file",
     }
 }
 

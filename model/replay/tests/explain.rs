@@ -48,6 +48,28 @@ restart # -> restart: ok
 }
 
 #[test]
+fn sheets() {
+    explains(
+        "lend table 1 # -> lend table 1
+lend journal 2 # -> lend journal 2
+clear # -> clear: ok
+commit 80000005000004B0 80000020000002BC # -> commit offer 5 price 1200, offer 32 price 700: ok
+lend bytes 31 # -> lend bytes 31
+write_sheet # -> write the sheet of the tip: refused 17 OUTPUT_SHORT: the output is shorter than what is to be written
+write_sheet 0 # -> write the sheet of state 0: ok, 8 bytes
+write_sheet 2 # -> write the sheet of state 2: refused 11 STATE_RANGE: the state is below the checkpoint or above the tip
+load_sheet # -> load a sheet of 31 bytes: refused 15 BAD_IMAGE: the length, the order or a bit of the image or sheet is wrong
+lend bytes 32 # -> lend bytes 32
+write_sheet 1 # -> write the sheet of state 1: ok, 32 bytes
+load_sheet # -> load a sheet of 32 bytes: refused 16 TABLE_FULL: the state has more prices than the table has words
+lend table 2 # -> lend table 2
+load_sheet # -> load a sheet of 32 bytes: ok
+look_up 32 1 # -> look up offer 32 at state 1: price 700, by the table
+",
+    );
+}
+
+#[test]
 fn images() {
     explains(
         "lend table 1 # -> lend table 1
@@ -157,7 +179,18 @@ look_up 5 7 # -> look up offer 5 at state 7: price 1200, by the table
 load_file tests # -> no call: 'tests' is a directory
 load_file ../../tests/listing/no_input.in # -> \
 load the file '../../tests/listing/no_input.in', 0 bytes: refused 15 BAD_IMAGE: \
-the length, the order of offers or a kind bit of the image is wrong
+the length, the order or a bit of the image or sheet is wrong
+load_sheet_file ../../tests/sheets/two_rows.sheet # -> \
+load the sheet file '../../tests/sheets/two_rows.sheet', 36 bytes: refused 16 TABLE_FULL: \
+the state has more prices than the table has words
+lend table 3 # -> lend table 3
+load_sheet_file ../../tests/sheets/two_rows.sheet # -> load the sheet file '../../tests/sheets/two_rows.sheet', 36 bytes: ok
+look_up 31 8 # -> look up offer 31 at state 8: price 4, by the table
+load_sheet_file tests # -> no call: 'tests' is a directory
+load_sheet_file # -> no call: too few arguments: load_sheet_file NAME
+load_sheet_file ../../tests/listing/paper.in # -> \
+load the sheet file '../../tests/listing/paper.in', 14 bytes: refused 15 BAD_IMAGE: \
+the length, the order or a bit of the image or sheet is wrong
 ",
     );
 }

@@ -70,6 +70,20 @@ fn images() {
     assert_eq!(printed(script), expected);
 }
 
+/// The sheet of each state, of one that the table has no room for too, and loaded where there is room.
+#[test]
+fn sheets() {
+    let script = b"lend table 1\nlend journal 2\nclear\ncommit 80000005000004B0 80000020000002BC\nlend bytes 34\n\
+        write_sheet\nshow bytes 0 34\nwrite_sheet 0\nshow bytes 0 8\nwrite_sheet 1\nwrite_sheet 2\nlend bytes 31\n\
+        write_sheet\nwrite_sheet 1\nlend bytes 32\nwrite_sheet\nload_sheet\nlend table 2\nload_sheet\nload\nshow head\n";
+    let expected = "line 3: ok\nline 4: ok\nline 6: ok 32\n\
+        line 7: bytes from 0 00 00 00 01 00 00 00 02 00 00 00 00 04 00 00 00 00 00 04 B0 00 00 00 40 80 00 00 00 00 00 02 BC \
+        00 00\nline 8: ok 8\nline 9: bytes from 0 00 00 00 00 00 00 00 00\nline 10: ok 32\nline 11: refused 11\n\
+        line 13: refused 17\nline 14: refused 17\nline 16: ok 32\nline 17: refused 16\nline 19: ok\nline 20: refused 15\n\
+        line 21: head used 2 oldest 1 checkpoint 1 tip 1 held 00000000 issued 0 0 0 0 0 0 0 0 ends\n";
+    assert_eq!(printed(script), expected);
+}
+
 #[test]
 fn lines_of_any_bytes() {
     assert_eq!(printed(b""), "");
@@ -88,8 +102,10 @@ fn a_refused_call_goes_well() {
 
 #[test]
 fn wrong_arguments() {
-    let usage = "usage: replay [--explain] [FILE..]\n";
-    for arguments in [&["--x"][..], &["-x"], &["-", "--explained"], &["--help", "-h"]] {
+    let usage = "usage: replay [--explain] [FILE..] | replay --sheet [FILE]\n";
+    let wrong = [&["--x"][..], &["-x"], &["-", "--explained"], &["--help", "-h"]];
+    let sheets = [&["--sheet", "--explain"][..], &["--sheet", "-", "-"], &["--sheets"]];
+    for arguments in wrong.into_iter().chain(sheets) {
         assert_eq!(ran(arguments, b""), (2, String::new(), usage.to_string()), "{arguments:?}");
     }
     let (status, stdout, stderr) = ran(&["--help"], b"");

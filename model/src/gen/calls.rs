@@ -3,25 +3,27 @@
 use super::Generator;
 use crate::batch::{order, priced, ORDERS};
 use crate::caller::Caller;
-use crate::changes::{changes_of, words_of, Changes};
+use crate::changes::{changes_of, map_words, words_of, Changes};
+use crate::format::{Format, FORMATS};
 use crate::image;
 use crate::script::LIST_WORDS;
+use crate::sheet::{self, Row};
 use crate::store::STATE_OFFERS;
 use crate::unit::Call;
 use crate::word;
 
 /// How often each call is drawn, in the order of [`Generator::one_call`]. What begins a store anew is rare, so that stores live
 /// long enough for open slots to fall behind the checkpoint and for steps to run out.
-pub(super) const WEIGHTS: [usize; 12] = [1, 6, 30, 3, 100, 24, 44, 70, 52, 40, 10, 40];
+pub(super) const WEIGHTS: [usize; 12] = [1, 9, 38, 3, 100, 24, 44, 70, 52, 40, 10, 40];
 
 /// The same on damaged memory and on memory of wrong lengths: each call, but seldom one that mends the store.
-pub(super) const EVEN: [usize; 12] = [1, 1, 8, 4, 4, 4, 4, 4, 4, 4, 4, 2];
+pub(super) const EVEN: [usize; 12] = [1, 2, 12, 4, 4, 4, 4, 4, 4, 4, 4, 2];
 
 /// Amounts are numbers below this.
 const AMOUNTS: usize = 1 << 25;
 
 /// The indices of some calls.
-pub(super) const WRITE_IMAGE: usize = 2;
+pub(super) const WRITE: usize = 2;
 pub(super) const COMMIT: usize = 4;
 pub(super) const FLUSH: usize = 6;
 pub(super) const LOOK_UP: usize = 7;
@@ -33,7 +35,7 @@ impl Generator {
         let call = match which {
             0 => Call::Clear,
             1 => self.load(),
-            WRITE_IMAGE => self.write_image(),
+            WRITE => self.write(),
             3 => self.restart(),
             COMMIT => Call::Commit { list: self.list_for_commit() },
             5 => Call::RollBack { state: self.state() },
@@ -106,70 +108,87 @@ impl Generator {
         Call::Release { caller, slot }
     }
 
-    /// An image of a state that is named, or of none.
-    fn write_image(&mut self) -> Call {
+    /// An image or a sheet of a state that is named, or of none.
+    fn write(&mut self) -> Call {
+        let format = self.draw.rng.pick(&FORMATS);
         let state = if self.draw.rng.percent(65) { Some(self.state()) } else { None };
-        self.output_for(state.unwrap_or(self.unit.store.head.tip));
-        Call::WriteImage { state }
+        self.output_for(format, state.unwrap_or(self.unit.store.head.tip));
+        Call::Write { format, state }
     }
 
     fn restart(&mut self) -> Call {
-        self.output_for(self.unit.store.head.checkpoint);
+        self.output_for(Format::Image, self.unit.store.head.checkpoint);
         Call::Restart
     }
 
-    /// Lends bytes for the image of a state: as many as it needs, some more, too few, fewer than any image has, or as many as
-    /// another state's needs.
-    fn output_for(&mut self, state: u32) {
-        let exact = self.image_length(state);
+    /// Lends bytes for the image or the sheet of a state: as many as it needs, some more, too few, fewer than any has, or as many
+    /// as another state's needs.
+    fn output_for(&mut self, format: Format, state: u32) {
+        let exact = self.length_of(format, state);
         let length = match self.draw.rng.weighted(&[36, 18, 18, 8, 5, 10, 5]) {
             0 => exact,
             1 => exact + self.draw.rng.within(1, 20),
             2 => exact - 1,
             3 => self.draw.rng.below(exact),
-            4 => self.draw.rng.below(image::HEADER),
+            4 => self.draw.rng.below(format.fewest_bytes()),
             5 => {
                 let head = &self.unit.store.head;
                 let other = self.draw.rng.pick(&[head.checkpoint, head.tip]);
-                self.image_length(other)
+                self.length_of(format, other)
             }
             _ => return,
         };
         self.lend_output(length);
     }
 
-    /// The length of a state's image. A state that is not kept has none, nor has any of a store that is not sound; then it is
-    /// what the head's count gives.
-    fn image_length(&self, state: u32) -> usize {
+    /// The length of a state's image or sheet. A state that is not kept has none, nor has any of a store that is not sound; then
+    /// it is the most that the head's count gives.
+    fn length_of(&self, format: Format, state: u32) -> usize {
         let store = &self.unit.store;
-        let offers = if store.is_sound() && store.keeps(state) {
-            store.map_at(state).len()
-        } else {
-            store.head.used.min(STATE_OFFERS as u64) as usize
-        };
-        image::length(offers)
+        if store.is_sound() && store.keeps(state) {
+            return format.length(&map_words(&store.map_at(state)));
+        }
+        format.most_bytes(store.head.used.min(STATE_OFFERS as u64) as usize)
     }
 
-    /// Lends an image, often a broken one, to be loaded.
+    /// Lends an image or a sheet, often a broken one, to be loaded.
     fn load(&mut self) -> Call {
+        let format = self.draw.rng.pick(&FORMATS);
         let table = self.unit.store.table.len();
-        match self.draw.rng.weighted(&[50, 35, 15]) {
+        match self.draw.rng.weighted(&[45, 35, 12, 8]) {
             0 => {
                 let words = self.draw.map(table.min(100));
-                let bytes = image::write(self.draw.number(), &words);
+                let bytes = format.write(self.draw.number(), &words);
                 self.lend_bytes(&bytes);
             }
             1 => {
-                let bytes = self.broken_image();
+                let bytes = self.broken(format);
                 self.lend_bytes(&bytes);
             }
-            _ => {
+            2 => {
                 let count =
                     self.draw.rng.pick(&[table + 1, table + 1, table + 1, table, table, STATE_OFFERS]);
-                self.lend_series(count);
+                self.lend_series(format, count);
             }
+            _ => self.written_before(format),
         }
-        Call::Load
+        Call::Load { format }
+    }
+
+    /// Has the image or the sheet of a state written into bytes that are just enough.
+    fn written_before(&mut self, format: Format) {
+        let state = self.state();
+        let length = self.length_of(format, state);
+        self.lend_output(length);
+        self.call(Call::Write { format, state: Some(state) });
+    }
+
+    /// An image or a sheet with something wrong in it.
+    fn broken(&mut self, format: Format) -> Vec<u8> {
+        match format {
+            Format::Image => self.broken_image(),
+            Format::Sheet => self.broken_sheet(),
+        }
     }
 
     /// An image with something wrong in it.
@@ -200,6 +219,63 @@ impl Generator {
             _ => {}
         }
         bytes
+    }
+
+    /// A sheet with something wrong in it: in its rows, or in its count and length.
+    fn broken_sheet(&mut self) -> Vec<u8> {
+        let mut words = self.draw.map(20);
+        if words.is_empty() {
+            words.push(word::entry(self.draw.offer(), Some(self.draw.price())));
+        }
+        let rows = sheet::rows_of(&words);
+        let rows = if self.draw.rng.percent(50) { self.broken_rows(rows) } else { rows };
+        let mut bytes = sheet::header(self.draw.number(), rows.len() as u32);
+        bytes.extend(rows.iter().flat_map(Row::bytes));
+        self.perhaps_damaged(&mut bytes);
+        bytes
+    }
+
+    /// Rows of which one has no seat, stands twice, is parted in two, or stands before a lower one.
+    fn broken_rows(&mut self, mut rows: Vec<Row>) -> Vec<Row> {
+        let at = self.draw.rng.below(rows.len());
+        match self.draw.rng.below(4) {
+            0 => rows[at] = Row::of_number(rows[at].number),
+            1 => rows.insert(at, rows[at]),
+            2 => {
+                let mut first = rows[at];
+                let middle = self.draw.rng.below(sheet::SEATS);
+                first.seats[middle..].fill(None);
+                rows[at].seats[..middle].fill(None);
+                rows.insert(at, first);
+            }
+            _ => {
+                let mut lower = rows[at];
+                lower.number = self.draw.rng.below(lower.number as usize) as u32;
+                rows.insert(at + 1, lower);
+            }
+        }
+        rows
+    }
+
+    /// Changes the length of a sheet, its count of rows, the six bits of its first row, or any bit; or nothing.
+    fn perhaps_damaged(&mut self, bytes: &mut Vec<u8>) {
+        let count = u32::from_be_bytes([bytes[4], bytes[5], bytes[6], bytes[7]]);
+        let counts = [0, count - 1, count + 1, count + (1 << 24), 1 << 31, u32::MAX];
+        match self.draw.rng.weighted(&[3, 2, 1, 4, 2, 3, 3]) {
+            0 => {
+                let more = self.draw.rng.pick(&[1, 3, 4, 8, 12]);
+                bytes.extend((0..more).map(|_| self.draw.rng.bits() as u8));
+            }
+            1 => bytes.truncate(bytes.len() - self.draw.rng.within(1, 8)),
+            2 => bytes.truncate(self.draw.rng.below(sheet::HEADER)),
+            3 => bytes[4..8].copy_from_slice(&self.draw.rng.pick(&counts).to_be_bytes()),
+            4 => bytes[sheet::HEADER + 3] |= self.draw.rng.within(1, 63) as u8,
+            5 => {
+                let at = self.draw.rng.below(bytes.len());
+                bytes[at] ^= 1 << self.draw.rng.below(8);
+            }
+            _ => {}
+        }
     }
 
     // Batches.

@@ -1,14 +1,17 @@
 //! What generated scripts meet.
 
 use crate::caller::Caller;
+use crate::changes::map_words;
+use crate::format::Format;
 use crate::head::{Head, STEPS};
-use crate::image;
+use crate::sheet::{self, Fault, Row, SEATS};
 use crate::sound::Clause;
-use crate::store::Store;
+use crate::store::{Store, TABLE_WORDS};
 use crate::unit::{Answer, Call, Since, Unit};
+use crate::word;
 use std::collections::BTreeSet;
 
-/// An image that a sound store is asked for.
+/// An image or a sheet that a sound store is asked for.
 #[derive(Clone, Copy, Debug, PartialEq, Eq, PartialOrd, Ord)]
 pub struct Asked {
     /// The call's form.
@@ -17,10 +20,76 @@ pub struct Asked {
     pub above: bool,
     /// Whether it has more offers than the table has words.
     pub large: bool,
-    /// How many bytes more are lent than the image has: one or more as 1, two or more too few as -2.
+    /// How many bytes more are lent than it has: one or more as 1, two or more too few as -2.
     pub more: i64,
-    /// Whether the bytes lent would do for the image of the tip.
+    /// Whether the bytes lent would do for that of the tip.
     pub tip_fits: bool,
+}
+
+/// What a sheet may have that is loaded or written.
+#[derive(Clone, Copy, Debug, PartialEq, Eq, PartialOrd, Ord)]
+pub enum SheetHas {
+    NoRow,
+    OneRow,
+    SeveralRows,
+    /// A row with one seat, and one with all.
+    OneSeat,
+    AllSeats,
+    FirstSeat,
+    LastSeat,
+    FirstRow,
+    LastRow,
+    /// The last seat of a row and the first of the next one.
+    Neighbours,
+    LeastPrice,
+    MostPrice,
+    /// More offers than the table of 8,000 words has room for.
+    ManyOffers,
+}
+
+/// All of them.
+pub const SHEETS_HAVE: [SheetHas; 13] = [
+    SheetHas::NoRow,
+    SheetHas::OneRow,
+    SheetHas::SeveralRows,
+    SheetHas::OneSeat,
+    SheetHas::AllSeats,
+    SheetHas::FirstSeat,
+    SheetHas::LastSeat,
+    SheetHas::FirstRow,
+    SheetHas::LastRow,
+    SheetHas::Neighbours,
+    SheetHas::LeastPrice,
+    SheetHas::MostPrice,
+    SheetHas::ManyOffers,
+];
+
+impl SheetHas {
+    /// Whether the sheet of a map, with these rows, has this.
+    fn is_of(self, words: &[u64], rows: &[Row]) -> bool {
+        let any_row = |test: &dyn Fn(usize) -> bool| rows.iter().any(|row| test(row.priced().count()));
+        let any_offer = |test: &dyn Fn(u32) -> bool| words.iter().any(|&word| test(word::offer(word)));
+        let any_price = |price: u32| words.iter().any(|&word| word::price(word) == price);
+        let seat = |offer: u32| offer as usize % SEATS;
+        match self {
+            SheetHas::NoRow => rows.is_empty(),
+            SheetHas::OneRow => rows.len() == 1,
+            SheetHas::SeveralRows => rows.len() > 1,
+            SheetHas::OneSeat => any_row(&|seats| seats == 1),
+            SheetHas::AllSeats => any_row(&|seats| seats == SEATS),
+            SheetHas::FirstSeat => any_offer(&|offer| seat(offer) == 0),
+            SheetHas::LastSeat => any_offer(&|offer| seat(offer) == SEATS - 1),
+            SheetHas::FirstRow => any_offer(&|offer| offer < SEATS as u32),
+            SheetHas::LastRow => any_offer(&|offer| offer >= word::OFFERS - SEATS as u32),
+            SheetHas::Neighbours => words.windows(2).any(|pair| {
+                let [lower, upper] = [pair[0], pair[1]].map(word::offer);
+                seat(upper) == 0 && lower + 1 == upper
+            }),
+            SheetHas::LeastPrice => any_price(0),
+            SheetHas::MostPrice => any_price(u32::MAX),
+            SheetHas::ManyOffers => words.len() > TABLE_WORDS,
+        }
+    }
 }
 
 /// Where the last step naming an offer stands among the steps that a lookup searches.
@@ -92,9 +161,15 @@ pub struct Coverage {
     pub answers: BTreeSet<String>,
     /// A call's form and the clause that refused it by ground 2.
     pub broken: BTreeSet<(&'static str, Clause)>,
-    /// The images asked for, and the most offers of a state above the checkpoint among them.
-    pub images: BTreeSet<Asked>,
+    /// The images and sheets asked for, and the most offers of a state above the checkpoint among them.
+    pub asked: BTreeSet<Asked>,
     pub most_offers: usize,
+    /// What the sheets had that were written, and those that were lent to be loaded, with the call's word.
+    pub sheets: BTreeSet<(&'static str, SheetHas)>,
+    /// What was wrong first with bytes that were lent as a sheet and are none, and of the counts of rows that they say the
+    /// least and the most that there are.
+    pub faults: BTreeSet<Fault>,
+    pub counts: BTreeSet<u32>,
     /// The lookups that were answered.
     pub lookups: BTreeSet<LookedUp>,
     /// The lengths lent at calls.
@@ -108,34 +183,56 @@ pub struct Coverage {
 }
 
 impl Coverage {
-    /// Notes the image that a call is about to ask for, if it is one that there is.
-    pub fn note_image(&mut self, unit: &Unit, call: &Call) {
+    /// Notes the image or the sheet that a call is about to ask for, if it is one that there is.
+    pub fn note_asked(&mut self, unit: &Unit, call: &Call) {
         let Unit { store, bytes, .. } = unit;
-        let state = match call {
-            Call::WriteImage { state } => state.unwrap_or(store.head.tip),
-            Call::Restart => store.head.checkpoint,
+        let (format, state) = match call {
+            Call::Write { format, state } => (*format, state.unwrap_or(store.head.tip)),
+            Call::Restart => (Format::Image, store.head.checkpoint),
             _ => return,
         };
         if !store.is_sound() || !store.keeps(state) {
             return;
         }
-        let [offers, at_tip] = [state, store.head.tip].map(|state| store.map_at(state).len());
+        let [words, at_tip] = [state, store.head.tip].map(|state| map_words(&store.map_at(state)));
         let above = state > store.head.checkpoint;
-        let more = bytes.len() as i64 - image::length(offers) as i64;
-        self.images.insert(Asked {
+        let more = bytes.len() as i64 - format.length(&words) as i64;
+        self.asked.insert(Asked {
             form: call.form(),
             above,
-            large: offers > store.table.len(),
+            large: words.len() > store.table.len(),
             more: more.clamp(-2, 1),
-            tip_fits: image::length(at_tip) <= bytes.len(),
+            tip_fits: format.length(&at_tip) <= bytes.len(),
         });
         if above {
-            self.most_offers = self.most_offers.max(offers);
+            self.most_offers = self.most_offers.max(words.len());
+        }
+        if format == Format::Sheet && more >= 0 {
+            self.note_sheet(call, &words);
         }
     }
 
-    /// Notes a call, its answer, the clause that was broken before it, and the store after it.
-    pub fn note(&mut self, call: &Call, answer: Answer, broken: Option<Clause>, store: &Store) {
+    fn note_sheet(&mut self, call: &Call, words: &[u64]) {
+        let rows = sheet::rows_of(words);
+        let has = SHEETS_HAVE.iter().filter(|has| has.is_of(words, &rows));
+        self.sheets.extend(has.map(|&has| (call.name(), has)));
+    }
+
+    /// Notes the bytes that are loaded as a sheet.
+    fn note_load(&mut self, call: &Call, bytes: &[u8]) {
+        if let Ok((_, words)) = sheet::read(bytes) {
+            self.note_sheet(call, &words);
+        }
+        if let Err(broken) = sheet::read_rows(bytes) {
+            self.faults.insert(broken.fault);
+            let count = bytes.get(4..8).and_then(|count| count.try_into().ok()).map(u32::from_be_bytes);
+            self.counts.extend(count.filter(|&count| count == 0 || count == u32::MAX));
+        }
+    }
+
+    /// Notes a call, its answer, the clause that was broken before it, and store and bytes after it.
+    pub fn note(&mut self, call: &Call, answer: Answer, broken: Option<Clause>, unit: &Unit) {
+        let Unit { store, bytes, .. } = unit;
         let kind = answer.kind();
         let accepted = !matches!(answer, Answer::Refused(_));
         self.answers.insert(format!("{} {kind}", call.form()));
@@ -143,6 +240,9 @@ impl Coverage {
             self.broken.insert((call.form(), clause));
         }
         self.lookups.extend(LookedUp::of(call, answer, store));
+        if matches!(call, Call::Load { format: Format::Sheet }) {
+            self.note_load(call, bytes);
+        }
         self.tables.insert(store.table.len());
         self.journals.insert(store.journal.len());
         let list = match call {
@@ -161,8 +261,11 @@ impl Coverage {
     pub fn add(&mut self, other: Coverage) {
         self.answers.extend(other.answers);
         self.broken.extend(other.broken);
-        self.images.extend(other.images);
+        self.asked.extend(other.asked);
         self.most_offers = self.most_offers.max(other.most_offers);
+        self.sheets.extend(other.sheets);
+        self.faults.extend(other.faults);
+        self.counts.extend(other.counts);
         self.lookups.extend(other.lookups);
         self.tables.extend(other.tables);
         self.journals.extend(other.journals);

@@ -32,7 +32,7 @@ impl Generator {
             repairs.extend(undoing(&self.unit, &command));
             self.emit(command);
         }
-        let count = self.draw.rng.within(1, 3);
+        let count = self.draw.rng.within(1, 4);
         self.any_calls(count);
         if !self.unit.store.is_sound() && self.draw.rng.percent(90) {
             while let Some(repair) = repairs.pop() {

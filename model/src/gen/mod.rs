@@ -7,7 +7,7 @@ mod damage;
 mod noise;
 mod setup;
 
-pub use coverage::{Asked, Coverage, LookedUp, Place};
+pub use coverage::{Asked, Coverage, LookedUp, Place, SheetHas, SHEETS_HAVE};
 
 use crate::draw::Draw;
 use crate::script::{perform, Command, Show, TallyField};
@@ -84,9 +84,9 @@ impl Generator {
     fn call(&mut self, call: Call) {
         let broken =
             sound::first_broken(&self.unit.store.table, &self.unit.store.journal, &self.unit.store.head);
-        self.coverage.note_image(&self.unit, &call);
+        self.coverage.note_asked(&self.unit, &call);
         let reply = self.unit.serve(&call);
-        self.coverage.note(&call, reply.answer, broken, &self.unit.store);
+        self.coverage.note(&call, reply.answer, broken, &self.unit);
         self.items.push(Item::Command(Command::Call(call)));
         self.calls += 1;
         if self.draw.rng.percent(35) {
@@ -132,7 +132,8 @@ impl Generator {
         }
     }
 
-    /// Long lists of offers that are mostly new, until they are refused, and images of the states that they lead to.
+    /// Long lists of offers that are mostly new, until they are refused, and images and sheets of the states that they lead
+    /// to.
     fn many_offers(&mut self) {
         let mut offer = self.draw.rng.below(100) as u32;
         for _ in 0..self.draw.rng.within(2, 64) {
@@ -147,8 +148,8 @@ impl Generator {
             }
             offer += rise * self.draw.rng.pick(&[32, length, length]);
         }
-        for _ in 0..3 {
-            self.one_call(calls::WRITE_IMAGE);
+        for _ in 0..5 {
+            self.one_call(calls::WRITE);
         }
     }
 

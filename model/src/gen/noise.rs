@@ -4,20 +4,25 @@ use super::{Generator, Item};
 use crate::script::{respond, LINE_BYTES};
 
 /// Lines that are no call on any memory, for one reason each.
-const NO_CALLS: [&str; 52] = [
+const NO_CALLS: [&str; 60] = [
     "Clear",
     "clear 0",
     "drop 1",
     "load 14",
+    "load_sheet 20",
     "load_file",
     "load_file .",
     "load_file no/such/file",
     "load_file /dev/zero",
+    "load_sheet_file",
+    "load_sheet_file .",
+    "load_sheet_file no/such/file",
+    "load_sheet_file /dev/zero",
     "lend",
     "lend table",
     "lend table 8193",
     "lend journal 4609",
-    "lend bytes 98305",
+    "lend bytes 147457",
     "lend words 5",
     "lend table 1 2",
     "poke table 0",
@@ -48,6 +53,9 @@ const NO_CALLS: [&str; 52] = [
     "write_image tip",
     "write_image 0 0",
     "write_image 4294967296",
+    "write_sheet tip",
+    "write_sheet 0 0",
+    "write_sheet 4294967296",
     "look_up 5",
     "look_up foyer 5",
     "foyer issue 6",

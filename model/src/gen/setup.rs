@@ -1,18 +1,23 @@
-//! Lending memory, and images to load.
+//! Lending memory, and images and sheets to load.
 
 use super::Generator;
+use crate::format::{Format, FORMATS};
 use crate::image;
 use crate::script::{Command, HeadField, Memory, Poke, BYTES, LIST_WORDS};
+use crate::sheet::{self, SEATS};
 use crate::store::{JOURNAL_WORDS, TABLE_WORDS};
 use crate::unit::Call;
 use crate::word;
+
+/// So many offers, or fewer, are written out in a script one by one.
+const FEW: usize = 200;
 
 impl Generator {
     /// Lends table and journal anew, at times first with lengths out of range, and fills them.
     pub(super) fn set_up(&mut self) {
         if self.draw.rng.percent(25) {
             self.lend_out_of_range();
-            let count = self.draw.rng.within(1, 10);
+            let count = self.draw.rng.within(1, 14);
             self.any_calls(count);
         }
         let (table, journal) = (self.table_length(), self.journal_length());
@@ -90,33 +95,85 @@ impl Generator {
         }
     }
 
-    /// Loads an image with some offers of the pool.
+    /// Loads an image or a sheet with some offers of the pool.
     fn load_some(&mut self) {
+        let format = self.draw.rng.pick(&FORMATS);
         let words = self.draw.map(self.unit.store.table.len());
-        let bytes = image::write(self.draw.number(), &words);
+        let bytes = format.write(self.draw.number(), &words);
         self.lend_bytes(&bytes);
-        self.call(Call::Load);
+        self.call(Call::Load { format });
     }
 
-    /// Loads an image that has as many offers as the table has words, one more or one less.
+    /// Loads an image or a sheet that has as many offers as the table has words, one more or one less.
     fn load_to_the_brim(&mut self) {
+        let format = self.draw.rng.pick(&FORMATS);
         let table = self.unit.store.table.len();
         let count = self.draw.rng.pick(&[table, table, table - 1, table + 1]);
-        self.lend_series(count);
-        self.call(Call::Load);
+        self.lend_series(format, count);
+        self.call(Call::Load { format });
     }
 
     /// Lends bytes and writes them there.
     pub(super) fn lend_bytes(&mut self, bytes: &[u8]) {
         self.emit(Command::Lend { memory: Memory::Bytes, length: bytes.len() as u64 });
+        self.poke_bytes(0, bytes);
+    }
+
+    /// Writes bytes from an index on.
+    fn poke_bytes(&mut self, at: usize, bytes: &[u8]) {
         for (index, part) in bytes.chunks(LIST_WORDS).enumerate() {
-            let at = (index * LIST_WORDS) as u64;
+            let at = (at + index * LIST_WORDS) as u64;
             self.emit(Command::Poke { at, poke: Poke::Bytes(part.to_vec()) });
         }
     }
 
+    /// Lends an image or a sheet of so many offers that rise by a step.
+    pub(super) fn lend_series(&mut self, format: Format, count: usize) {
+        match format {
+            Format::Image => self.lend_image_series(count),
+            Format::Sheet if count <= FEW => self.lend_sheet_series(count),
+            Format::Sheet => self.lend_full_rows(count),
+        }
+    }
+
+    /// Lends a sheet of few offers that rise by a step: some in each row, all in it, or one.
+    fn lend_sheet_series(&mut self, count: usize) {
+        let first = self.draw.rng.below(40) as u32;
+        let rise = self.draw.rng.pick(&[1, 1, 2, 31, 32, 33]);
+        let words: Vec<u64> =
+            (0..count as u32).map(|k| word::entry(first + rise * k, Some(self.draw.price()))).collect();
+        let bytes = sheet::write(self.draw.number(), &words);
+        self.lend_bytes(&bytes);
+    }
+
+    /// Lends a sheet of many offers: rows with all their seats, the last with those that are left; each at its number as price.
+    fn lend_full_rows(&mut self, count: usize) {
+        let offers: Vec<u64> = (0..count as u32).map(|offer| word::entry(offer, Some(offer))).collect();
+        let length = sheet::length(&offers);
+        self.emit(Command::Lend { memory: Memory::Bytes, length: length as u64 });
+        let rows = sheet::rows_of(&offers);
+        let header = sheet::header(self.draw.number(), rows.len() as u32);
+        self.poke_bytes(0, &header);
+        let mut at = header.len();
+        for row in rows {
+            let bytes = row.bytes();
+            let (start, prices) = bytes.split_at(8);
+            self.poke_bytes(at, start);
+            at += start.len();
+            if prices.len() == 4 * SEATS {
+                // Two prices to a word.
+                let (first, count) = (u64::from(row.number) * SEATS as u64, SEATS as u64 / 2);
+                let (word, rise) = (first << 32 | (first + 1), 2 << 32 | 2);
+                self.emit(Command::Fill { memory: Memory::Bytes, at: at as u64, count, word, rise });
+            } else {
+                self.poke_bytes(at, prices);
+            }
+            at += prices.len();
+        }
+    }
+
     /// Lends an image of so many offers that rise by a step, with rising prices.
-    pub(super) fn lend_series(&mut self, count: usize) {
+    fn lend_image_series(&mut self, count: usize) {
         let length = image::length(count).min(BYTES as usize);
         self.emit(Command::Lend { memory: Memory::Bytes, length: length as u64 });
         let header = image::write(self.draw.number(), &[])[..4].to_vec();

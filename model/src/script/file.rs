@@ -1,4 +1,4 @@
-//! Image files that a script names.
+//! Image and sheet files that a script names.
 
 use super::{Quoted, Reason, BYTES};
 use std::ffi::OsStr;

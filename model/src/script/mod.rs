@@ -17,6 +17,7 @@ pub use perform::perform;
 pub use reason::{Quoted, Reason};
 pub use write::words_text;
 
+use crate::format::Format;
 use crate::unit::Call;
 use std::io::{self, BufRead, Write};
 
@@ -28,8 +29,8 @@ pub const LIST_WORDS: usize = 80;
 pub const TABLE_WORDS: u64 = 8192;
 /// The longest journal that can be lent.
 pub const JOURNAL_WORDS: u64 = 4608;
-/// The most bytes that can be lent.
-pub const BYTES: u64 = 98_304;
+/// The most bytes that can be lent: more than the longest sheet has, which is one of 12,096 rows.
+pub const BYTES: u64 = 147_456;
 
 /// A lent memory.
 #[derive(Clone, Copy, Debug, PartialEq, Eq)]
@@ -100,6 +101,7 @@ pub enum Command {
     Show(Show),
     /// Lends the bytes of a file and loads them.
     LoadFile {
+        format: Format,
         name: Vec<u8>,
     },
     Call(Call),

@@ -6,6 +6,7 @@ use super::token::{
 use super::{Command, HeadField, Memory, Poke, Quoted, Reason, Show, TallyField};
 use super::{BYTES, JOURNAL_WORDS, LINE_BYTES, LIST_WORDS, TABLE_WORDS};
 use crate::caller::Caller;
+use crate::format::Format;
 use crate::head::{SLOTS, STEPS};
 use crate::unit::Call;
 
@@ -43,7 +44,8 @@ fn command(first: Token, rest: &[Token]) -> Result<Command, Reason> {
         b"head" => head(rest).map(Command::Head),
         b"tally" => tally(rest).map(Command::Tally),
         b"show" => show(rest).map(Command::Show),
-        b"load_file" => load_file(rest),
+        b"load_file" => load_file("load_file NAME", Format::Image, rest),
+        b"load_sheet_file" => load_file("load_sheet_file NAME", Format::Sheet, rest),
         _ => call(first, rest).map(Command::Call),
     }
 }
@@ -145,16 +147,18 @@ fn show_memory(memory: Memory, tokens: &[Token]) -> Result<Show, Reason> {
     Ok(Show::Part { memory, at: number("I", at)?, count: number_to(LIST_WORDS as u64, "N", count)? })
 }
 
-fn load_file(tokens: &[Token]) -> Result<Command, Reason> {
-    let [name] = exactly("load_file NAME", tokens)?;
-    Ok(Command::LoadFile { name: name.to_vec() })
+fn load_file(form: &str, format: Format, tokens: &[Token]) -> Result<Command, Reason> {
+    let [name] = exactly(form, tokens)?;
+    Ok(Command::LoadFile { format, name: name.to_vec() })
 }
 
 fn call(first: Token, rest: &[Token]) -> Result<Call, Reason> {
     match first {
         b"clear" => exactly("clear", rest).map(|[]| Call::Clear),
-        b"load" => exactly("load", rest).map(|[]| Call::Load),
-        b"write_image" => write_image(rest),
+        b"load" => exactly("load", rest).map(|[]| Call::Load { format: Format::Image }),
+        b"load_sheet" => exactly("load_sheet", rest).map(|[]| Call::Load { format: Format::Sheet }),
+        b"write_image" => write(Format::Image, rest),
+        b"write_sheet" => write(Format::Sheet, rest),
         b"restart" => exactly("restart", rest).map(|[]| Call::Restart),
         b"commit" => Ok(Call::Commit { list: words(rest)? }),
         b"roll_back" => {
@@ -175,12 +179,12 @@ fn call(first: Token, rest: &[Token]) -> Result<Call, Reason> {
 }
 
 /// The state need not be named.
-fn write_image(tokens: &[Token]) -> Result<Call, Reason> {
+fn write(format: Format, tokens: &[Token]) -> Result<Call, Reason> {
     if tokens.is_empty() {
-        return Ok(Call::WriteImage { state: None });
+        return Ok(Call::Write { format, state: None });
     }
-    let [state] = exactly("write_image STATE", tokens)?;
-    Ok(Call::WriteImage { state: Some(number_32("STATE", state)?) })
+    let [state] = exactly(&format!("write_{format} STATE"), tokens)?;
+    Ok(Call::Write { format, state: Some(number_32("STATE", state)?) })
 }
 
 /// Who calls, with what a form has there, and what follows. Where neither word stands, it is the desk.

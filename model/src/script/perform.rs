@@ -19,9 +19,9 @@ pub fn perform(holding: &mut impl Holding, command: &Command) -> Result<Vec<Stri
         Command::Tally(field) => holding.set_tally(*field),
         Command::Show(what) => return show(holding, *what),
         Command::Call(call) => return Ok(vec![holding.answer(call)]),
-        Command::LoadFile { name } => {
+        Command::LoadFile { format, name } => {
             *holding.memories().bytes = file_bytes(name)?;
-            return Ok(vec![holding.answer(&Call::Load)]);
+            return Ok(vec![holding.answer(&Call::Load { format: *format })]);
         }
     }
     Ok(Vec::new())

@@ -2,6 +2,7 @@
 
 use super::{Command, HeadField, Memory, Poke, Show, TallyField};
 use crate::caller::Caller;
+use crate::format::Format;
 use crate::unit::Call;
 use std::fmt;
 
@@ -36,9 +37,18 @@ impl fmt::Display for Command {
             Command::Head(field) => write!(f, "head {field}"),
             Command::Tally(field) => write!(f, "tally {field}"),
             Command::Show(what) => write!(f, "show {what}"),
-            Command::LoadFile { name } => write!(f, "load_file {}", String::from_utf8_lossy(name)),
+            Command::LoadFile { format, name } => {
+                write!(f, "{} {}", load_file_word(*format), String::from_utf8_lossy(name))
+            }
             Command::Call(call) => write!(f, "{call}"),
         }
+    }
+}
+
+fn load_file_word(format: Format) -> &'static str {
+    match format {
+        Format::Image => "load_file",
+        Format::Sheet => "load_sheet_file",
     }
 }
 
@@ -94,9 +104,9 @@ impl fmt::Display for Call {
             write!(f, " {}", Caller::Foyer)?;
         }
         match self {
-            Call::Clear | Call::Load | Call::WriteImage { state: None } | Call::Restart => Ok(()),
+            Call::Clear | Call::Load { .. } | Call::Write { state: None, .. } | Call::Restart => Ok(()),
             Call::Commit { list } => f.write_str(&words_text(list)),
-            Call::WriteImage { state: Some(state) } | Call::RollBack { state } | Call::Flush { state } => {
+            Call::Write { state: Some(state), .. } | Call::RollBack { state } | Call::Flush { state } => {
                 write!(f, " {state}")
             }
             Call::LookUp { offer, state, .. } => write!(f, " {offer} {state}"),

@@ -11,12 +11,15 @@ const LOOKUP_ANSWERS: [&str; 8] =
     ["ok since", "ok table", "none since", "none table", "refused 1", "refused 2", "refused 6", "refused 11"];
 
 /// Every answer that each form of a call can give, without values, as the grounds concern it. What follows the call's word says
-/// that the foyer makes it, or that an image's state is named.
-pub const ANSWERS: [(&str, &[&str]); 17] = [
+/// that the foyer makes it, or that the state to be written is named.
+pub const ANSWERS: [(&str, &[&str]); 20] = [
     ("clear", &["ok", "refused 1"]),
     ("load", &["ok", "refused 1", "refused 15", "refused 16"]),
+    ("load_sheet", &["ok", "refused 1", "refused 15", "refused 16"]),
     ("write_image", &["ok", "refused 1", "refused 2", "refused 17"]),
     ("write_image STATE", &["ok", "refused 1", "refused 2", "refused 11", "refused 17"]),
+    ("write_sheet", &["ok", "refused 1", "refused 2", "refused 17"]),
+    ("write_sheet STATE", &["ok", "refused 1", "refused 2", "refused 11", "refused 17"]),
     ("restart", &["ok", "refused 1", "refused 2", "refused 17"]),
     ("commit", &["ok", "refused 1", "refused 2", "refused 6", "refused 12", "refused 13", "refused 14"]),
     ("roll_back", &["ok", "refused 1", "refused 2", "refused 11"]),

@@ -23,6 +23,14 @@ pub const IMAGE: [u8; 22] =
 pub const TIP_IMAGE: [u8; 22] =
     [0, 0, 0, 2, 0, 2, 0x80, 0, 0, 5, 0, 0, 0x04, 0x4C, 0x80, 0, 0, 11, 0, 0, 0, 0];
 
+/// The sheet of state 1: row 0 with seats 5 and 9.
+pub const SHEET: [u8; 24] =
+    [0, 0, 0, 1, 0, 0, 0, 1, 0, 0, 0, 0, 0x04, 0x40, 0, 0, 0, 0, 0x04, 0xB0, 0, 0, 0x02, 0xBC];
+
+/// The sheet of state 2: row 0 with seats 5 and 11.
+pub const TIP_SHEET: [u8; 24] =
+    [0, 0, 0, 2, 0, 0, 0, 1, 0, 0, 0, 0, 0x04, 0x10, 0, 0, 0, 0, 0x04, 0x4C, 0, 0, 0, 0];
+
 /// A store of zeros, of any lengths.
 pub fn of_lengths(table: usize, journal: usize) -> Store {
     Store::from_parts(vec![0; table], vec![0; journal], Head::default(), Tally::default())
@@ -50,12 +58,16 @@ pub fn by_table(price: Option<u32>) -> Result<Quote, Refusal> {
 pub type Call = fn(&mut Store) -> Result<(), Refusal>;
 
 /// A call of each kind that the store of [`store`] accepts, from the foyer too where it has slots of its own.
-pub const CALLS: [(&str, Call); 15] = [
+pub const CALLS: [(&str, Call); 19] = [
     ("clear", |store| store.clear()),
     ("load", |store| store.load(&IMAGE)),
+    ("load_sheet", |store| store.load_sheet(&SHEET)),
     ("write_image", |store| store.write_image(&mut [0; 64]).map(drop)),
     ("write_state_image of the checkpoint", |store| store.write_state_image(1, &mut [0; 64]).map(drop)),
     ("write_state_image of the tip", |store| store.write_state_image(2, &mut [0; 64]).map(drop)),
+    ("write_sheet", |store| store.write_sheet(&mut [0; 64]).map(drop)),
+    ("write_state_sheet of the checkpoint", |store| store.write_state_sheet(1, &mut [0; 64]).map(drop)),
+    ("write_state_sheet of the tip", |store| store.write_state_sheet(2, &mut [0; 64]).map(drop)),
     ("restart", |store| store.restart(&mut [0; 64])),
     ("commit", |store| store.commit(&[Entry::put(7, 7)])),
     ("roll_back", |store| store.roll_back(1)),

@@ -11,6 +11,7 @@ mod quote;
 mod reads;
 mod refusal;
 mod rest;
+mod sheet;
 mod sound;
 mod steps;
 mod store;

@@ -1,9 +1,10 @@
-//! The calls of a store at rest: clear, load, write an image, restart.
+//! The calls of a store at rest: clear, load, write an image or a sheet, restart.
 
 use super::changes::applied;
 use super::head::{Head, Tally};
 use super::image::{self, Image};
 use super::refusal::Refusal;
+use super::sheet::{self, Sheet};
 use super::store::Store;
 
 impl Store<'_> {
@@ -24,26 +25,50 @@ impl Store<'_> {
         Ok(())
     }
 
+    /// The map of a sheet under its number.
+    pub fn load_sheet(&mut self, bytes: &[u8]) -> Result<(), Refusal> {
+        self.test_lengths()?;
+        let sheet = Sheet::tested(bytes).ok_or(Refusal::BadImage)?;
+        Refusal::TableFull.unless(sheet.count <= self.table.len())?;
+        sheet.read(self.table);
+        self.table[sheet.count..].fill(0);
+        self.rest(sheet.state, sheet.count);
+        Ok(())
+    }
+
     /// Writes the image of the tip to the start of the bytes, and gives its length.
     pub fn write_image(&self, bytes: &mut [u8]) -> Result<usize, Refusal> {
         self.test_store()?;
-        self.put_image(self.head.tip, bytes)
+        self.put(put_image, self.head.tip, bytes)
     }
 
     /// Writes the image of a state to the start of the bytes, and gives its length.
     pub fn write_state_image(&self, state: u32, bytes: &mut [u8]) -> Result<usize, Refusal> {
         self.test_store()?;
         self.test_state(state)?;
-        self.put_image(state, bytes)
+        self.put(put_image, state, bytes)
     }
 
-    /// The image of a state that is kept. The table need not have room for its map.
-    fn put_image(&self, state: u32, bytes: &mut [u8]) -> Result<usize, Refusal> {
+    /// Writes the sheet of the tip to the start of the bytes, and gives its length.
+    pub fn write_sheet(&self, bytes: &mut [u8]) -> Result<usize, Refusal> {
+        self.test_store()?;
+        self.put(put_sheet, self.head.tip, bytes)
+    }
+
+    /// Writes the sheet of a state to the start of the bytes, and gives its length.
+    pub fn write_state_sheet(&self, state: u32, bytes: &mut [u8]) -> Result<usize, Refusal> {
+        self.test_store()?;
+        self.test_state(state)?;
+        self.put(put_sheet, state, bytes)
+    }
+
+    /// The image or the sheet of a state that is kept. The table need not have room for its map.
+    fn put(&self, write: Write, state: u32, bytes: &mut [u8]) -> Result<usize, Refusal> {
         let table = &self.table[..self.head.used];
         let changes = self.changes_to(state);
         match &changes[..] {
-            [] => put_image(state, table, bytes),
-            changes => put_image(state, &applied(table, changes), bytes),
+            [] => write(state, table, bytes),
+            changes => write(state, &applied(table, changes), bytes),
         }
     }
 
@@ -70,10 +95,21 @@ impl Store<'_> {
     }
 }
 
-/// Writes the image of a state's map, given as its words, and gives its length.
+/// What writes a state's map, given as its words, and gives the length.
+type Write = fn(u32, &[u64], &mut [u8]) -> Result<usize, Refusal>;
+
+/// Writes the image of a state's map.
 fn put_image(state: u32, map: &[u64], bytes: &mut [u8]) -> Result<usize, Refusal> {
     let length = image::length(map.len());
     let bytes = bytes.get_mut(..length).ok_or(Refusal::OutputShort)?;
     image::write(state, map, bytes);
+    Ok(length)
+}
+
+/// Writes the sheet of a state's map.
+fn put_sheet(state: u32, map: &[u64], bytes: &mut [u8]) -> Result<usize, Refusal> {
+    let length = sheet::length(map);
+    let bytes = bytes.get_mut(..length).ok_or(Refusal::OutputShort)?;
+    sheet::write(state, map, bytes);
     Ok(length)
 }

@@ -1,6 +1,6 @@
 -- `ask::ask` meets its contract: each arm has what its call promises.
 -- Assumes nothing.
-use Rattle.answers.specs.declared.call.Query.the-variants.{LookUp, WriteImage, WriteStateImage}
+use Rattle.answers.specs.declared.call.Query.the-variants.{LookUp, Write, WriteState}
 use Rattle.calls.specs.Lent.{lent, asks, checkOf}
 use Rattle.calls.specs.Meaning.{queryOf}
 use Rattle.calls.proofs.Settling.{kept, settles}
@@ -19,14 +19,12 @@ returns c =
 
 returns-2 : tie.Need-returns-2
 returns-2 c =
-    let c4 = c .before .before .before .before in
-    let args = c4 .before .before .before .before .before .before .args in
-    let args = args in
+    let args = (c .before .before .before .before .before .before .before .before .before .before .before .args) in
     let l = lent (args .table .now) (args .journal .now) (args .words .now) (args .bytes .now) (args .head) in
-    let m = asks l (queryOf l WriteImage) in
-    rw ((c4 .enum-told) .given .1)
-    (settles m l ((c .before .before .write-image) .ensures .0) (kept (checkOf m) (l .table))
-    (kept (checkOf m) (l .journal)) (kept (checkOf m) (l .words)) ((c .before .before .write-image) .ensures .1)
+    let m = asks l (queryOf l (Write (c .before .before .before .before .before .query2 .given .0 .0))) in
+    rw (c .before .before .before .before .before .query2 .given .1)
+    (settles m l (c .before .before .write-tip .ensures .0) (kept (checkOf m) (l .table))
+    (kept (checkOf m) (l .journal)) (kept (checkOf m) (l .words)) (c .before .before .write-tip .ensures .1)
     (kept (checkOf m) (l .head)))
 
 returns-3 : tie.Need-returns-3
@@ -35,10 +33,10 @@ returns-3 c =
     let args = c5 .before .before .before .before .before .before .args in
     let args = args in
     let l = lent (args .table .now) (args .journal .now) (args .words .now) (args .bytes .now) (args .head) in
-    let m = asks l (queryOf l (WriteStateImage ((c5 .query2) .given .0 .0))) in
-    rw ((c5 .query2) .given .1)
-    (settles m l ((c .before .before .write-state) .ensures .0) (kept (checkOf m) (l .table))
-    (kept (checkOf m) (l .journal)) (kept (checkOf m) (l .words)) ((c .before .before .write-state) .ensures .1)
+    let m = asks l (queryOf l (WriteState (c5 .query3 .given .0 .0) (c5 .query3 .given .0 .1 .0))) in
+    rw (c5 .query3 .given .1)
+    (settles m l (c .before .before .write-state .ensures .0) (kept (checkOf m) (l .table))
+    (kept (checkOf m) (l .journal)) (kept (checkOf m) (l .words)) (c .before .before .write-state .ensures .1)
     (kept (checkOf m) (l .head)))
 
 pub ask-spec : {M : Type 1} → statement M

@@ -14,14 +14,14 @@ enum-told c = search needs
 clear-requires : tie.Need-clear-requires
 clear-requires c κs = search needs
 
-enum-told-2 : tie.Need-enum-told-2
-enum-told-2 c = search needs
+enum-known-call : tie.Need-enum-known-call
+enum-known-call c = search needs
 
 load-requires : tie.Need-load-requires
 load-requires c κs = search needs
 
-enum-told-3 : tie.Need-enum-told-3
-enum-told-3 c = search needs
+enum-told-2 : tie.Need-enum-told-2
+enum-told-2 c = search needs
 
 restart-requires : tie.Need-restart-requires
 restart-requires c κs = search needs
@@ -55,11 +55,12 @@ same-length-5 c = search needs
 returns-2 : tie.Need-returns-2
 returns-2 c =
     let c4 = c .before .before .before .before in
-    let c8 = c4 .before .before .before .before in
-    let args = c8 .before .before .before .before .before .before .args in
+    let c9 = c4 .before .before .before .before .before in
+    let args = c9 .before .before .before .before .before .before .args in
+    let args = args in
     let l = lent (args .table .now) (args .journal .now) (args .words .now) (args .bytes .now) (args .head) in
-    let m = resetOf l Load in
-    rw ((c8 .enum-told2 .given .1))
+    let m = resetOf l (Load (c9 .call .given .0 .0)) in
+    rw (c9 .call .given .1)
     (settles m l (c4 .load .ensures .0) (c4 .load .ensures .2) (c4 .load .ensures .3) (kept (checkOf m) (l .words))
     (kept (checkOf m) (l .bytes)) (c4 .load .ensures .1))
 
@@ -77,9 +78,10 @@ returns-3 c =
     let c6 = c .before .before .before .before .before .before in
     let c10 = c6 .before .before .before .before in
     let args = c10 .before .before .before .before .before .before .args in
+    let args = args in
     let l = lent (args .table .now) (args .journal .now) (args .words .now) (args .bytes .now) (args .head) in
     let m = resetOf l Restart in
-    rw ((c10 .enum-told3 .given .1))
+    rw (c10 .enum-told2 .given .1)
     (settles m l (c6 .restart .ensures .0) (c6 .restart .ensures .2) (c6 .restart .ensures .3)
     (kept (checkOf m) (l .words)) (c6 .restart .ensures .4) (c6 .restart .ensures .1))
 
@@ -89,9 +91,9 @@ reset-spec =
     (tie.spec
     enum-told
     clear-requires
-    enum-told-2
+    enum-known-call
     load-requires
-    enum-told-3
+    enum-told-2
     restart-requires
     same-length
     same-length-2

@@ -2,7 +2,7 @@
 -- Assumes nothing.
 use mathlib.Core.Path.{refl}
 use mathlib.Core.List.{[]}
-use Rattle.lent.specs.Asked.{load}
+use Rattle.lent.specs.Asked.{loadAs}
 use Rattle.cechnuol.proofs.Serving.{was-served}
 use borrow.Author.Needs.{needs}
 use Rattle.cechnuol.proofs.memory.load_on.Statement.{statement}
@@ -32,7 +32,7 @@ returns c =
     let c9 = c8 .before in
     let c13 = c9 .before .before .before .before in
     let args = c13 .before .before .before .before .before .args in
-    was-served (args .table .now) (args .journal .now) [] (args .image .now) (args .head .now) (args .tally .now) load
+    was-served (args .table .now) (args .journal .now) [] (args .bytes .now) (args .head .now) (args .tally .now) (loadAs (args .format))
     refl ((c9 .unpack .ensures)) ((c13 .tally-in .ensures)) ((c8 .serve-load .ensures))
     (refl, refl) (c .put-served .ensures .0) (c .put-served .ensures .1)
 

@@ -1,7 +1,8 @@
 -- `store::cechnuol_write_image` meets its contract: it has what the query on lent memory promises.
 -- Assumes nothing.
 use mathlib.Core.List.{[]}
-use Rattle.answers.specs.declared.call.Query.the-variants.{WriteImage}
+use Rattle.answers.specs.declared.call.Format.the-variants.{Image}
+use Rattle.answers.specs.declared.call.Query.the-variants.{Write}
 use Rattle.cechnuol.proofs.Serving.{tells}
 use borrow.Author.Needs.{needs}
 use Rattle.cechnuol.proofs.store.cechnuol_write_image.Statement.{statement}
@@ -25,7 +26,7 @@ same-length c = search needs
 returns : tie.Need-returns
 returns c =
     let args = (c .before .before .before .before .before .before .before .before .before .before .before .before .args) in (
-      tells (args .table .now) (args .journal .now) [] (args .bytes .now) (args .head .now) WriteImage (args .count .now)
+      tells (args .table .now) (args .journal .now) [] (args .bytes .now) (args .head .now) (Write Image) (args .count .now)
           (c .code-of .ensures) (c .before .value-of .ensures) (c .before .before .before .before .before .before .ask-on .ensures),
       (c .before .before .before .before .before .before .ask-on .ensures .2),
     )

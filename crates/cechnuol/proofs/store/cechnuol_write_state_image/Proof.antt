@@ -1,7 +1,8 @@
 -- `store::cechnuol_write_state_image` meets its contract: it has what the query on lent memory promises.
 -- Assumes nothing.
 use mathlib.Core.List.{[]}
-use Rattle.answers.specs.declared.call.Query.the-variants.{WriteStateImage}
+use Rattle.answers.specs.declared.call.Format.the-variants.{Image}
+use Rattle.answers.specs.declared.call.Query.the-variants.{WriteState}
 use Rattle.cechnuol.proofs.Serving.{tells}
 use borrow.Author.Needs.{needs}
 use Rattle.cechnuol.proofs.store.cechnuol_write_state_image.Statement.{statement}
@@ -28,7 +29,7 @@ returns c =
     let args = c6 .before .before .before .before .before .before .args in
     let args = args in (
       tells (args .table .now) (args .journal .now) [] (args .bytes .now) (args .head .now)
-          (WriteStateImage (args .state)) (args .count .now)
+          (WriteState Image (args .state)) (args .count .now)
           (c .code-of .ensures) (c .before .value-of .ensures) (c6 .ask-on .ensures),
       (c6 .ask-on .ensures .2),
     )

@@ -9,7 +9,8 @@ use Rattle.views.specs.View.{Shaped}
 use Rattle.state_maps.specs.Held.{HeldState}
 use Rattle.state_maps.proofs.MapSizes.{held-known, starts-rise, map-here, no-words}
 use Rattle.state_maps.proofs.Working.{state-facts}
-use Rattle.exports.proofs.Writing.{put-same, held-not, held-writes}
+use Rattle.formats.proofs.Putting.{put-same}
+use Rattle.exports.proofs.Writing.{held-not, held-writes}
 use borrow.Author.Needs.{needs}
 use Rattle.exports.proofs.write.write_state.Statement.{statement}
 use Rattle.exports.proofs.write.write_state.Tie as tie
@@ -46,7 +47,7 @@ returns : tie.Need-returns
 returns c =
     let c3 = c .before .before .before in
     let args = c3 .before .before .before .before .before .before .args in
-    held-not (args .table .now) (args .journal .now) (args .head) (args .state) (args .out .now)
+    held-not (args .format) (args .table .now) (args .journal .now) (args .head) (args .state) (args .out .now)
     (stops _ _ ((c3 .store-check) .ensures .0) ((c .before .store) .given .1)) ((c .before .store) .given .1)
 
 enum-told : tie.Need-enum-told
@@ -64,7 +65,7 @@ returns-2 c =
     let c4 = c3 .before in
     let c6 = c4 .before .before in
     let args = c6 .before .before .before .before .before .before .args in
-    held-not (args .table .now) (args .journal .now) (args .head) (args .state) (args .out .now)
+    held-not (args .format) (args .table .now) (args .journal .now) (args .head) (args .state) (args .out .now)
     (((c3 .state-check) .ensures .0) ∙ sym (goes-on _ _ ((c6 .store-check) .ensures .0) ((c4 .enum-told) .given .1)))
     ((c .before .range) .given .1)
 
@@ -72,7 +73,9 @@ enum-told-2 : tie.Need-enum-told-2
 enum-told-2 c = search needs
 
 write-table-requires : tie.Need-write-table-requires
-write-table-requires c κs = let ok = state-facts (known (c .before .before .before)) in (ok .sound .used-in, ok .range .table-most)
+write-table-requires c κs =
+    let c3 = c .before .before .before in
+    let ok = state-facts (known c3) in (ok .sound .used-in, ok .range .table-most, ok .sound .map)
 
 same-length : tie.Need-same-length
 same-length c = search needs
@@ -80,30 +83,35 @@ same-length c = search needs
 returns-3 : tie.Need-returns-3
 returns-3 c =
     let c4 = c .before .before .before .before in
+    let c4 = c4 in
     let c6 = c4 .before .before in
     let s = start c6 in
     let held = known c6 in
     let ok = state-facts held in
     let none = no-words (s .args .head) (s .args .state) (omega (arith, ok .low, ok .high, ((c4 .if1) .taken))) in
-    held-writes (s .args .table .now) (s .args .journal .now) (s .args .head) (s .args .state) (s .args .out .now) held
-    (put-same (s .args .state) (s .args .out .now) (sym (map-here ok (shape s) none)) ((c .before .before .write-table) .ensures))
+    held-writes (s .args .format) (s .args .table .now) (s .args .journal .now) (s .args .head) (s .args .state) (s .args .out .now) held
+    (put-same (s .args .format) (s .args .state) (s .args .out .now) (sym (map-here ok (shape s) none))
+    ((c .before .before .write-table) .ensures))
 
 write-table-requires-2 : tie.Need-write-table-requires-2
 write-table-requires-2 c κs =
     let c5 = c .before .before .before .before .before in
-    let ok = state-facts (known c5) in (ok .sound .used-in, ok .range .table-most)
+    let ok = state-facts (known c5) in (ok .sound .used-in, ok .range .table-most, ok .sound .map)
 
 same-length-2 : tie.Need-same-length-2
 same-length-2 c = search needs
 
 returns-4 : tie.Need-returns-4
 returns-4 c =
-    let s = start (c .before .before .before .before .before .before .before .before) in
-    let held = known (c .before .before .before .before .before .before .before .before) in
+    let c4 = c .before .before .before .before in
+    let c8 = c4 .before .before .before .before in
+    let s = start c8 in
+    let held = known c8 in
     let ok = state-facts held in
-    let none = no-words (s .args .head) (s .args .state) ((c .before .before .before .before .if2) .taken) in
-    held-writes (s .args .table .now) (s .args .journal .now) (s .args .head) (s .args .state) (s .args .out .now) held
-    (put-same (s .args .state) (s .args .out .now) (sym (map-here ok (shape s) none)) ((c .before .before .write-table2) .ensures))
+    let none = no-words (s .args .head) (s .args .state) ((c4 .if2) .taken) in
+    held-writes (s .args .format) (s .args .table .now) (s .args .journal .now) (s .args .head) (s .args .state) (s .args .out .now) held
+    (put-same (s .args .format) (s .args .state) (s .args .out .now) (sym (map-here ok (shape s) none))
+    ((c .before .before .write-table2) .ensures))
 
 words-to-requires : tie.Need-words-to-requires
 words-to-requires c κs =
@@ -114,19 +122,23 @@ words-to-requires c κs =
 write-table-requires-3 : tie.Need-write-table-requires-3
 write-table-requires-3 c κs =
     let c7 = c .before .before .before .before .before .before .before in
-    let ok = state-facts (known c7) in (ok .sound .used-in, ok .range .table-most)
+    let ok = state-facts (known c7) in (ok .sound .used-in, ok .range .table-most, ok .sound .map)
 
 same-length-3 : tie.Need-same-length-3
 same-length-3 c = search needs
 
 returns-5 : tie.Need-returns-5
 returns-5 c =
-    let s = start (c .before .before .before .before .before .before .before .before .before .before) in
-    let held = known (c .before .before .before .before .before .before .before .before .before .before) in
+    let c4 = c .before .before .before .before in
+    let c5 = c4 .before in
+    let c10 = c5 .before .before .before .before .before in
+    let s = start c10 in
+    let held = known c10 in
     let ok = state-facts held in
-    let none = sym ((c .before .before .before .before .before .words-to) .ensures) ∙ ((c .before .before .before .before .if3) .taken) in
-    held-writes (s .args .table .now) (s .args .journal .now) (s .args .head) (s .args .state) (s .args .out .now) held
-    (put-same (s .args .state) (s .args .out .now) (sym (map-here ok (shape s) none)) ((c .before .before .write-table3) .ensures))
+    let none = sym ((c5 .words-to) .ensures) ∙ ((c4 .if3) .taken) in
+    held-writes (s .args .format) (s .args .table .now) (s .args .journal .now) (s .args .head) (s .args .state) (s .args .out .now) held
+    (put-same (s .args .format) (s .args .state) (s .args .out .now) (sym (map-here ok (shape s) none))
+    ((c .before .before .write-table3) .ensures))
 
 are-few-requires : tie.Need-are-few-requires
 are-few-requires c κs = search needs
@@ -144,8 +156,10 @@ same-length-4 c = search needs
 returns-6 : tie.Need-returns-6
 returns-6 c =
     let c12 = c .before .before .before .before .before .before .before .before .before .before .before .before in
+    let c12 = c12 in
     let s = start c12 in
-    held-writes (s .args .table .now) (s .args .journal .now) (s .args .head) (s .args .state) (s .args .out .now) (known c12)
+    held-writes (s .args .format) (s .args .table .now) (s .args .journal .now) (s .args .head) (s .args .state)
+    (s .args .out .now) (known c12)
     ((c .before .before .write-few) .ensures)
 
 write-many-requires : tie.Need-write-many-requires
@@ -157,8 +171,10 @@ same-length-5 c = search needs
 returns-7 : tie.Need-returns-7
 returns-7 c =
     let c12 = c .before .before .before .before .before .before .before .before .before .before .before .before in
+    let c12 = c12 in
     let s = start c12 in
-    held-writes (s .args .table .now) (s .args .journal .now) (s .args .head) (s .args .state) (s .args .out .now) (known c12)
+    held-writes (s .args .format) (s .args .table .now) (s .args .journal .now) (s .args .head) (s .args .state)
+    (s .args .out .now) (known c12)
     ((c .before .before .write-many) .ensures)
 
 pub write-state-spec : {M : Type 1} → statement M

@@ -7,17 +7,17 @@ use borrow.Author.Needs.{needs}
 use Rattle.exports.proofs.write.write_table.Statement.{statement}
 use Rattle.exports.proofs.write.write_table.Tie as tie
 
-slice-aggregate-put-image : tie.Need-slice-aggregate-put-image
-slice-aggregate-put-image c =
+slice-aggregate-put : tie.Need-slice-aggregate-put
+slice-aggregate-put c =
     let c3 = c .before .before .before in
     let args = c3 .args in
     sym (length-take-le (args .head .used) (args .table .now) ((c3 .pre) .0))
 
-put-image-requires : tie.Need-put-image-requires
-put-image-requires c κs =
+put-requires : tie.Need-put-requires
+put-requires c κs =
     let c4 = c .before .before .before .before in
     let args = c4 .args in
-    omega (arith, length-take-le (args .head .used) (args .table .now) ((c4 .pre) .0), ((c4 .pre) .0), ((c4 .pre) .1))
+    ((c4 .pre) .2, omega (arith, length-take-le (args .head .used) (args .table .now) ((c4 .pre) .0), ((c4 .pre) .0), ((c4 .pre) .1)))
 
 same-length : tie.Need-same-length
 same-length c = search needs
@@ -29,7 +29,7 @@ pub write-table-spec : {M : Type 1} → statement M
 write-table-spec =
     tie.close
     (tie.spec
-    slice-aggregate-put-image
-    put-image-requires
+    slice-aggregate-put
+    put-requires
     same-length
     returns)

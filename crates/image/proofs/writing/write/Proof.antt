@@ -6,9 +6,9 @@ use mathlib.Core.List.{_++_}
 use Prim.Native.Nat.{_+_, _-_, _*_, _≤_}
 use lib.ListN.{length, take, drop, getD}
 use Rattle.words.proofs.Writing.{Writing, unwritten}
-use Rattle.image.specs.Bytes.{bytesOf}
+use Rattle.big_endian.specs.Bytes.{bytesOf}
 use Rattle.image.specs.Image.{wordBytes}
-use Rattle.image.proofs.Bytes.{length-bytes}
+use Rattle.big_endian.proofs.Bytes.{length-bytes}
 use Rattle.words.proofs.Pieces.{start-at, wrote-piece, continued, completed}
 use Rattle.image.proofs.Storing.{header-stored}
 use Rattle.image.proofs.Words.{word-bytes-next, word-bytes-end}

@@ -1,17 +1,16 @@
--- `fresh::fill` meets its contract: the words behind the image are cleared.
+-- `fresh::fill` meets its contract: the words behind the map are cleared.
 -- Assumes nothing.
 use mathlib.Core.Path.{_∙_, ap₂}
+use Rattle.formats.specs.Formats.{mapIn}
+use Rattle.formats.proofs.Laws.{has-number}
 use Rattle.snapshot.specs.Fresh.{freshHead}
 use Rattle.snapshot.proofs.Filled.{emptied, filled}
 use borrow.Author.Needs.{needs}
 use Rattle.snapshot.proofs.fresh.fill.Statement.{statement}
 use Rattle.snapshot.proofs.fresh.fill.Tie as tie
 
-count-of-requires : tie.Need-count-of-requires
-count-of-requires c κs = search needs
-
-read-words-requires : tie.Need-read-words-requires
-read-words-requires c κs = search needs
+read-requires : tie.Need-read-requires
+read-requires c κs = search needs
 
 mul-clear : tie.Need-mul-clear
 mul-clear c = search needs
@@ -44,7 +43,12 @@ clear-requires-2 : tie.Need-clear-requires-2
 clear-requires-2 c κs = search needs
 
 state-of-requires : tie.Need-state-of-requires
-state-of-requires c κs = search needs
+state-of-requires c κs =
+    let c10 = c .before .before .before .before .before .before .before .before .before .before in
+    let c15 = c10 .before .before .before .before .before in
+    let args = c15 .args in
+    let a = args in
+    has-number (a .format) (a .bytes .now) (c15 .pre .0)
 
 fresh-head-requires : tie.Need-fresh-head-requires
 fresh-head-requires c κs = search needs
@@ -60,21 +64,20 @@ returns c =
     let c4 = c .before .before .before .before in
     let c8 = c4 .before .before .before .before in
     let c12 = c8 .before .before .before .before in
-    let c14 = c12 .before .before in
-    let c18 = c14 .before .before .before .before in
-    let args = c18 .args in (
-      (c .fresh-head .ensures) ∙ ap₂ freshHead (c14 .count-of .ensures .0) (c .before .state-of .ensures),
-      filled (args .table .now) (args .image .now) (c14 .count-of .result) (c12 .read-words .last .1 .0)
-          (c8 .clear .last .0) (c14 .count-of .ensures .0) (c12 .read-words .ensures) (c18 .pre .1) (c8 .clear .ensures),
-      emptied (args .journal .now) (c4 .clear2 .last .0) (c4 .clear2 .ensures),
+    let c17 = c12 .before .before .before .before .before in
+    let args = c17 .args in
+    let a = args in (
+      (c .fresh-head .ensures) ∙ ap₂ freshHead (c17 .pre .1) (c .before .state-of .ensures),
+      filled (a .table .now) (mapIn (a .format) (a .bytes .now)) (a .count) ((c12 .read) .last .1 .1 .0)
+          ((c8 .clear) .last .0) (c17 .pre .1) (c12 .read .ensures) (c17 .pre .2) (c8 .clear .ensures),
+      emptied (a .journal .now) ((c4 .clear2) .last .0) (c4 .clear2 .ensures),
     )
 
 pub fill-spec : {M : Type 1} → statement M
 fill-spec =
     tie.close
     (tie.spec
-    count-of-requires
-    read-words-requires
+    read-requires
     mul-clear
     sub-clear
     part-clear-start

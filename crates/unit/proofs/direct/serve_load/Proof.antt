@@ -1,4 +1,4 @@
--- `direct::serve_load` meets its contract: it has what a load promises, and leaves the image.
+-- `direct::serve_load` meets its contract: it has what a load promises, and leaves the bytes.
 -- Assumes nothing.
 use mathlib.Core.List.{[]}
 use Rattle.answers.specs.declared.call.Call.the-variants.{Reset}
@@ -27,9 +27,9 @@ returns : tie.Need-returns
 returns c =
     let c5 = c .before .before .before .before .before in
     let args = c5 .before .before .before .before .before .before .args in
-    let l = lent (args .table .now) (args .journal .now) [] (args .image .now) (args .head) in
-    let m = resetOf l Load in
-    served-is (args .tally) l (Reset Load)
+    let l = lent (args .table .now) (args .journal .now) [] (args .bytes .now) (args .head) in
+    let m = resetOf l (Load (args .format)) in
+    served-is (args .tally) l (Reset (Load (args .format)))
     (settles m l ((c5 .load .ensures .0)) ((c5 .load .ensures .2)) ((c5 .load .ensures .3)) (kept (checkOf m) (l .words))
     (kept (checkOf m) (l .bytes)) ((c5 .load .ensures .1)))
     ((c .tally-after .ensures))
