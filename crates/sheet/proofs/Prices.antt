@@ -5,8 +5,8 @@ use mathlib.Core.Bool.{Bool, true, false}
 use mathlib.Core.List.{List, [], _∷_, _++_, map, append-assoc, append-nil}
 use Prim.Native.Nat.{ℕ, suc, _+_, _-_, _*_, _%_, _^_, _≤_, _<_}
 use native.Mathlib.Omega.{arith}
-use lib.ListN.{length, take, drop, getD}
-use lib.Seq.{take-suc}
+use lib.ListN.{length, take, drop, getD, length-append, length-drop, length-map}
+use lib.Seq.{take-suc, take-at, drop-at, drop-drop, take-take, take-append-le, length-take-le}
 use Rattle.words.proofs.Writing.{Writing}
 use Rattle.words.proofs.Pieces.{start-at, wrote-piece, completed}
 use Rattle.entry.specs.Word.{offerOf, priceOf}
@@ -16,6 +16,7 @@ use Rattle.big_endian.proofs.Bytes.{length-bytes}
 use Rattle.sheet.specs.Runs.{InRow, ofRowB, rowNumber, bitsOf, runRow}
 use Rattle.sheet.specs.Sheet.{rowsOf, placeIn, numberBytes}
 use Rattle.sheet.proofs.Clauses.{number-bytes-none}
+use Rattle.sheet.proofs.NumberBytes.{number-bytes-length}
 use Rattle.sheet.proofs.Passing.{of-row, of-other, Passed, none-passed, one-passed, passed-fits, passed-place}
 use Rattle.sheet.proofs.RowRuns.{run-first}
 
@@ -38,6 +39,9 @@ prices-next words i h =
     ap (λ (n : ℕ). priceBytes (take n words)) one
     ∙ ap priceBytes (take-suc words i 0 h)
     ∙ one-price (take i words) (getD words i 0)
+
+price-bytes-length : (l : List ℕ) → length (priceBytes l) ≡ 4 * length l
+price-bytes-length l = number-bytes-length (map priceOf l) ∙ ap (λ (n : ℕ). 4 * n) (length-map l priceOf)
 
 -- the first row's prices are stored: what is so of its words, and of the bytes
 abbrev pub PricesPut : List ℕ → List ℕ → List ℕ → ℕ → ℕ → ℕ → Type 0
@@ -147,3 +151,97 @@ module _ {words : List ℕ} {at : ℕ} {out out₀ : List ℕ} {row mask count :
             (λ i n. of-other words (count + 1) row (sym t ∙ end) i (n ∙ sym (h .number))),
         completed (stored p price (place-is p pe) q e),
       )
+
+-- the mask, which is stored before the prices
+
+-- the first row's mask and prices are stored: what is so of its words, and of the bytes
+abbrev pub SeatsPut : List ℕ → List ℕ → List ℕ → ℕ → ℕ → ℕ → Type 0
+SeatsPut words out last at mask count =
+    (0 < count)
+    × (count ≤ length words)
+    × (mask ≡ bitsOf (take count words))
+    × (rowsOf words ≡ runRow (take count words) ∷ rowsOf (drop count words))
+    × (last ≡ take (at + 4) out ++ bytesOf 4 mask ++ priceBytes (take count words) ++ drop (at + 8 + 4 * count) out)
+
+-- bytes with a mask before a position
+abbrev pub masked : List ℕ → ℕ → ℕ → List ℕ
+masked out at m = take (at + 4) out ++ bytesOf 4 m ++ drop (at + 8) out
+
+module _ (out : List ℕ) (at m : ℕ) (room : at + 8 ≤ length out) where
+  seam : length (take (at + 4) out ++ bytesOf 4 m) ≡ at + 8
+  seam =
+      length-append (take (at + 4) out) (bytesOf 4 m)
+      ∙ omega (arith, length-take-le (at + 4) out (omega arith), length-bytes 4 m)
+
+  masked-front : take (at + 8) (masked out at m) ≡ take (at + 4) out ++ bytesOf 4 m
+  masked-front = take-at (take (at + 4) out ++ bytesOf 4 m) (drop (at + 8) out) (at + 8) seam
+
+  masked-behind : (k : ℕ) → drop (at + 8 + k) (masked out at m) ≡ drop (at + 8 + k) out
+  masked-behind k =
+      sym (drop-drop k (at + 8) (masked out at m))
+      ∙ ap (drop k) (drop-at (take (at + 4) out ++ bytesOf 4 m) (drop (at + 8) out) (at + 8) seam)
+      ∙ drop-drop k (at + 8) out
+
+  masked-length : length (masked out at m) ≡ length out
+  masked-length =
+      length-append (take (at + 4) out ++ bytesOf 4 m) (drop (at + 8) out)
+      ∙ omega (arith, seam, length-drop (at + 8) out)
+
+  -- what is stored in such bytes
+  pub seats-stored : (words : List ℕ) (count : ℕ) {last : List ℕ}
+      → PricesPut words (masked out at m) last (at + 8) m count → SeatsPut words out last at m count
+  seats-stored words count p = (
+    p .0,
+    p .1,
+    p .2,
+    p .3,
+    p .4 ∙ ap₂ (λ (a c : List ℕ). a ++ priceBytes (take count words) ++ c) masked-front (masked-behind (4 * count)),
+  )
+
+module _ (at : ℕ) {words : List ℕ} {out out₀ : List ℕ} {row mask count : ℕ} (h : Pass words (at + 8) out out₀ row mask count) where
+  -- there is room for the mask
+  pub mask-room : at + 8 ≤ length out
+  mask-room = omega (arith, price-fits h)
+
+  module _ (m : ℕ) {last : List ℕ} (e : last ≡ take (at + 4) out ++ bytesOf 4 m ++ drop (at + 4 + 4) out) where
+    before : at + 8 ≤ length out₀
+    before = omega (arith, mask-room, h .written .same)
+
+    bytes-are : last ≡ take (at + 8) (masked out₀ at m) ++ priceBytes (take count words)
+        ++ drop (at + 8 + 4 * count) (masked out₀ at m)
+    bytes-are =
+        let prices = priceBytes (take count words) in
+        let rest = drop (at + 8 + 4 * count) out₀ in
+        let start = take (at + 8) out₀ in
+        let long : length (take (at + 8) out₀) ≡ at + 8 = length-take-le (at + 8) out₀ before in
+        let on : at + 4 + 4 ≡ at + 8 = omega arith in
+        let whole : out ≡ take (at + 8) out₀ ++ (priceBytes (take count words) ++ drop (at + 8 + 4 * count) out₀) =
+        completed (h .written) ∙ append-assoc start prices rest in
+        let front : take (at + 4) out ≡ take (at + 4) out₀ =
+        ap (take (at + 4)) whole
+        ∙ take-append-le (at + 4) start (prices ++ rest) (omega (arith, long))
+        ∙ take-take (at + 4) (at + 8) out₀ (omega arith) in
+        let behind : drop (at + 4 + 4) out ≡ priceBytes (take count words) ++ drop (at + 8 + 4 * count) out₀ =
+        ap₂ drop on whole ∙ drop-at start (prices ++ rest) (at + 8) long in
+        e
+        ∙ ap₂ (λ (a c : List ℕ). a ++ bytesOf 4 m ++ c) front behind
+        ∙ sym (append-assoc (take (at + 4) out₀ ++ bytesOf 4 m) prices rest)
+        ∙ ap₂ (λ (a c : List ℕ). a ++ prices ++ c) (sym (masked-front out₀ at m before)) (sym (masked-behind out₀ at m before (4 * count)))
+
+    pub mask-stored : Pass words (at + 8) last (masked out₀ at m) row mask count
+    mask-stored =
+        let long = masked-length out₀ at m before in
+        let prices = priceBytes (take count words) in
+        let k : at + 8 + 4 * count ≡ at + 8 + length (priceBytes (take count words)) =
+        omega (arith, price-bytes-length (take count words), length-take-le count words (omega (arith, h .here))) in
+        record {
+          rises = h .rises;
+          room = omega (arith, h .room, long);
+          number = h .number;
+          here = h .here;
+          same = h .same;
+          passed = h .passed;
+          written =
+              wrote-piece (start-at (masked out₀ at m) prices (at + 8) (omega (arith, long, before))) prices []
+              (sym (append-nil prices)) (at + 8 + 4 * count) k (omega (arith, long, price-fits h, h .written .same)) bytes-are;
+        }

@@ -2,10 +2,10 @@
 -- Assumes nothing.
 use mathlib.Core.Path.{_≡_, refl, sym, ap, ap₂, subst, _∙_}
 use mathlib.Core.List.{List, [], _∷_, _++_, append-assoc, append-nil}
-use Prim.Native.Nat.{ℕ, _+_, _-_, _*_, _/_, _%_, _^_, _≤_, _<_}
+use Prim.Native.Nat.{ℕ, _+_, _-_, _*_, _≤_, _<_}
 use native.Mathlib.Omega.{arith}
 use lib.ListN.{length, take, drop, length-append, length-drop, length-map, drop-of-length-le}
-use lib.Seq.{length-take-le, take-append-le, drop-at, getD-take, take-take, drop-drop}
+use lib.Seq.{length-take-le, take-at, drop-at, getD-take, drop-drop}
 use Rattle.words.proofs.Parts.{part}
 use Rattle.words.proofs.Writing.{Writing, start, unwritten}
 use Rattle.words.proofs.Pieces.{start-at, wrote-piece, completed}
@@ -13,16 +13,15 @@ use Rattle.entry.specs.Word.{offerOf, priceOf}
 use Rattle.changes.specs.Lists.{From}
 use Rattle.big_endian.specs.Bytes.{bytesOf}
 use Rattle.big_endian.proofs.Bytes.{length-bytes}
-use Rattle.big_endian.proofs.Fields.{bytes-8}
 use Rattle.sheet.specs.Runs.{rowNumber, runRow}
 use Rattle.sheet.specs.Sheet.{rowOf, rowsOf, rowBytes, rowsBytes, sheetOf, sheetSize}
 use Rattle.sheet.proofs.Clauses.{rows-none, row-bytes-parts, rows-bytes-none, rows-bytes-more, sheet-parts, sheet-size}
 use Rattle.sheet.proofs.Passing.{from-drop}
-use Rattle.sheet.proofs.Prices.{priceBytes, PricesPut}
+use Rattle.sheet.proofs.Prices.{priceBytes, SeatsPut}
 use Rattle.sheet.proofs.RowBytes.{row-bytes-length}
 use Rattle.sheet.proofs.RowRuns.{some-row}
 
--- a row: its prices, and then its number and its mask before them
+-- a row: its number, and then its mask and its prices
 
 -- the row is stored: what is so of its words, and of the bytes
 abbrev RowPut : List ℕ → List ℕ → List ℕ → ℕ → ℕ → Type 0
@@ -32,46 +31,38 @@ RowPut words out last at count =
     × (rowsOf words ≡ runRow (take count words) ∷ rowsOf (drop count words))
     × (last ≡ take at out ++ rowBytes (runRow (take count words)) ++ drop (at + 8 + 4 * count) out)
 
--- eight bytes before a position that is written behind: two numbers of 32 bits as one of 64
-module _ (out : List ℕ) (at : ℕ) (room : at + 8 ≤ length out) (behind : List ℕ) (x y n : ℕ) (small : y < 2 ^ 32) (one last : List ℕ) where
-  head-stored :
-      n ≡ x * 2 ^ 32 + y
-      → one ≡ take (at + 8) out ++ behind
-      → last ≡ take at one ++ bytesOf 8 n ++ drop (at + 8) one
-      → last ≡ take at out ++ (bytesOf 4 x ++ bytesOf 4 y) ++ behind
-  head-stored d e f =
-      let seam : length (take (at + 8) out) ≡ at + 8 = length-take-le (at + 8) out room in
-      let high : n / 2 ^ 32 ≡ x = omega (arith, d) in
-      let low : n % 2 ^ 32 ≡ y = omega (arith, d) in
-      let front : take at one ≡ take at out =
-      ap (take at) e ∙ take-append-le at (take (at + 8) out) behind (omega (arith, seam)) ∙ take-take at (at + 8) out (omega arith) in
-      let rest : drop (at + 8) one ≡ behind = ap (drop (at + 8)) e ∙ drop-at (take (at + 8) out) behind (at + 8) seam in
-      let both : bytesOf 8 n ≡ bytesOf 4 x ++ bytesOf 4 y = bytes-8 n ∙ ap₂ (λ (a b : ℕ). bytesOf 4 a ++ bytesOf 4 b) high low in
-      f ∙ (λ i. front i ++ both i ++ rest i)
-
-module _ (words out : List ℕ) (at : ℕ) (room : at + 8 + 4 * length words ≤ length out) (number mask count n : ℕ) (small : mask < 2 ^ 32)
-    (one last : List ℕ) where
+module _ (words out : List ℕ) (at : ℕ) (room : at + 8 + 4 * length words ≤ length out) (number mask count : ℕ) (one last : List ℕ) where
   pub row-stored :
       number ≡ rowNumber words
-      → PricesPut words out one (at + 8) mask count
-      → n ≡ number * 64 * 2 ^ 32 + mask
-      → last ≡ take at one ++ bytesOf 8 n ++ drop (at + 8) one
+      → one ≡ take at out ++ bytesOf 4 (number * 64) ++ drop (at + 4) out
+      → SeatsPut words one last at mask count
       → RowPut words out last at count
-  row-stored e p d f =
+  row-stored e f p =
       let run = take count words in
+      let tag = bytesOf 4 (number * 64) in
       let prices = priceBytes (take count words) in
-      let behind = drop (at + 8 + 4 * count) out in
+      let rest = drop (at + 8 + 4 * count) out in
+      let seam : length (take at out ++ bytesOf 4 (number * 64)) ≡ at + 4 =
+      length-append (take at out) tag ∙ omega (arith, length-take-le at out (omega arith), length-bytes 4 (number * 64)) in
+      let front : take (at + 4) one ≡ take at out ++ bytesOf 4 (number * 64) =
+      ap (take (at + 4)) f ∙ take-at (take at out ++ tag) (drop (at + 4) out) (at + 4) seam in
+      let on : at + 4 + (4 + 4 * count) ≡ at + 8 + 4 * count = omega arith in
+      let behind : drop (at + 8 + 4 * count) one ≡ drop (at + 8 + 4 * count) out =
+      ap (λ (k : ℕ). drop k one) (sym on)
+      ∙ sym (drop-drop (4 + 4 * count) (at + 4) one)
+      ∙ ap (drop (4 + 4 * count)) (ap (drop (at + 4)) f ∙ drop-at (take at out ++ tag) (drop (at + 4) out) (at + 4) seam)
+      ∙ drop-drop (4 + 4 * count) (at + 4) out
+      ∙ ap (λ (k : ℕ). drop k out) on in
       let own : number ≡ rowNumber (take count words) = e ∙ ap (λ (w : ℕ). rowOf (offerOf w)) (sym (getD-take count words 0 0 (p .0))) in
       let whole : bytesOf 4 (number * 64) ++ bytesOf 4 mask ++ priceBytes (take count words) ≡ rowBytes (runRow (take count words)) =
-      (λ i. bytesOf 4 (own i * 64) ++ bytesOf 4 (p .2 i) ++ priceBytes (take count words)) ∙ sym (row-bytes-parts (runRow run)) in
-      let head = head-stored out at (omega arith) (prices ++ behind) (number * 64) mask n small one last d
-      (p .4 ∙ append-assoc (take (at + 8) out) prices behind) f in (
+      (λ i. bytesOf 4 (own i * 64) ++ bytesOf 4 (p .2 i) ++ priceBytes (take count words)) ∙ sym (row-bytes-parts (runRow run)) in (
         p .0,
         p .1,
         p .3,
-        head
-            ∙ sym (append-assoc (take at out ++ (bytesOf 4 (number * 64) ++ bytesOf 4 mask)) prices behind)
-            ∙ ap (λ (b : List ℕ). b ++ behind) (append-assoc (take at out) (bytesOf 4 (number * 64) ++ bytesOf 4 mask) prices
+        p .4
+            ∙ ap₂ (λ (a c : List ℕ). a ++ bytesOf 4 mask ++ prices ++ c) front behind
+            ∙ ap (λ (b : List ℕ). b ++ prices ++ rest) (append-assoc (take at out) tag (bytesOf 4 mask))
+            ∙ ap (λ (b : List ℕ). b ++ rest) (append-assoc (take at out) (tag ++ bytesOf 4 mask) prices
             ∙ ap (λ (b : List ℕ). take at out ++ b) whole),
       )
 

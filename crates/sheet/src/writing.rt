@@ -6,13 +6,13 @@ use crate::SEATS;
 use crate::rows::bit;
 use crate::rows::place;
 use big_endian::numbers::put_u32;
-use big_endian::numbers::put_u64;
 use entry::Entry;
 ghost use mathlib.Core.Path.{_≡_};
 ghost use mathlib.Core.List.{_∷_, _++_, map};
 ghost use Prim.Native.Nat.{_+_, _*_, _%_, _<_, _≤_};
 ghost use lib.ListN.{length, take, drop};
 ghost use Rattle.entry.specs.Word.{offerOf, priceOf};
+ghost use Rattle.big_endian.specs.Bytes.{bytesOf};
 ghost use Rattle.changes.specs.Lists.{From, Map};
 ghost use Rattle.sheet.specs.Runs.{ofRowB, bitsOf, runRow};
 ghost use Rattle.sheet.specs.Sheet.{rowOf, rowsOf, numberBytes, rowBytes, sheetOf, sheetSize};
@@ -71,34 +71,37 @@ fn is_of_row(words: &[u64], i: usize, row: u32) -> bool
     row_of(words[i]) == row
 }
 
-// Writes the prices of the first row of rising words from a position on, in one pass over the row's words, and gives the row; all other
-// bytes stay. There is room for a price of every word.
+// Writes the mask and the prices of the first row of rising words, whose bytes begin at a position, in one pass over the row's words, and
+// gives the row; all other bytes stay. There is room for a price of every word.
 fn put_prices(words: &[u64], out: &mut [u8], at: usize) -> FirstRow
-    requires { ⌜ From 0 (now words) × (0 < length (now words)) × (at + 4 * length (now words) ≤ length (now out)) ⌝ }
+    requires { ⌜ From 0 (now words) × (0 < length (now words)) × (at + 8 + 4 * length (now words) ≤ length (now out)) ⌝ }
     ensures { λ r. ⌜ (0 < r .count)
         × (r .count ≤ length (now (words .entry)))
         × (r .mask ≡ bitsOf (take (r .count) (now (words .entry))))
         × (rowsOf (now (words .entry)) ≡ runRow (take (r .count) (now (words .entry))) ∷ rowsOf (drop (r .count) (now (words .entry))))
-        × (now (out .exit) ≡ take at (now (out .entry)) ++ numberBytes (map priceOf (take (r .count) (now (words .entry))))
-        ++ drop (at + 4 * r .count) (now (out .entry))) ⌝ }
+        × (now (out .exit) ≡ take (at + 4) (now (out .entry)) ++ bytesOf 4 (r .mask)
+        ++ numberBytes (map priceOf (take (r .count) (now (words .entry))))
+        ++ drop (at + 8 + 4 * r .count) (now (out .entry))) ⌝ }
 {
     let row = row_of(words[0]);
+    let prices = at + ROW_BYTES;
     let mut mask = 0;
     let mut count = 0;
     // A word is the row's last if the next is not of the row.
     while is_of_row(words, count + 1, row) {
         let word = words[count];
         mask += bit(seat_of(word));
-        put_u32(out, at + PRICE_BYTES * count, Entry::price_of(word));
+        put_u32(out, prices + PRICE_BYTES * count, Entry::price_of(word));
         count += 1;
     }
     let last = words[count];
     let seat = seat_of(last);
     mask += bit(seat);
+    put_u32(out, at + 4, mask);
     // The mask is whole: the last word's price stands after as many prices as seats of the mask precede its seat.
     put_u32(
         out,
-        at + PRICE_BYTES * place(mask, seat),
+        prices + PRICE_BYTES * place(mask, seat),
         Entry::price_of(last),
     );
     FirstRow {
@@ -107,8 +110,8 @@ fn put_prices(words: &[u64], out: &mut [u8], at: usize) -> FirstRow
     }
 }
 
-// Writes the first row of rising words from a position on, its prices and then its number and its mask before them, and gives how many
-// words it has; all other bytes stay. There is room for a row of all words.
+// Writes the first row of rising words from a position on, its number, its mask and its prices, and gives how many words it has; all other
+// bytes stay. There is room for a row of all words.
 fn put_row(words: &[u64], out: &mut [u8], at: usize) -> usize
     requires { ⌜ From 0 (now words) × (0 < length (now words)) × (at + 8 + 4 * length (now words) ≤ length (now out)) ⌝ }
     ensures { λ r. ⌜ (0 < r)
@@ -117,11 +120,8 @@ fn put_row(words: &[u64], out: &mut [u8], at: usize) -> usize
         × (now (out .exit) ≡ take at (now (out .entry)) ++ rowBytes (runRow (take r (now (words .entry))))
         ++ drop (at + 8 + 4 * r) (now (out .entry))) ⌝ }
 {
-    let row = put_prices(words, out, at + ROW_BYTES);
-    // One number of 64 bits, which the compiler stores at once.
-    let number = (row_of(words[0]) * NUMBER_UNIT) as u64;
-    let mask = row.mask as u64;
-    put_u64(out, at, number * 0x1_0000_0000 + mask);
+    put_u32(out, at, row_of(words[0]) * NUMBER_UNIT);
+    let row = put_prices(words, out, at);
     row.count
 }
 

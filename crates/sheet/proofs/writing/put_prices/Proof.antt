@@ -1,19 +1,20 @@
 -- `writing::put_prices` meets its contract. The loop's invariant: the words passed are of the first word's row, the mask is the sum of
 -- their bits, their prices are stored, and the next word is of their row.
 -- Assumes nothing.
-use Prim.Native.Nat.{_-_}
+use Prim.Native.Nat.{_+_, _-_}
 use lib.ListN.{length}
 use Rattle.sheet.proofs.Prices.{Pass, no-price, price-fits, mask-fits, place-fits, price-stored, prices-stored}
+use Rattle.sheet.proofs.Prices.{mask-room, mask-stored, seats-stored}
 use borrow.Author.Needs.{needs}
 use native.Mathlib.Omega.{arith}
 use Rattle.sheet.proofs.writing.put_prices.Statement.{statement}
 use Rattle.sheet.proofs.writing.put_prices.Tie as tie
 
 abbrev Inv-loop : tie.InvT-loop
-Inv-loop words out₀ at row mask₀ count₀ out mask count = Pass words at out out₀ row mask count
+Inv-loop words out₀ at row prices mask₀ count₀ out mask count = Pass words (at + 8) out out₀ row mask count
 
 abbrev μ-loop : tie.MeasureT-loop
-μ-loop words out₀ at row mask₀ count₀ out mask count = length words - count
+μ-loop words out₀ at row prices mask₀ count₀ out mask count = length words - count
 
 shared-slice-read-row-of : tie.Need-shared-slice-read-row-of Inv-loop μ-loop
 shared-slice-read-row-of c = search needs
@@ -21,11 +22,14 @@ shared-slice-read-row-of c = search needs
 row-of-requires : tie.Need-row-of-requires Inv-loop μ-loop
 row-of-requires c κs = search needs
 
+add-prices : tie.Need-add-prices Inv-loop μ-loop
+add-prices c = search needs
+
 loop-holds : tie.Need-loop-holds Inv-loop μ-loop
 loop-holds c =
     let c4 = c .before .before .before .before in
     let args = c4 .args in
-    no-price (args .words .now) (args .out .now) (args .at) (c4 .pre) (c .row-of .result) (c .row-of .ensures)
+    no-price (args .words .now) (args .out .now) ((args .at) + 8) (c4 .pre) (c .row-of .result) (c .row-of .ensures)
 
 add-is-of-row : tie.Need-add-is-of-row Inv-loop μ-loop
 add-is-of-row c = omega (arith, (c .loop .inv .here))
@@ -94,12 +98,23 @@ bit-requires-2 c κs = search needs
 
 add-mask-2 : tie.Need-add-mask-2 Inv-loop μ-loop
 add-mask-2 c =
-    let c5 = c .before .before .before .before .before in
     omega (
       arith,
-      mask-fits (c5 .loop .inv) (c .before .seat-of2 .result) (c .bit2 .result)
+      mask-fits (c .before .before .before .before .before .loop .inv) (c .before .seat-of2 .result) (c .bit2 .result)
           (c .before .seat-of2 .ensures) (c .bit2 .ensures),
     )
+
+add-put-u32-2 : tie.Need-add-put-u32-2 Inv-loop μ-loop
+add-put-u32-2 c =
+    let c6 = c .before .before .before .before .before .before in
+    let args = c6 .before .before .before .before .before .args in
+    omega (arith, mask-room (args .at) (c6 .loop .inv))
+
+put-u32-requires-2 : tie.Need-put-u32-requires-2 Inv-loop μ-loop
+put-u32-requires-2 c κs =
+    let c6 = c .before .before .before .before .before .before in
+    let args = c6 .before .before .before .before .before .args in
+    omega (arith, mask-room (args .at) (c6 .loop .inv))
 
 place-requires : tie.Need-place-requires Inv-loop μ-loop
 place-requires c κs = search needs
@@ -107,29 +122,36 @@ place-requires c κs = search needs
 mul-put-u32-2 : tie.Need-mul-put-u32-2 Inv-loop μ-loop
 mul-put-u32-2 c = search needs
 
-add-put-u32-2 : tie.Need-add-put-u32-2 Inv-loop μ-loop
-add-put-u32-2 c =
-    let c3 = c .before .before .before in
-    let c7 = c3 .before .before .before .before in
+add-put-u32-3 : tie.Need-add-put-u32-3 Inv-loop μ-loop
+add-put-u32-3 c =
+    let c6 = c .before .before .before .before .before .before in
+    let c7 = c6 .before in
+    let c11 = c7 .before .before .before .before in
     omega (
       arith,
-      place-fits (c7 .loop .inv) (c3 .seat-of2 .result) (c .before .before .bit2 .result)
-          (c3 .seat-of2 .ensures) (c .before .before .bit2 .ensures) (c .place .result) (c .place .ensures .0),
+      place-fits (c11 .loop .inv) (c7 .seat-of2 .result) (c6 .bit2 .result)
+          (c7 .seat-of2 .ensures) (c6 .bit2 .ensures) (c .place .result) (c .place .ensures .0),
     )
 
 price-of-requires-2 : tie.Need-price-of-requires-2 Inv-loop μ-loop
 price-of-requires-2 c κs = search needs
 
-put-u32-requires-2 : tie.Need-put-u32-requires-2 Inv-loop μ-loop
-put-u32-requires-2 c κs =
-    let c3 = c .before .before .before in
-    let c4 = c3 .before in
-    let c8 = c4 .before .before .before .before in
-    place-fits (c8 .loop .inv) (c4 .seat-of2 .result) (c3 .bit2 .result) (c4 .seat-of2 .ensures) (c3 .bit2 .ensures)
+put-u32-requires-3 : tie.Need-put-u32-requires-3 Inv-loop μ-loop
+put-u32-requires-3 c κs =
+    let c5 = c .before .before .before .before .before in
+    let c7 = c5 .before .before in
+    let c8 = c7 .before in
+    let c12 = c8 .before .before .before .before in
+    let args = c12 .before .before .before .before .before .args in
+    place-fits (mask-stored (args .at) (c12 .loop .inv) _ (c5 .put-u322 .ensures)) (c8 .seat-of2 .result)
+    (c7 .bit2 .result) (c8 .seat-of2 .ensures) (c7 .bit2 .ensures)
     (c .before .place .result) (c .before .place .ensures .0)
 
-add-t22 : tie.Need-add-t22 Inv-loop μ-loop
-add-t22 c = omega (arith, (c .before .before .before .before .before .before .before .before .before .before .before .loop .inv .here))
+add-t23 : tie.Need-add-t23 Inv-loop μ-loop
+add-t23 c =
+    let c10 = c .before .before .before .before .before .before .before .before .before .before in
+    let c15 = c10 .before .before .before .before .before in
+    omega (arith, (c15 .loop .inv .here))
 
 same-length : tie.Need-same-length Inv-loop μ-loop
 same-length c = search needs
@@ -138,15 +160,20 @@ returns : tie.Need-returns Inv-loop μ-loop
 returns c =
     let c3 = c .before .before .before in
     let c4 = c3 .before in
-    let c6 = c4 .before .before in
-    let c7 = c6 .before in
-    let c9 = c7 .before .before in
-    let c10 = c9 .before in
+    let c8 = c4 .before .before .before .before in
+    let c10 = c8 .before .before in
     let c11 = c10 .before in
-    prices-stored (c11 .loop .inv) (c7 .seat-of2 .result) (c6 .bit2 .result) (c7 .seat-of2 .ensures) (c6 .bit2 .ensures)
-    (c10 .is-of-row .result) (c10 .is-of-row .ensures) (c9 .if1 .left) (c4 .place .result) (c3 .price-of2 .result)
+    let c13 = c11 .before .before in
+    let c14 = c13 .before in
+    let c15 = c14 .before in
+    let c20 = c15 .before .before .before .before .before in
+    let args = c20 .args in
+    seats-stored (args .out .now) (args .at) _ (omega (arith, (c20 .pre .2))) (args .words .now) _
+    (prices-stored (mask-stored (args .at) (c15 .loop .inv) _ (c8 .put-u322 .ensures)) (c11 .seat-of2 .result)
+    (c10 .bit2 .result) (c11 .seat-of2 .ensures) (c10 .bit2 .ensures)
+    (c14 .is-of-row .result) (c14 .is-of-row .ensures) (c13 .if1 .left) (c4 .place .result) (c3 .price-of2 .result)
     (c4 .place .ensures .0)
-    (c3 .price-of2 .ensures) (c .before .before .put-u322 .ensures)
+    (c3 .price-of2 .ensures) (c .before .before .put-u323 .ensures))
 
 pub put-prices-spec : {M : Type 1} → statement M
 put-prices-spec =
@@ -156,6 +183,7 @@ put-prices-spec =
     μ-loop
     shared-slice-read-row-of
     row-of-requires
+    add-prices
     loop-holds
     add-is-of-row
     is-of-row-requires
@@ -176,11 +204,13 @@ put-prices-spec =
     seat-of-requires-2
     bit-requires-2
     add-mask-2
+    add-put-u32-2
+    put-u32-requires-2
     place-requires
     mul-put-u32-2
-    add-put-u32-2
+    add-put-u32-3
     price-of-requires-2
-    put-u32-requires-2
-    add-t22
+    put-u32-requires-3
+    add-t23
     same-length
     returns)
