@@ -172,7 +172,7 @@ pub const HEAD_WORDS: usize = 84;
 pub const TALLY_WORDS: usize = 3;
 
 /// The version of this crate as a number: major * 1,000,000 + minor * 1,000 + patch.
-pub const VERSION: u64 = 5_000_000;
+pub const VERSION: u64 = 5_001_000;
 
 /// The version of the library that is linked, as a number. It differs from [`VERSION`] where crate and library are not of
 /// one release.
