@@ -56,12 +56,14 @@ static int is_full(uint64_t answer)
     return answer == CECHNUOL_STEPS_FULL || answer == CECHNUOL_JOURNAL_FULL;
 }
 
-/* Makes room in a store that is full: flushes to the tip or, where that is done already or refused, gives up the oldest
- * read, if it holds steps below the checkpoint. To give up any other would free nothing. */
+/* Makes room in a store that is full: flushes as high as the depth lets it or, where that is done already or refused,
+ * gives up the oldest read, if it holds steps below the checkpoint. To give up any other would free nothing. A journal
+ * of 64 words and 64 more for each step of the depth has room then. */
 static uint64_t make_room(uint64_t full)
 {
-    if (cechnuol_store_checkpoint(&store) < cechnuol_store_tip(&store)) {
-        full = cechnuol_store_flush(&store, cechnuol_store_tip(&store));
+    uint32_t highest = cechnuol_store_highest_flush(&store);
+    if (cechnuol_store_checkpoint(&store) < highest) {
+        full = cechnuol_store_flush(&store, highest);
         if (full == CECHNUOL_OK)
             return full;
     }
@@ -89,7 +91,7 @@ static void take_the_feed(void)
     const uint64_t opening[2] = {cechnuol_put(STALLS, 1200), cechnuol_put(CIRCLE, 700)};
     const uint64_t evening[2] = {cechnuol_put(STALLS, 1100), cechnuol_put(BOX, 4000)};
     puts("The store is empty: state 0. Two lists of changes make states 1 and 2. Quotes say which named a seat last.");
-    must(cechnuol_store_clear(&store), "the clearing");
+    must(cechnuol_store_clear(&store, 0), "the clearing");
     commit(opening, 2);
     commit(evening, 2);
     expect(quote(STALLS, 1, 1), 1200, "the price at state 1");
@@ -164,7 +166,7 @@ static void price_orders(const uint64_t reads[2])
     expect(quote(BOX, 4, 4), 3000, "the marked-down price");
 }
 
-/* The night: the image of the newest prices is kept, and loaded the next morning. */
+/* The night: the image of the newest prices is kept, and loaded the next morning, with a depth of 1. */
 static void keep_overnight(void)
 {
     uint8_t image[CECHNUOL_IMAGE_BYTES_OF(100 + 200)]; /* an offer for each word of table and journal */
@@ -173,10 +175,25 @@ static void keep_overnight(void)
     printf("State 4 is written as an image of %" PRIu64 " bytes, from which a store is loaded. Its table answers.\n",
            count);
     expect(count, CECHNUOL_IMAGE_BYTES_OF(2), "the length of the image");
-    must(cechnuol_store_clear(&store), "the clearing");
-    must(cechnuol_store_load(&store, image, count), "the load");
+    must(cechnuol_store_clear(&store, 0), "the clearing");
+    must(cechnuol_store_load(&store, 1, image, count), "the load");
     expect(cechnuol_store_tip(&store), 4, "the state of the image");
     expect(quote(BOX, 4, CECHNUOL_BY_TABLE), 3000, "the price in the morning");
+}
+
+/* The depth: so many steps back from the tip stay possible, whatever is flushed. */
+static void step_back_still(void)
+{
+    const uint64_t right = cechnuol_put(STALLS, 990), wrong = cechnuol_put(STALLS, 99);
+    puts("It was loaded with depth 1: the newest list can always be taken back. So state 5 is not flushed at once.");
+    commit(&right, 1);
+    expect(cechnuol_store_flush(&store, 5), CECHNUOL_TOO_DEEP, "the answer to a flush of the newest list");
+    puts("When state 6 is there, state 5 can be flushed. State 6 was wrong, and a rollback takes it away.");
+    commit(&wrong, 1);
+    expect(cechnuol_store_highest_flush(&store), 5, "the highest state to flush to");
+    must(cechnuol_store_flush(&store, 5), "the flush");
+    must(cechnuol_store_roll_back(&store, 5), "the rollback");
+    expect(quote(STALLS, 5, CECHNUOL_BY_TABLE), 990, "the price that was right");
 }
 
 int main(int argument_count, char **arguments)
@@ -195,6 +212,7 @@ int main(int argument_count, char **arguments)
     show_in_the_foyer();
     price_orders(reads);
     keep_overnight();
+    step_back_still();
     puts("All is as it should be.");
     if (fflush(stdout) != 0 || ferror(stdout)) {
         fputs("box_office: the output cannot be written.\n", stderr);

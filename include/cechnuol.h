@@ -4,10 +4,11 @@
  * The unit keeps the prices of offers, state after state, in memory that its caller lends. A feed of changes is
  * committed list by list, and each list leads to the next state. The unit quotes any state from the checkpoint to the
  * tip, which is the newest, and says how fresh a quote is; it steps back from the tip when the feed is corrected, and
- * lets the checkpoint follow by a flush. A read may start before the state that it serves exists: it is issued at the
- * checkpoint and forwarded later. A batch of orders is priced on such a read. An image holds the prices at one state as
- * bytes, to be stored and loaded again, and a sheet holds them by row, as box offices exchange them. Two callers share a
- * store, the desk at the counter and a display in the foyer, and each has slots of its own for its reads.
+ * lets the checkpoint follow by a flush. A store may have a depth: so many steps back stay possible, whatever is flushed.
+ * A read may start before the state that it serves exists: it is issued at the checkpoint and forwarded later. A batch of
+ * orders is priced on such a read. An image holds the prices at one state as bytes, to be stored and loaded again, and a
+ * sheet holds them by row, as box offices exchange them. Two callers share a store, the desk at the counter and a display
+ * in the foyer, and each has slots of its own for its reads.
  *
  * The functions of the library are proved: for every length and every content of what they are lent they answer and
  * leave what is defined for them, stay within the memory lent, and end. They allocate nothing, keep nothing between
@@ -25,7 +26,7 @@
  *     int main(void)
  *     {
  *         const uint64_t changes[2] = {cechnuol_put(5, 1200), cechnuol_put(9, 700)};
- *         uint64_t price = 0, since = 0, answer = cechnuol_store_clear(&store);
+ *         uint64_t price = 0, since = 0, answer = cechnuol_store_clear(&store, 0);
  *         if (answer == CECHNUOL_OK)
  *             answer = cechnuol_store_commit(&store, changes, 2);
  *         if (answer == CECHNUOL_OK)
@@ -82,8 +83,8 @@ extern "C" {
 /* Version. */
 
 /* The version of this header: major * 1000000 + minor * 1000 + patch, and as text. */
-#define CECHNUOL_VERSION 5001000
-#define CECHNUOL_VERSION_TEXT "5.1.0"
+#define CECHNUOL_VERSION 6000000
+#define CECHNUOL_VERSION_TEXT "6.0.0"
 
 /* The version of the library that is linked, as a number. It differs from CECHNUOL_VERSION where header and library are
  * not of one release. */
@@ -100,6 +101,7 @@ enum {
     CECHNUOL_SLOTS = 8,            /* slots are numbered from 0 to 7 */
     CECHNUOL_FOYER_SLOT = 6,       /* the foyer has the slots from this one on, the desk those below it */
     CECHNUOL_STEPS = 64,           /* so many steps are held at most: tip - oldest */
+    CECHNUOL_MOST_DEPTH = 63,      /* the depth of a store is 0 to so many steps */
     CECHNUOL_IMAGE_BYTES = 96774,  /* the longest image, that of a state of 12,096 offers */
     CECHNUOL_SHEET_BYTES = 145160  /* the longest sheet, that of such a state with each offer in a row of its own */
 };
@@ -244,10 +246,18 @@ static inline uint32_t cechnuol_order_offer(uint64_t order)
  * A new store. What the memories hold before does not matter to cechnuol_clear, cechnuol_load and cechnuol_load_sheet.
  * From then on they belong to the calls: a program reads them between calls and changes nothing in them.
  *
- * A damaged store. CECHNUOL_UNSOUND is answered where the form is broken: the order of offers, the zeros, or numbers
- * that do not fit each other. A price, an offer, the end of a step or the checkpoint that was changed within that form
- * is taken as it is. A call that was cut off, by a kill or a loss of power, may leave such a store: go on from an
- * image. */
+ * The depth, a number from 0 to 63, is how many steps back from the tip a flush must leave possible: other than to the
+ * checkpoint, which changes nothing, a flush goes no higher than tip - depth. So with fewer steps above the checkpoint
+ * than the depth, or as many, there is nothing to flush yet. cechnuol_clear and the loads are told the depth, a restart
+ * keeps it, and no other call changes it; an image or a sheet does not have it. It bars flushes alone: a rollback may go
+ * to any state from the checkpoint on. Depth 0 bars nothing. The steps that must stay take up words of the journal. One
+ * of 64 * (depth + 1) words has room for any list once all is flushed that may be, unless an open slot keeps older steps;
+ * a shorter one may be full where no flush helps (cechnuol_commit, at JOURNAL_FULL).
+ *
+ * A damaged store. CECHNUOL_UNSOUND is answered where the form is broken: the order of offers, the zeros, numbers that
+ * do not fit each other, or a depth above 63. A price, an offer, the end of a step, the checkpoint or the depth that was
+ * changed within that form is taken as it is. A call that was cut off, by a kill or a loss of power, may leave such a
+ * store: go on from an image. */
 enum {
     CECHNUOL_USED = 0,       /* how many words of the table are used: the offers that have a price at the checkpoint */
     CECHNUOL_OLDEST = 1,     /* the state from which steps are held */
@@ -256,7 +266,8 @@ enum {
     CECHNUOL_TAKEN = 4,      /* 8 words: 1 for a slot that is open, else 0 */
     CECHNUOL_ISSUED = 12,    /* 8 words: the number of each open slot, else 0 */
     CECHNUOL_ENDS = 20,      /* 64 words: where each held step ends in the journal; those not in use are 0 */
-    CECHNUOL_HEAD_WORDS = 84
+    CECHNUOL_DEPTH = 84,     /* how many steps back from the tip a flush must leave possible, 0 to 63 */
+    CECHNUOL_HEAD_WORDS = 85
 };
 
 /* The counts stop at 2^64 - 1. Clear, load and restart set them to 0. */
@@ -277,6 +288,15 @@ static inline size_t cechnuol_oldest_slot(const uint64_t head[CECHNUOL_HEAD_WORD
             (oldest == CECHNUOL_SLOTS || head[CECHNUOL_ISSUED + slot] < head[CECHNUOL_ISSUED + oldest]))
             oldest = slot;
     return oldest;
+}
+
+/* The highest state to which the depth lets a flush go: tip - depth or, where that is not above it, the checkpoint. A
+ * flush to it is neither STATE_RANGE nor TOO_DEEP; TABLE_FULL it may be. Where it is the checkpoint, a flush frees
+ * nothing. Of a head that no call leaves it is any number. */
+static inline uint32_t cechnuol_highest_flush(const uint64_t head[CECHNUOL_HEAD_WORDS])
+{
+    uint64_t checkpoint = head[CECHNUOL_CHECKPOINT], tip = head[CECHNUOL_TIP], depth = head[CECHNUOL_DEPTH];
+    return cechnuol_low_bits(checkpoint < tip && depth < tip - checkpoint ? tip - depth : checkpoint);
 }
 
 /* Images. */
@@ -357,6 +377,7 @@ enum {
     CECHNUOL_OUTPUT_SHORT = 17,  /* the output is shorter than what is to be written */
     CECHNUOL_LONG_LIST = 18,     /* a list or read set of the foyer has over 16 words */
     CECHNUOL_OTHERS_SLOT = 19,   /* the slot is not the caller's: the desk has 0 to 5, the foyer 6 and 7 */
+    CECHNUOL_TOO_DEEP = 20,      /* a depth above 63, or a flush above tip - depth, other than to the checkpoint */
     CECHNUOL_NO_PRICE = 100      /* no refusal: a lookup found that the offer has no price at that state */
 };
 
@@ -387,6 +408,7 @@ static inline const char *cechnuol_name(uint64_t answer)
     case CECHNUOL_OUTPUT_SHORT: return "OUTPUT_SHORT";
     case CECHNUOL_LONG_LIST: return "LONG_LIST";
     case CECHNUOL_OTHERS_SLOT: return "OTHERS_SLOT";
+    case CECHNUOL_TOO_DEEP: return "TOO_DEEP";
     case CECHNUOL_NO_PRICE: return "NO_PRICE";
     default: return "UNKNOWN";
     }
@@ -416,6 +438,7 @@ static inline const char *cechnuol_text(uint64_t answer)
     case CECHNUOL_OUTPUT_SHORT: return "the output is shorter than what is to be written";
     case CECHNUOL_LONG_LIST: return "the foyer's list has over 16 words";
     case CECHNUOL_OTHERS_SLOT: return "the slot is not the caller's";
+    case CECHNUOL_TOO_DEEP: return "the depth is above 63, or the flush goes higher than tip - depth";
     case CECHNUOL_NO_PRICE: return "the offer has no price at that state";
     default: return "the number is no answer";
     }
@@ -435,27 +458,30 @@ static inline const char *cechnuol_text(uint64_t answer)
     const uint64_t *table, size_t table_words, const uint64_t *journal, size_t journal_words, \
         const uint64_t head[CECHNUOL_HEAD_WORDS]
 
-/* Makes an empty store: state 0, without any price. Oldest, checkpoint and tip are 0, all slots are closed, and every
- * other word of the four memories is 0.
+/* Makes an empty store with a depth from 0 to 63: state 0, without any price. Oldest, checkpoint and tip are 0, all slots
+ * are closed, and every word of the four memories but the depth is 0.
  * Changes: table, journal, head, tally.
- * Refusals: LENGTHS. */
-uint64_t cechnuol_clear(CECHNUOL_STORE);
+ * Refusals: LENGTHS, TOO_DEEP.
+ * TOO_DEEP is here a depth above 63. */
+uint64_t cechnuol_clear(CECHNUOL_STORE, uint32_t depth);
 
-/* Makes a store of an image, which the bytes are from the first to the last. Oldest, checkpoint and tip are the image's
- * state number, all slots are closed, and the tally is 0.
+/* Makes a store of an image, which the bytes are from the first to the last, with a depth from 0 to 63. Oldest,
+ * checkpoint and tip are the image's state number, all slots are closed, and the tally is 0.
  * Changes: table, journal, head, tally.
- * Refusals: LENGTHS, BAD_IMAGE, TABLE_FULL.
+ * Refusals: LENGTHS, TOO_DEEP, BAD_IMAGE, TABLE_FULL.
+ * TOO_DEEP is here a depth above 63.
  * At TABLE_FULL lend a longer table; the image's count, its fifth and sixth byte, says how many words it takes. One of
  * more than 8,000 offers fits no table. */
-uint64_t cechnuol_load(CECHNUOL_STORE, const uint8_t *bytes, size_t byte_count);
+uint64_t cechnuol_load(CECHNUOL_STORE, uint32_t depth, const uint8_t *bytes, size_t byte_count);
 
-/* Makes a store of a sheet, which the bytes are from the first to the last, as cechnuol_load does of an image. The sheet
- * and the image of a state load alike.
+/* Makes a store of a sheet, which the bytes are from the first to the last, with a depth, as cechnuol_load does of an
+ * image. The sheet and the image of a state load alike.
  * Changes: table, journal, head, tally.
- * Refusals: LENGTHS, BAD_IMAGE, TABLE_FULL.
+ * Refusals: LENGTHS, TOO_DEEP, BAD_IMAGE, TABLE_FULL.
+ * TOO_DEEP is here a depth above 63.
  * At TABLE_FULL lend a longer table, of a word for each price: there are (byte_count - 8 - 8 * rows) / 4 of them, where
  * rows is the sheet's count, its fifth to eighth byte. One of more than 8,000 prices fits no table. */
-uint64_t cechnuol_load_sheet(CECHNUOL_STORE, const uint8_t *bytes, size_t byte_count);
+uint64_t cechnuol_load_sheet(CECHNUOL_STORE, uint32_t depth, const uint8_t *bytes, size_t byte_count);
 
 /* A query. Writes the image of the tip to the start of the bytes and its length to *count; bytes past it stay. It has
  * the newest prices, whatever is flushed, and may have more of them than the table of this store has words: such a one
@@ -491,8 +517,9 @@ uint64_t cechnuol_write_state_sheet(CECHNUOL_STORE_TO_READ, uint32_t state, uint
 
 /* Writes the image of the checkpoint to the start of the bytes and loads it from there, as a program does that is
  * switched off and on again. The tip falls back to the checkpoint, so that all held steps are lost, all slots close, so
- * that no read that is under way can be forwarded, and the tally is 0. To keep the newest prices, flush to the tip
- * first. The image takes CECHNUOL_IMAGE_BYTES_OF(head[CECHNUOL_USED]) bytes.
+ * that no read that is under way can be forwarded, and the tally is 0. The depth stays. To keep the newest prices, write
+ * the image of the tip and load that instead, or, where the depth is 0, flush to the tip first. The image takes
+ * CECHNUOL_IMAGE_BYTES_OF(head[CECHNUOL_USED]) bytes.
  * Changes: journal, head, tally, bytes.
  * Refusals: LENGTHS, UNSOUND, OUTPUT_SHORT. */
 uint64_t cechnuol_restart(CECHNUOL_STORE, uint8_t *bytes, size_t byte_count);
@@ -501,23 +528,27 @@ uint64_t cechnuol_restart(CECHNUOL_STORE, uint8_t *bytes, size_t byte_count);
  * price of its offer, the removal of a price that is not there changes nothing, and an empty list makes a state too.
  * Changes: journal, head, tally.
  * Refusals: LENGTHS, UNSOUND, BAD_LIST, LAST_STATE, STEPS_FULL, JOURNAL_FULL.
- * At STEPS_FULL, which is met where tip - oldest is 64, flush to the tip, or to the highest state that no rollback will
- * go below. To flush and try again is not enough: while a slot is open, no flush lets go a step from its number on. If
- * it is still full, or the flush is refused by TABLE_FULL, and oldest is below the checkpoint, forward or release the
- * slot whose number is the oldest, cechnuol_oldest_slot(head), as its caller (cechnuol_caller_of), and then the next,
- * until the commit passes. Where oldest is the checkpoint, no slot holds a step back and to close one frees nothing:
- * what helps then is said at TABLE_FULL of cechnuol_flush.
+ * At STEPS_FULL, which is met where tip - oldest is 64, flush to the highest state that the depth allows,
+ * cechnuol_highest_flush(head), or to a lower one that no rollback will go below. To flush and try again is not enough:
+ * while a slot is open, no flush lets go a step from its number on. If it is still full, or no state above the checkpoint
+ * can be flushed to, and oldest is below the checkpoint, forward or release the slot whose number is the oldest,
+ * cechnuol_oldest_slot(head), as its caller (cechnuol_caller_of), and then the next, until the commit passes. Where
+ * oldest is the checkpoint, no slot holds a step back and to close one frees nothing. A depth alone never keeps the steps
+ * full, since it is at most 63; where the flush is refused by TABLE_FULL, what helps is said at cechnuol_flush.
  * At JOURNAL_FULL do the same, but first test the list: one of more than journal_words words never fits, whatever is
  * given up. Commit it in parts, each a state of its own, or move to a store with a longer journal and a table that has a
  * word for each price of the tip (write the image, load it there; open reads, the states below the tip and the tally
- * stay behind).
+ * stay behind). Where oldest is cechnuol_highest_flush(head), no flush and no slot makes room: the steps that the depth
+ * keeps fill the journal. Then give up states to step back to: roll back, or restart, which falls back to the checkpoint,
+ * or write the image of the tip and load it with the depth wanted, which drops the states below the tip. Or commit empty
+ * lists, which take no words, until more steps than the depth lie above the checkpoint, and flush: empty steps count too.
  * At LAST_STATE there is no further number: write the image, set its first four bytes to 0, and load it. The same prices
  * are then state 0; open reads, the states below the tip and the tally are gone. Where the load is refused by
  * TABLE_FULL, lend a longer table, or roll back a state, commit removals and write again. */
 uint64_t cechnuol_commit(CECHNUOL_STORE, const uint64_t *words, size_t word_count);
 
 /* Makes a state the tip: the steps above it are gone, and later commits use their numbers again. A rollback to the tip
- * changes nothing.
+ * changes nothing. The depth does not bar it: fewer steps than the depth may be left above the checkpoint.
  * Changes: journal, head, tally.
  * Refusals: LENGTHS, UNSOUND, STATE_RANGE.
  * At STATE_RANGE, with a state below the checkpoint, there is no way back in the store: load an earlier image. */
@@ -525,17 +556,20 @@ uint64_t cechnuol_roll_back(CECHNUOL_STORE, uint32_t state);
 
 /* Makes a state the checkpoint: the table then holds its prices, and states below it can no longer be quoted or rolled
  * back to; no number up to it is given as *since any more. The steps up to it are let go, but for those from the number
- * of the oldest open slot on; a flush to the checkpoint changes nothing.
+ * of the oldest open slot on; a flush to the checkpoint changes nothing, and no depth bars it.
  * Changes: table, journal, head, tally.
- * Refusals: LENGTHS, UNSOUND, STATE_RANGE, TABLE_FULL.
+ * Refusals: LENGTHS, UNSOUND, STATE_RANGE, TOO_DEEP, TABLE_FULL.
+ * At TOO_DEEP the state is not the checkpoint, and fewer steps than the depth lie above it: state + depth is above the
+ * tip. Flush to a lower one, cechnuol_highest_flush(head) if that is above the checkpoint, or commit further steps first.
  * At TABLE_FULL the state named has more prices than the table has words; the states on the way to it do not count.
  * Flush to another one: a lower one that fits, or commit removals (where there is no room for them, roll back first)
- * and flush to the new tip. Or move to a longer table, unless this one has 8,000 words: write the image and load it into
- * a store that has one, where the tip is then the checkpoint. To keep the states below the tip too, write the
- * checkpoint's image by cechnuol_write_state_image, load that into a store in memory of its own, and commit there again
- * what was committed above the checkpoint. Those lists stand in the journal of the old one: held step k, counted from 0,
- * ends before word head[CECHNUOL_ENDS + k] and begins where the one before it ends, step 0 at word 0, and the first above
- * the checkpoint is k = checkpoint - oldest. Open reads and the tally stay behind. */
+ * and flush to the state that they lead to, with a depth once so many steps lie above it. Or move to a longer table,
+ * unless this one has 8,000 words: write the image and load it into a store that has one, where the tip is then the
+ * checkpoint. To keep the states below the tip too, write the checkpoint's image by cechnuol_write_state_image, load that
+ * into a store in memory of its own, and commit there again what was committed above the checkpoint. Those lists stand in
+ * the journal of the old one: held step k, counted from 0, ends before word head[CECHNUOL_ENDS + k] and begins where the
+ * one before it ends, step 0 at word 0, and the first above the checkpoint is k = checkpoint - oldest. Open reads and the
+ * tally stay behind. */
 uint64_t cechnuol_flush(CECHNUOL_STORE, uint32_t state);
 
 /* A query. Gives the price of an offer at a state, a number below 2^32, to *price, or answers CECHNUOL_NO_PRICE and
@@ -607,19 +641,21 @@ struct cechnuol_store {
 #define CECHNUOL_LENT(store) CECHNUOL_LENT_TO_READ(store), (store)->tally
 
 /* cechnuol_store_NAME is cechnuol_NAME on the memory of the struct: what is said there holds here. */
-static inline uint64_t cechnuol_store_clear(struct cechnuol_store *store)
+static inline uint64_t cechnuol_store_clear(struct cechnuol_store *store, uint32_t depth)
 {
-    return cechnuol_clear(CECHNUOL_LENT(store));
+    return cechnuol_clear(CECHNUOL_LENT(store), depth);
 }
 
-static inline uint64_t cechnuol_store_load(struct cechnuol_store *store, const uint8_t *bytes, size_t byte_count)
+static inline uint64_t cechnuol_store_load(struct cechnuol_store *store, uint32_t depth, const uint8_t *bytes,
+                                           size_t byte_count)
 {
-    return cechnuol_load(CECHNUOL_LENT(store), bytes, byte_count);
+    return cechnuol_load(CECHNUOL_LENT(store), depth, bytes, byte_count);
 }
 
-static inline uint64_t cechnuol_store_load_sheet(struct cechnuol_store *store, const uint8_t *bytes, size_t byte_count)
+static inline uint64_t cechnuol_store_load_sheet(struct cechnuol_store *store, uint32_t depth, const uint8_t *bytes,
+                                                 size_t byte_count)
 {
-    return cechnuol_load_sheet(CECHNUOL_LENT(store), bytes, byte_count);
+    return cechnuol_load_sheet(CECHNUOL_LENT(store), depth, bytes, byte_count);
 }
 
 static inline uint64_t cechnuol_store_write_image(const struct cechnuol_store *store, uint8_t *bytes, size_t byte_count,
@@ -689,9 +725,9 @@ static inline uint64_t cechnuol_store_release(struct cechnuol_store *store, uint
     return cechnuol_release(CECHNUOL_LENT(store), caller, slot);
 }
 
-/* What the head of a store says: the numbers of its oldest state, its checkpoint and its tip, whether a slot is open (0
- * for one above 7), and how many bytes are enough for the image, and for the sheet, of any state from the checkpoint to
- * the tip. */
+/* What the head of a store says: the numbers of its oldest state, its checkpoint and its tip, its depth and the highest
+ * state to which that lets a flush go, whether a slot is open (0 for one above 7), and how many bytes are enough for the
+ * image, and for the sheet, of any state from the checkpoint to the tip. */
 static inline uint32_t cechnuol_store_oldest(const struct cechnuol_store *store)
 {
     return cechnuol_low_bits(store->head[CECHNUOL_OLDEST]);
@@ -705,6 +741,16 @@ static inline uint32_t cechnuol_store_checkpoint(const struct cechnuol_store *st
 static inline uint32_t cechnuol_store_tip(const struct cechnuol_store *store)
 {
     return cechnuol_low_bits(store->head[CECHNUOL_TIP]);
+}
+
+static inline uint32_t cechnuol_store_depth(const struct cechnuol_store *store)
+{
+    return cechnuol_low_bits(store->head[CECHNUOL_DEPTH]);
+}
+
+static inline uint32_t cechnuol_store_highest_flush(const struct cechnuol_store *store)
+{
+    return cechnuol_highest_flush(store->head);
 }
 
 static inline int cechnuol_store_is_open(const struct cechnuol_store *store, size_t slot)

@@ -12,6 +12,7 @@ MEANINGS = {
     "taken": "for each slot 1 where it is open, else 0",
     "issued": "for each open slot the checkpoint at its issue, else 0",
     "ends": "for each held step its mark, where it ends in the journal; marks not in use are 0",
+    "depth": "how many steps a flush must leave above the state that it goes to, 0 to 63",
 }
 
 

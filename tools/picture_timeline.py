@@ -14,7 +14,7 @@ QUOTED = "#2f6fb5"
 START = 20
 LENGTHS = [2, 1, 3, 2, 4, 1, 2, 3]
 CALLS = ["flush 25", "roll_back 27", "forward 0 26"]
-SHOWN = re.compile(r"head used \d+ oldest (\d+) checkpoint (\d+) tip (\d+) held ([01]+) issued ((?:\d+ )+)ends((?: \d+)*)$")
+SHOWN = re.compile(r"head used \d+ oldest (\d+) checkpoint (\d+) tip (\d+) depth \d+ held ([01]+) issued ((?:\d+ )+)ends((?: \d+)*)$")
 
 
 def script(read):

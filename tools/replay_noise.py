@@ -6,10 +6,10 @@ import random
 import sys
 
 TOKENS = (
-    b"lend poke fill head tally show table journal bytes used oldest checkpoint tip held issued ends committed rolled_back "
+    b"lend poke fill head tally show table journal bytes used oldest checkpoint tip depth held issued ends committed rolled_back "
     b"flushed clear load load_sheet load_file load_sheet_file write_image write_sheet restart commit roll_back flush look_up "
     b"issue forward with release desk foyer price_batch all / # "
-    b"0 1 7 8 00000000000000000001 18446744073709551615 18446744073709551616 99999999999999999999 000000000000000000001 "
+    b"0 1 7 8 63 64 00000000000000000001 18446744073709551615 18446744073709551616 99999999999999999999 000000000000000000001 "
     b"4294967295 4294967296 80000005000004B0 80000005000004b0 0000000500000000 FF fF G0 8192 8193 4608 147456 147457 +5 -1 "
     b"Lend . /dev/null"
 ).split() + [b"", b"\t", b"\r", b"\xff", b"\xc3\xa9", b"\0", b"\\", b"x" * 70]

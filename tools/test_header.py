@@ -74,6 +74,7 @@ LIMITS = {
         ("clauses", "leb (tip - oldest) ", " ∷"),
         ("commit", "met (eqb (heldOf head) ", ") StepsFull"),
     ],
+    "MOST_DEPTH": [("layout", "pub const MOST_DEPTH: u32 = ", ";"), ("clauses", "depthB depth = leb depth ", "\n")],
     "HEAD_WORDS": [("head_code", "pub const HEAD_WORDS: usize = ", ";")],
     "TALLY_WORDS": [("storing", "pub const TALLY_WORDS: usize = ", ";")],
 }
@@ -470,8 +471,10 @@ class Prototypes(Held):
             ("header", "        const uint64_t head[CECHNUOL_HEAD_WORDS]", "        uint64_t head[CECHNUOL_HEAD_WORDS]", 5),
             ("header", "uint64_t cechnuol_flush(CECHNUOL_STORE, uint32_t state);", "", 1),
             ("header", "cechnuol_commit(CECHNUOL_STORE, const uint64_t *words", "cechnuol_commit(CECHNUOL_STORE, uint64_t *words", 1),
-            ("header", "cechnuol_load(CECHNUOL_STORE, const uint8_t *bytes", "cechnuol_load(CECHNUOL_STORE, uint8_t *bytes", 1),
-            ("header", "cechnuol_load_sheet(CECHNUOL_STORE, const", "cechnuol_load_sheet(CECHNUOL_STORE_TO_READ, const", 1),
+            ("header", "cechnuol_clear(CECHNUOL_STORE, uint32_t depth)", "cechnuol_clear(CECHNUOL_STORE)", 1),
+            ("header", "cechnuol_load(CECHNUOL_STORE, uint32_t depth, const uint8_t *bytes", "cechnuol_load(CECHNUOL_STORE, uint32_t depth, uint8_t *bytes", 1),
+            ("header", "cechnuol_load(CECHNUOL_STORE, uint32_t depth, const", "cechnuol_load(CECHNUOL_STORE, uint64_t depth, const", 1),
+            ("header", "cechnuol_load_sheet(CECHNUOL_STORE, uint32_t", "cechnuol_load_sheet(CECHNUOL_STORE_TO_READ, uint32_t", 1),
             ("header", "cechnuol_write_state_sheet(CECHNUOL_STORE_TO_READ, uint32_t state,", "cechnuol_write_state_sheet(CECHNUOL_STORE_TO_READ,", 1),
             ("header", "cechnuol_version(void);", "cechnuol_version(uint64_t of);", 1),
             ("pricing", "    reads: &[u64],", "    reads: &mut [u64],", 1),
@@ -485,15 +488,15 @@ class Comments(Held):
         self.assertEqual(otherwise_refused(texts()), [])
 
     def test_a_refusal_more_or_less_or_in_another_order(self):
-        of_load = "\n * At TABLE_FULL lend a longer table"
+        of_load = "\n * TOO_DEEP is here a depth above 63.\n * At TABLE_FULL lend a longer table"
         edits = [
-            ("header", f"LENGTHS, BAD_IMAGE, TABLE_FULL.{of_load};", f"LENGTHS, TABLE_FULL, BAD_IMAGE.{of_load};", ["load"]),
-            ("header", f"LENGTHS, BAD_IMAGE, TABLE_FULL.{of_load},", f"LENGTHS, BAD_IMAGE.{of_load},", ["load_sheet"]),
-            ("header", "Refusals: LENGTHS, UNSOUND, STATE_RANGE, TABLE_FULL.", "Refusals: LENGTHS, UNSOUND, STATE_RANGE.", ["flush"]),
-            ("header", "Refusals: LENGTHS.", "Refusals: LENGTHS, UNSOUND.", ["clear"]),
+            ("header", f"LENGTHS, TOO_DEEP, BAD_IMAGE, TABLE_FULL.{of_load};", f"LENGTHS, BAD_IMAGE, TOO_DEEP, TABLE_FULL.{of_load};", ["load"]),
+            ("header", f"LENGTHS, TOO_DEEP, BAD_IMAGE, TABLE_FULL.{of_load},", f"LENGTHS, TOO_DEEP, BAD_IMAGE.{of_load},", ["load_sheet"]),
+            ("header", "STATE_RANGE, TOO_DEEP, TABLE_FULL.", "STATE_RANGE, TABLE_FULL.", ["flush"]),
+            ("header", "Refusals: LENGTHS, TOO_DEEP.", "Refusals: LENGTHS, UNSOUND, TOO_DEEP.", ["clear"]),
             ("header", "ORDER_NO_PRICE or PRICE_RANGE; then", "PRICE_RANGE; then", ["price_batch"]),
             ("grounds", "ofReset Restart = 1 ∷ 2 ∷ 17 ∷ []", "ofReset Restart = 1 ∷ 2 ∷ 15 ∷ []", ["restart"]),
-            ("grounds", "ofReset (Load format) = 1 ∷ 15 ∷ 16 ∷ []", "ofReset (Load format) = 1 ∷ 15 ∷ []", ["load", "load_sheet"]),
+            ("grounds", "= 1 ∷ 20 ∷ 15 ∷ 16 ∷ []", "= 1 ∷ 15 ∷ 20 ∷ 16 ∷ []", ["load", "load_sheet"]),
             ("grounds", "ofQuery (Write format) = 1 ∷ 2 ∷ 17 ∷ []", "ofQuery (Write format) = 1 ∷ 2 ∷ []", ["write_image", "write_sheet"]),
             ("grounds", "ofBatch = 6 ∷ 7 ∷ 8 ∷ []", "ofBatch = 6 ∷ 8 ∷ 7 ∷ []", ["price_batch"]),
         ]
@@ -505,10 +508,11 @@ class Comments(Held):
 
     def test_a_refusal_that_is_not_provoked(self):
         edits = [
-            ("header", "Refusals: LENGTHS.", "Refusals: LENGTHS, UNSOUND.", ["clear"]),
+            ("header", "Refusals: LENGTHS, TOO_DEEP.", "Refusals: LENGTHS, UNSOUND, TOO_DEEP.", ["clear"]),
+            ("refusals", "    REFUSED(cechnuol_clear(STORE, 64), TOO_DEEP);\n", "", ["clear"]),
             ("refusals", "    REFUSED(cechnuol_restart(STORE, lent.bytes, 21), OUTPUT_SHORT);\n", "", ["restart"]),
             ("refusals", "    REFUSED(price_batch(good, other, 2, 1), OUTPUT_SHORT);\n", "", ["price_batch"]),
-            ("refusals", "    REFUSED(cechnuol_load_sheet(STORE, five_seats, 36), TABLE_FULL);\n", "", ["load_sheet"]),
+            ("refusals", "    REFUSED(cechnuol_load_sheet(STORE, 0, five_seats, 36), TABLE_FULL);\n", "", ["load_sheet"]),
         ]
         for file, old, new, calls in edits:
             self.assertEqual(not_provoked(self.edited(file, old, new)), calls, new)
@@ -555,7 +559,7 @@ class Answers(Held):
         edits = [
             ('case CECHNUOL_UNSOUND: return "UNSOUND";', 'case CECHNUOL_UNSOUND: return "LENGTHS";', [2]),
             ('    case CECHNUOL_NO_PRICE: return "NO_PRICE";\n', "", [100]),
-            ('default: return "UNKNOWN";', 'default: return "OK";', [*range(20, 100), *range(101, 300)]),
+            ('default: return "UNKNOWN";', 'default: return "OK";', [*range(21, 100), *range(101, 300)]),
         ]
         for old, new, codes in edits:
             self.assertEqual(misnamed(self.edited("header", old, new)), codes, new)

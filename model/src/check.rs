@@ -1,12 +1,12 @@
 //! The model's check of itself: the store on raw memory against the plain list of whole maps, over the named calls of
 //! document 01's third condition; the image and the sheet of every kept state, loaded elsewhere; two stores with different
-//! flushes and callers; and batches against orders run on whole maps.
+//! flushes, depths and callers; and batches against orders run on whole maps.
 
 use crate::caller::Caller;
 use crate::changes::{apply, changes_of, map_of, map_words, words_of, Map};
 use crate::draw::Draw;
 use crate::format::{Format, FORMATS};
-use crate::gen::LookedUp;
+use crate::gen::{Flushed, LookedUp};
 use crate::ground::Ground;
 use crate::head::{count_on, Head, Tally};
 use crate::plain::Plain;
@@ -17,6 +17,9 @@ use crate::{batch, word};
 use std::collections::{BTreeMap, BTreeSet};
 use std::fmt;
 
+/// The number of a depth above 63, and of a flush that the depth bars.
+const TOO_DEEP: u8 = Ground::TooDeep as u8;
+
 /// What was checked.
 #[derive(Clone, Debug, Default, PartialEq, Eq)]
 pub struct Report {
@@ -24,8 +27,11 @@ pub struct Report {
     /// Calls made on a unit and on a plain list.
     pub calls: u64,
     pub accepted: u64,
-    /// The refusals among them: the call's form and the ground's number.
-    pub refusals: BTreeSet<(&'static str, u8)>,
+    /// The refusals among them: the call's form and the ground's number, and how many. The plain list gave each of them too.
+    pub refusals: BTreeMap<(&'static str, u8), u64>,
+    /// The flushes to kept states among them, and how many went to a state above the checkpoint of a store with a depth.
+    pub flushed: BTreeSet<Flushed>,
+    pub deep_flushes: u64,
     /// The lookups among them that were answered: how many of each kind of answer, and what they met.
     pub lookups: BTreeMap<String, u64>,
     pub looked_up: BTreeSet<LookedUp>,
@@ -40,6 +46,9 @@ pub struct Report {
     pub compared: u64,
     /// Those of them that the desk asked in one store and the foyer in the other.
     pub by_both: u64,
+    /// Those of them that were asked of stores with different depths, and the flushes of these stores that a depth barred.
+    pub depths_differ: u64,
+    pub barred: u64,
     /// Lookups among them that gave one price, or none, and two numbers: since when may differ.
     pub since_differs: u64,
     /// Images and sheets written in both stores.
@@ -52,7 +61,7 @@ impl Report {
         self.calls += 1;
         match answer {
             Answer::Refused(ground) => {
-                self.refusals.insert((call.form(), ground.number()));
+                *self.refusals.entry((call.form(), ground.number())).or_default() += 1;
                 return;
             }
             Answer::Price(..) | Answer::NoPrice(_) => *self.lookups.entry(answer.kind()).or_default() += 1,
@@ -60,14 +69,25 @@ impl Report {
         }
         self.accepted += 1;
     }
+
+    fn note_flush(&mut self, flushed: Option<Flushed>, answer: Answer) {
+        let deep = flushed.is_some_and(|flushed| flushed.deep && !flushed.still);
+        self.deep_flushes += u64::from(deep && answer == Answer::Done);
+        self.flushed.extend(flushed);
+    }
 }
 
 impl fmt::Display for Report {
     fn fmt(&self, f: &mut fmt::Formatter<'_>) -> fmt::Result {
         let Report { runs, calls, accepted, states, large_states, quoted, .. } = self;
-        let Report { compared, by_both, since_differs, batches, .. } = self;
+        let Report { compared, by_both, since_differs, batches, deep_flushes, depths_differ, barred, .. } =
+            self;
         let refusals = self.refusals.len();
-        write!(f, "runs {runs} calls {calls} accepted {accepted} refusals met {refusals} lookups ")?;
+        write!(f, "runs {runs} calls {calls} accepted {accepted} refusals met {refusals} ")?;
+        for ((form, _), count) in self.refusals.iter().filter(|((_, number), _)| *number == TOO_DEEP) {
+            write!(f, "{form} refused {TOO_DEEP} {count} ")?;
+        }
+        write!(f, "flushes with a depth {deep_flushes} lookups ")?;
         for (kind, count) in &self.lookups {
             write!(f, "{kind} {count} ")?;
         }
@@ -77,7 +97,8 @@ impl fmt::Display for Report {
         write!(f, "states loaded elsewhere {states} too large for their table {large_states} prices there {quoted} ")?;
         write!(
             f,
-            "compared in two stores {compared} by both callers {by_both} since differs {since_differs} "
+            "compared in two stores {compared} by both callers {by_both} depths differ {depths_differ} \
+             flushes barred {barred} since differs {since_differs} "
         )?;
         for (format, count) in &self.written_in_both {
             write!(f, "{format}s in both {count} ")?;
@@ -125,8 +146,10 @@ fn against_plain(seed: u64, report: &mut Report) -> Result<(), String> {
     let weights = draw.rng.pick(&[MIXED, MIXED, MIXED, MANY_COMMITS, LOOKUPS, LOOKUPS]);
     for _ in 0..draw.rng.within(20, 200) {
         let call = draw_call(&mut draw, &weights, &mut pair.unit);
+        let flushed = Flushed::of(&call, &pair.unit.store);
         let reply = pair.step(&call).map_err(|difference| format!("{call:?}: {difference}"))?;
         report.note(&call, reply.answer);
+        report.note_flush(flushed, reply.answer);
         report.looked_up.extend(LookedUp::of(&call, reply.answer, &pair.unit.store));
         if draw.rng.percent(10) {
             pair.compare_states()?;
@@ -142,11 +165,12 @@ fn used_memory(draw: &mut Draw, length: usize) -> Vec<u64> {
     (0..length as u64).map(|index| any.wrapping_mul(2 * index + 1)).collect()
 }
 
-/// A store whose memory and tally hold anything, as there may be before a load.
+/// A store whose memory, depth and tally hold anything, as there may be before a load.
 fn used_store(draw: &mut Draw, table: usize, journal: usize) -> Store {
     let mut store = Store::of_lengths(table, journal);
     store.table = used_memory(draw, table);
     store.journal = used_memory(draw, journal);
+    store.head.depth = draw.rng.bits() as u32;
     store.tally.flushed = draw.rng.bits();
     store
 }
@@ -166,10 +190,12 @@ fn load_both(draw: &mut Draw, report: &mut Report) -> Result<Option<Pair>, Strin
     }
     let store = used_store(draw, table, journal);
     let mut unit = Unit { store, bytes, ..Unit::default() };
-    let call = Call::Load { format };
+    let depth = draw.depth();
+    let call = Call::Load { depth, format };
+    let before = unit.clone();
     let answer = unit.serve(&call).answer;
     report.note(&call, answer);
-    match Plain::load(format, &unit.bytes, table, journal) {
+    match Plain::load(depth, format, &unit.bytes, table, journal) {
         Ok(plain) => {
             expect("load", answer, Answer::Done)?;
             *report.loads.entry(format).or_default() += 1;
@@ -177,6 +203,7 @@ fn load_both(draw: &mut Draw, report: &mut Report) -> Result<Option<Pair>, Strin
         }
         Err(ground) => {
             expect("load", answer, Answer::Refused(ground))?;
+            expect("refused load, unit", &unit, &before)?;
             Ok(None)
         }
     }
@@ -184,7 +211,7 @@ fn load_both(draw: &mut Draw, report: &mut Report) -> Result<Option<Pair>, Strin
 
 /// How often each call is drawn, in the order of [`draw_call`]: all of them, so many commits that the steps run out, or lookups
 /// while slots that stay open hold the steps below the checkpoint.
-const MIXED: [usize; 9] = [30, 0, 5, 8, 20, 12, 12, 4, 8];
+const MIXED: [usize; 9] = [30, 0, 5, 12, 20, 12, 12, 4, 8];
 const MANY_COMMITS: [usize; 9] = [2, 80, 2, 2, 10, 4, 2, 1, 3];
 const LOOKUPS: [usize; 9] = [25, 5, 5, 6, 50, 6, 1, 1, 3];
 
@@ -197,7 +224,7 @@ fn draw_call(draw: &mut Draw, weights: &[usize; 9], unit: &mut Unit) -> Call {
         0 => Call::Commit { list: draw_list(draw, &unit.store) },
         1 => Call::Commit { list: draw.short_changes() },
         2 => Call::RollBack { state },
-        3 => Call::Flush { state },
+        3 => Call::Flush { state: draw.state_to_flush(head) },
         4 if draw.rng.percent(95) => Call::LookUp { caller, offer: draw.offer_in(&unit.store), state },
         4 => Call::LookUp { caller, offer: draw.offer() + word::OFFERS, state },
         5 => {
@@ -297,7 +324,7 @@ impl Pair {
                 bytes[..written.len()].copy_from_slice(&written);
                 Answer::Count(written.len())
             }),
-            Call::Clear | Call::Load { .. } | Call::Restart | Call::PriceBatch { .. } => {
+            Call::Clear { .. } | Call::Load { .. } | Call::Restart | Call::PriceBatch { .. } => {
                 unreachable!("not one of the named calls")
             }
         };
@@ -315,12 +342,13 @@ impl Pair {
         }
     }
 
-    /// Soundness, checkpoint and tip, the tally and its equation.
+    /// Soundness, checkpoint, tip and depth, the tally and its equation.
     fn compare_numbers(&self) -> Result<(), String> {
         let Store { head, tally, .. } = &self.unit.store;
         expect("sound", self.unit.store.is_sound(), true)?;
         expect("checkpoint", head.checkpoint, self.plain.checkpoint())?;
         expect("tip", head.tip, self.plain.tip())?;
+        expect("depth", head.depth, self.plain.depth())?;
         expect("tally", *tally, self.tally)?;
         let above = u64::from(head.tip - head.checkpoint);
         expect("equation of the tally", tally.committed, tally.rolled_back + tally.flushed + above)
@@ -389,7 +417,8 @@ impl Pair {
             for (format, bytes) in FORMATS.iter().zip(&mut written) {
                 let answer = self.unit.store.write(*format, Some(state), bytes);
                 expect("written", answer, Ok(bytes.len())).map_err(told)?;
-                let elsewhere = loaded_elsewhere(*format, bytes, state, map.len()).map_err(told)?;
+                let depth = draw.allowed_depth();
+                let elsewhere = loaded_elsewhere(depth, *format, bytes, state, map.len()).map_err(told)?;
                 for &offer in &offers {
                     let quote = Quote { price: map.get(&offer).copied(), since: Since::Table };
                     expect("quote", elsewhere.look_up(offer, state), Ok(quote)).map_err(told)?;
@@ -397,7 +426,8 @@ impl Pair {
             }
             let table_words = draw.rng.pick(&[0, map.len() / 2, map.len(), map.len() + 3]);
             let journal_words = draw.rng.within(0, 9);
-            load_alike(&used_store(draw, table_words, journal_words), &written).map_err(told)?;
+            let depth = draw.depth();
+            load_alike(depth, &used_store(draw, table_words, journal_words), &written).map_err(told)?;
             report.states += 1;
             report.large_states += u64::from(map.len() > table.len());
             report.quoted += 2 * offers.len() as u64;
@@ -406,26 +436,34 @@ impl Pair {
     }
 }
 
-/// The store of an image or a sheet that is loaded into a table of as many words as it has offers, and of one if it has none.
-fn loaded_elsewhere(format: Format, bytes: &[u8], state: u32, count: usize) -> Result<Store, String> {
+/// The store of an image or a sheet that is loaded with a depth into a table of as many words as it has offers, and of one if it
+/// has none.
+fn loaded_elsewhere(
+    depth: u32,
+    format: Format,
+    bytes: &[u8],
+    state: u32,
+    count: usize,
+) -> Result<Store, String> {
     let mut elsewhere = Store::of_lengths(count.max(1), 1);
-    expect("load", elsewhere.load(format, bytes), Ok(()))?;
-    expect("head", &elsewhere.head, &Head::at_rest(state, count as u64))?;
+    expect("load", elsewhere.load(depth, format, bytes), Ok(()))?;
+    expect("head", &elsewhere.head, &Head::at_rest(state, count as u64, depth))?;
     let mut again = vec![0; bytes.len()];
     expect("written again", elsewhere.write(format, None, &mut again), Ok(bytes.len()))?;
     expect("bytes written again", &again[..], bytes)?;
     if count > 1 {
-        let short = Store::of_lengths(count - 1, 1).load(format, bytes);
+        let short = Store::of_lengths(count - 1, 1).load(depth, format, bytes);
         expect("load into a shorter table", short, Err(Ground::TableFull))?;
     }
     Ok(elsewhere)
 }
 
-/// Loads a state's image and its sheet, each into a copy of a store: outcome, head, tally and all memory are the same.
-fn load_alike(store: &Store, written: &[Vec<u8>; 2]) -> Result<(), String> {
+/// Loads a state's image and its sheet with one depth, each into a copy of a store: outcome, head, tally and all memory are the
+/// same.
+fn load_alike(depth: u32, store: &Store, written: &[Vec<u8>; 2]) -> Result<(), String> {
     let [image, sheet] = [0, 1].map(|index| {
         let mut store = store.clone();
-        let outcome = store.load(FORMATS[index], &written[index]);
+        let outcome = store.load(depth, FORMATS[index], &written[index]);
         (outcome, store)
     });
     expect("load of the sheet", &sheet, &image)
@@ -433,13 +471,20 @@ fn load_alike(store: &Store, written: &[Vec<u8>; 2]) -> Result<(), String> {
 
 // All short runs.
 
-/// Makes every run of so many accepted calls, out of a few on a small store that is loaded by an image or a sheet, and every
-/// refused call after each of them; gives the number of calls made, or the first difference.
-pub fn all_short_runs(format: Format, table: usize, journal: usize, length: usize) -> Result<u64, String> {
+/// Makes every run of so many accepted calls, out of a few on a small store that is loaded with a depth by an image or a sheet,
+/// and every refused call after each of them; gives the number of calls made, or the first difference.
+pub fn all_short_runs(
+    depth: u32,
+    format: Format,
+    table: usize,
+    journal: usize,
+    length: usize,
+) -> Result<u64, String> {
     let bytes = format.write(0, &[word::entry(0, Some(3))]);
-    let plain = Plain::load(format, &bytes, table, journal).map_err(|ground| format!("load: {ground:?}"))?;
+    let plain =
+        Plain::load(depth, format, &bytes, table, journal).map_err(|ground| format!("load: {ground:?}"))?;
     let mut unit = Unit { store: Store::of_lengths(table, journal), bytes, ..Unit::default() };
-    expect("load", unit.serve(&Call::Load { format }).answer, Answer::Done)?;
+    expect("load", unit.serve(&Call::Load { depth, format }).answer, Answer::Done)?;
     let pair = Pair { unit, plain, tally: Tally::default() };
     runs_after(&pair, &few_calls(), length)
 }
@@ -480,7 +525,7 @@ fn few_calls() -> Vec<Call> {
     calls
 }
 
-// Two stores whose accepted calls agree, flushes and callers apart.
+// Two stores whose accepted calls agree, flushes, depths and callers apart.
 
 fn two_stores(seed: u64, report: &mut Report) -> Result<(), String> {
     let mut draw = Draw::new(!seed);
@@ -489,8 +534,9 @@ fn two_stores(seed: u64, report: &mut Report) -> Result<(), String> {
     for _ in 0..draw.rng.within(20, 120) {
         for unit in &mut units {
             if draw.rng.percent(20) {
-                let state = draw.state(&unit.store.head);
-                unit.serve(&Call::Flush { state });
+                let state = draw.state_to_flush(&unit.store.head);
+                let barred = Answer::Refused(Ground::TooDeep);
+                report.barred += u64::from(unit.serve(&Call::Flush { state }).answer == barred);
             }
         }
         let latest = if units[0].store.head.checkpoint > units[1].store.head.checkpoint { 0 } else { 1 };
@@ -507,6 +553,7 @@ fn two_stores(seed: u64, report: &mut Report) -> Result<(), String> {
             Some(Compared::Quotes { since_differs }) => {
                 report.compared += 1;
                 report.by_both += u64::from(call != other);
+                report.depths_differ += u64::from(units[0].store.head.depth != units[1].store.head.depth);
                 report.since_differs += u64::from(since_differs);
             }
             Some(Compared::Nothing) => {
@@ -545,12 +592,12 @@ fn same_call(draw: &mut Draw, call: &Call) -> Call {
     same
 }
 
-/// A store that is loaded with a map by its image or by its sheet, which load alike.
+/// A store that is loaded with a map, by its image or by its sheet, which load alike, and with any depth.
 fn loaded(draw: &mut Draw, state: u32, words: &[u64]) -> Unit {
     let format = draw.rng.pick(&FORMATS);
     let store = Store::of_lengths(draw.rng.within(121, 200), draw.rng.within(100, 1000));
     let mut unit = Unit { store, bytes: format.write(state, words), ..Unit::default() };
-    unit.serve(&Call::Load { format });
+    unit.serve(&Call::Load { depth: draw.allowed_depth(), format });
     unit
 }
 

@@ -1,8 +1,8 @@
-//! Drawing arguments: offers, prices, lists, states, slots and callers, with their ends drawn often.
+//! Drawing arguments: offers, prices, lists, states, depths, slots and callers, with their ends drawn often.
 
 use crate::caller::{Caller, FOYER_WORDS};
 use crate::changes::{Changes, Map};
-use crate::head::{Head, SLOTS};
+use crate::head::{Head, MOST_DEPTH, SLOTS};
 use crate::rng::Rng;
 use crate::store::Store;
 use crate::word;
@@ -206,6 +206,36 @@ impl Draw {
         let below = checkpoint.saturating_sub(1);
         let above = tip.saturating_add(1);
         self.rng.pick(&[below, below, oldest, above, above, checkpoint, tip, 0, u32::MAX, anything])
+    }
+
+    /// A depth to clear or load with: mostly small, so that flushes are barred and let through; its most and those beside it; at
+    /// times one that no store may have.
+    pub fn depth(&mut self) -> u32 {
+        match self.rng.weighted(&[40, 40, 6, 6, 8]) {
+            0 => 0,
+            1 => self.rng.within(1, 5) as u32,
+            2 => self.rng.within(6, 61) as u32,
+            3 => self.rng.pick(&[MOST_DEPTH - 1, MOST_DEPTH]),
+            _ => {
+                let anything = (self.rng.bits() as u32).max(MOST_DEPTH + 1);
+                self.rng.pick(&[MOST_DEPTH + 1, MOST_DEPTH + 1, u32::MAX, u32::MAX, anything])
+            }
+        }
+    }
+
+    /// A depth that a store may have.
+    pub fn allowed_depth(&mut self) -> u32 {
+        self.depth().min(MOST_DEPTH)
+    }
+
+    /// A state to flush to: often the highest that the depth lets through, or one beside it.
+    pub fn state_to_flush(&mut self, head: &Head) -> u32 {
+        let highest = i64::from(head.tip) - i64::from(head.depth);
+        let near = highest + self.rng.pick(&[-1, 0, 0, 1, 1]);
+        match u32::try_from(near) {
+            Ok(near) if self.rng.percent(40) => near,
+            _ => self.state(head),
+        }
     }
 
     /// A slot, mostly one that is open or closed as wanted, and who calls for it.

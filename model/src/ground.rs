@@ -41,6 +41,8 @@ pub enum Ground {
     LongList = 18,
     /// The slot is not the caller's.
     OthersSlot = 19,
+    /// A depth is above 63, or a flush goes higher than the tip less the depth.
+    TooDeep = 20,
 }
 
 impl Ground {

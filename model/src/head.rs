@@ -6,6 +6,9 @@ pub const SLOTS: usize = 8;
 /// The most steps that are held.
 pub const STEPS: usize = 64;
 
+/// The largest depth.
+pub const MOST_DEPTH: u32 = 63;
+
 /// The head: a value that travels with the calls.
 #[derive(Clone, Debug, PartialEq, Eq)]
 pub struct Head {
@@ -23,11 +26,13 @@ pub struct Head {
     pub issued: [u32; SLOTS],
     /// The marks: journal words through the end of each held step; those not in use are 0.
     pub ends: [u64; STEPS],
+    /// The depth that must stay: a flush to another state than the checkpoint goes no higher than the tip less the depth.
+    pub depth: u32,
 }
 
 impl Head {
-    /// The head of a store that holds one state, no step and no open slot.
-    pub fn at_rest(state: u32, used: u64) -> Head {
+    /// The head of a store with a depth that holds one state, no step and no open slot.
+    pub fn at_rest(state: u32, used: u64, depth: u32) -> Head {
         Head {
             used,
             oldest: state,
@@ -36,7 +41,14 @@ impl Head {
             held: [false; SLOTS],
             issued: [0; SLOTS],
             ends: [0; STEPS],
+            depth,
         }
+    }
+
+    /// Whether the depth bars a flush to a state: it is not the checkpoint, and is higher than the tip less the depth. That
+    /// difference is one of whole numbers, and below every state where the tip is less than the depth.
+    pub fn bars(&self, state: u32) -> bool {
+        state != self.checkpoint && i64::from(state) > i64::from(self.tip) - i64::from(self.depth)
     }
 
     /// The numbers of the open slots.
@@ -55,6 +67,7 @@ impl Head {
         words.extend(self.held.map(u64::from));
         words.extend(self.issued.map(u64::from));
         words.extend(self.ends);
+        words.push(self.depth.into());
         words
     }
 }

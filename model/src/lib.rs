@@ -1,4 +1,4 @@
-//! A second model of the price unit, written from its papers (document 01, requests of document 02, sections 6 and 7
+//! A second model of the price unit, written from its papers (document 01, requests of document 02, sections 6 and 7
 //! of document 000) and not from the proved unit's definitions.
 //!
 //! [`store`] is the unit on raw memory, [`plain`] the plain list of whole maps that it is held to, [`script`] the scripts of

@@ -15,6 +15,7 @@ pub fn listing(input: &[u8]) -> String {
     }
 }
 
+/// The state and the words of the image, loaded with depth 0, which no ground turns away.
 fn loaded(input: &[u8]) -> Result<(u32, Vec<u64>), Ground> {
     unless(input.len() <= image::length(TABLE_WORDS), Ground::Image)?;
     let (state, words) = image::read(input)?;

@@ -1,6 +1,6 @@
 //! The plain list of whole maps (document 01): what the unit is held to over whole lists of calls.
 //!
-//! It is fed the load's image or sheet, the calls' arguments except a forward's read set, and the lengths lent.
+//! It is fed the load's image or sheet and its depth, the calls' arguments except a forward's read set, and the lengths lent.
 
 use crate::caller::Caller;
 use crate::changes::{apply, changes_of, map_of, map_words, read, Map};
@@ -27,16 +27,22 @@ pub struct Plain {
     slots: [Option<Reading>; SLOTS],
     table_words: usize,
     journal_words: usize,
+    depth: u32,
 }
 
+/// A depth is a number from 0 to this.
+const MOST_DEPTH: u32 = 63;
+
 impl Plain {
-    /// The load: the map of the image or the sheet under its number, all slots closed.
+    /// The load: the map of the image or the sheet under its number, all slots closed, and the depth that must stay.
     pub fn load(
+        depth: u32,
         format: Format,
         bytes: &[u8],
         table_words: usize,
         journal_words: usize,
     ) -> Result<Plain, Ground> {
+        unless(depth <= MOST_DEPTH, Ground::TooDeep)?;
         let (state, words) = format.read(bytes)?;
         unless(words.len() <= table_words, Ground::TableFull)?;
         Ok(Plain {
@@ -47,6 +53,7 @@ impl Plain {
             slots: Default::default(),
             table_words,
             journal_words,
+            depth,
         })
     }
 
@@ -58,6 +65,11 @@ impl Plain {
     /// The checkpoint's number.
     pub fn checkpoint(&self) -> u32 {
         self.checkpoint
+    }
+
+    /// The depth that must stay.
+    pub fn depth(&self) -> u32 {
+        self.depth
     }
 
     /// The least of the checkpoint and the open slots' numbers.
@@ -126,9 +138,16 @@ impl Plain {
         Ok(())
     }
 
-    /// A flush only moves the checkpoint.
+    /// Whether at least as many maps as the depth says are above that of a state: the state is then no higher than tip − depth.
+    fn leaves_depth(&self, state: u32) -> bool {
+        let above = self.tip() - state;
+        above >= self.depth
+    }
+
+    /// A flush only moves the checkpoint, and to another state only where the depth is left above it.
     pub fn flush(&mut self, state: u32) -> Result<(), Ground> {
         self.test_state(state)?;
+        unless(state == self.checkpoint || self.leaves_depth(state), Ground::TooDeep)?;
         unless(self.map_at(state).len() <= self.table_words, Ground::TableFull)?;
         self.checkpoint = state;
         Ok(())

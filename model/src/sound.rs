@@ -1,6 +1,6 @@
-//! When a store is sound: document 01's sentences on table, journal and head, a clause each.
+//! When a store is sound: the papers' sentences on table, journal and head, a clause each.
 
-use crate::head::{Head, STEPS};
+use crate::head::{Head, MOST_DEPTH, STEPS};
 use crate::word;
 
 /// One clause of soundness, by what is wrong when it is broken.
@@ -40,10 +40,12 @@ pub enum Clause {
     SlotAboveCheckpoint,
     /// The oldest number is not the least of the checkpoint and the open slots' numbers.
     OldestNotLeast,
+    /// The depth is above 63.
+    DepthAboveMost,
 }
 
 /// All clauses, in the order in which they are tested.
-pub const CLAUSES: [Clause; 17] = [
+pub const CLAUSES: [Clause; 18] = [
     Clause::OldestAboveCheckpoint,
     Clause::CheckpointAboveTip,
     Clause::TooManySteps,
@@ -61,6 +63,7 @@ pub const CLAUSES: [Clause; 17] = [
     Clause::ClosedSlot,
     Clause::SlotAboveCheckpoint,
     Clause::OldestNotLeast,
+    Clause::DepthAboveMost,
 ];
 
 /// The first clause that a store breaks, or none if it is sound.
@@ -73,7 +76,8 @@ fn all_clauses(table: &[u64], journal: &[u64], head: &Head) -> Result<(), Clause
     table_clauses(table, head.used)?;
     let ends = mark_clauses(journal.len(), &head.ends, steps)?;
     step_clauses(journal, &ends)?;
-    slot_clauses(head)
+    slot_clauses(head)?;
+    unless(head.depth <= MOST_DEPTH, Clause::DepthAboveMost)
 }
 
 fn unless(test: bool, clause: Clause) -> Result<(), Clause> {

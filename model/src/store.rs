@@ -1,10 +1,10 @@
-//! The store on raw memory: table, journal, head and tally, and every call on them, as document 01 says it.
+//! The store on raw memory: table, journal, head and tally, and every call on them, as the papers say it.
 
 use crate::caller::Caller;
 use crate::changes::{apply, changes_of, compose, map_of, map_words, read, Changes, Map};
 use crate::format::Format;
 use crate::ground::{unless, Ground};
-use crate::head::{count_on, Head, Tally, SLOTS, STEPS};
+use crate::head::{count_on, Head, Tally, MOST_DEPTH, SLOTS, STEPS};
 use crate::quote::{Quote, Since};
 use crate::{sound, word};
 
@@ -34,7 +34,7 @@ impl Store {
         Store {
             table: vec![0; table],
             journal: vec![0; journal],
-            head: Head::at_rest(0, 0),
+            head: Head::at_rest(0, 0, 0),
             tally: Tally::default(),
         }
     }
@@ -133,28 +133,35 @@ impl Store {
 
     // The calls of a store at rest.
 
-    /// Makes the store hold one map under a number, all other words zero.
-    fn hold(&mut self, state: u32, words: &[u64]) {
+    /// Ground 20 for a depth that a store is to be given.
+    fn test_depth(depth: u32) -> Result<(), Ground> {
+        unless(depth <= MOST_DEPTH, Ground::TooDeep)
+    }
+
+    /// Makes the store hold one map under a number, with a depth, all other words zero.
+    fn hold(&mut self, state: u32, words: &[u64], depth: u32) {
         self.table.fill(0);
         self.table[..words.len()].copy_from_slice(words);
         self.journal.fill(0);
-        self.head = Head::at_rest(state, words.len() as u64);
+        self.head = Head::at_rest(state, words.len() as u64, depth);
         self.tally = Tally::default();
     }
 
-    /// Clear: the empty map as state 0.
-    pub fn clear(&mut self) -> Result<(), Ground> {
+    /// Clear: the empty map as state 0, with a depth.
+    pub fn clear(&mut self, depth: u32) -> Result<(), Ground> {
         self.test_lengths()?;
-        self.hold(0, &[]);
+        Store::test_depth(depth)?;
+        self.hold(0, &[], depth);
         Ok(())
     }
 
-    /// Load: an image's or a sheet's map under its number.
-    pub fn load(&mut self, format: Format, bytes: &[u8]) -> Result<(), Ground> {
+    /// Load: an image's or a sheet's map under its number, with a depth.
+    pub fn load(&mut self, depth: u32, format: Format, bytes: &[u8]) -> Result<(), Ground> {
         self.test_lengths()?;
+        Store::test_depth(depth)?;
         let (state, words) = format.read(bytes)?;
         unless(words.len() <= self.table.len(), Ground::TableFull)?;
-        self.hold(state, &words);
+        self.hold(state, &words, depth);
         Ok(())
     }
 
@@ -170,10 +177,10 @@ impl Store {
         Ok(written.len())
     }
 
-    /// Restart: writes the checkpoint's image into lent bytes and loads it back.
+    /// Restart: writes the checkpoint's image into lent bytes and loads it back. The depth stays.
     pub fn restart(&mut self, bytes: &mut [u8]) -> Result<(), Ground> {
         let length = self.write(Format::Image, Some(self.head.checkpoint), bytes)?;
-        self.load(Format::Image, &bytes[..length])
+        self.load(self.head.depth, Format::Image, &bytes[..length])
     }
 
     // Steps.
@@ -212,6 +219,7 @@ impl Store {
     pub fn flush(&mut self, state: u32) -> Result<(), Ground> {
         self.test_store()?;
         self.test_state(state)?;
+        unless(!self.head.bars(state), Ground::TooDeep)?;
         let words = map_words(&self.map_at(state));
         unless(words.len() <= self.table.len(), Ground::TableFull)?;
         self.table.fill(0);

@@ -14,9 +14,13 @@ pub use crate::quote::Since;
 /// A call, with its arguments besides the store and the lent bytes.
 #[derive(Clone, Debug, PartialEq, Eq)]
 pub enum Call {
-    Clear,
+    /// The depth is the one that must stay; so is that of a load.
+    Clear {
+        depth: u32,
+    },
     /// The lent bytes are an image or a sheet.
     Load {
+        depth: u32,
         format: Format,
     },
     /// Writes an image or a sheet; without a state it is the tip's.
@@ -66,9 +70,9 @@ impl Call {
     /// The call's word in a script.
     pub fn name(&self) -> &'static str {
         match self {
-            Call::Clear => "clear",
-            Call::Load { format: Format::Image } => "load",
-            Call::Load { format: Format::Sheet } => "load_sheet",
+            Call::Clear { .. } => "clear",
+            Call::Load { format: Format::Image, .. } => "load",
+            Call::Load { format: Format::Sheet, .. } => "load_sheet",
             Call::Write { format: Format::Image, .. } => "write_image",
             Call::Write { format: Format::Sheet, .. } => "write_sheet",
             Call::Restart => "restart",
@@ -202,8 +206,8 @@ impl Unit {
     pub fn serve(&mut self, call: &Call) -> Reply {
         let store = &mut self.store;
         let answer = match call {
-            Call::Clear => done(store.clear()),
-            Call::Load { format } => done(store.load(*format, &self.bytes)),
+            Call::Clear { depth } => done(store.clear(*depth)),
+            Call::Load { depth, format } => done(store.load(*depth, *format, &self.bytes)),
             Call::Write { format, state } => counted(store.write(*format, *state, &mut self.bytes)),
             Call::Restart => done(store.restart(&mut self.bytes)),
             Call::Commit { list } => done(store.commit(list)),

@@ -1,5 +1,5 @@
-//! Issues, forwards and releases, images, sheets and restarts that meet several grounds at once: every pair of them, and which
-//! one is the answer.
+//! Issues, forwards and releases, images, sheets and restarts, clears, loads and flushes that meet several grounds at once: every
+//! pair of them, and which one is the answer.
 
 mod common;
 
@@ -9,6 +9,7 @@ use model::changes::map_words;
 use model::format::Format;
 use model::gen::{items, Item};
 use model::script::{parse, perform, Command, Line};
+use model::store::Store;
 use model::unit::{Answer, Call, Unit};
 use model::word;
 use std::collections::BTreeSet;
@@ -29,8 +30,17 @@ const IMAGES: [(&str, &[u8]); 3] =
 /// The same for sheets, which are written as images are.
 const SHEETS: [(&str, &[u8]); 2] = [("write_sheet", &[1, 2, 17]), ("write_sheet STATE", &[1, 2, 11, 17])];
 
-/// Grounds that no call meets together: a slot above 7 is nobody's, and neither open nor closed.
-const APART: [(u8, u8); 3] = [(3, 19), (3, 4), (3, 5)];
+/// The same for the calls that a depth concerns: "20, a depth above 63 or a flush so barred, tested after 11".
+const DEPTHS: [(&str, &[u8]); 4] = [
+    ("clear", &[1, 20]),
+    ("load", &[1, 20, 15, 16]),
+    ("load_sheet", &[1, 20, 15, 16]),
+    ("flush", &[1, 2, 11, 20, 16]),
+];
+
+/// Grounds that no call meets together: a slot above 7 is nobody's, and neither open nor closed; a state that is not kept, and
+/// bytes that are no image or sheet, have no map.
+const APART: [(u8, u8); 5] = [(3, 19), (3, 4), (3, 5), (11, 16), (15, 16)];
 
 /// Who calls, the slot, the words lent and the state named of a call that reads.
 fn arguments(unit: &Unit, call: &Call) -> Option<(Caller, u64, Vec<u64>, Option<u32>)> {
@@ -50,7 +60,46 @@ fn meets(unit: &Unit, call: &Call, ground: u8) -> bool {
     match ground {
         1 => !(1..=8000).contains(&store.table.len()) || !(1..=4096).contains(&store.journal.len()),
         2 => !store.is_sound(),
-        _ => meets_as_read(unit, call, ground) || meets_as_written(unit, call, ground),
+        _ => {
+            meets_as_read(unit, call, ground)
+                || meets_as_written(unit, call, ground)
+                || meets_with_depth(unit, call, ground)
+        }
+    }
+}
+
+fn meets_with_depth(unit: &Unit, call: &Call, ground: u8) -> bool {
+    match call {
+        Call::Clear { depth } => ground == 20 && *depth > 63,
+        Call::Load { depth, format } => {
+            let offers = format.read(&unit.bytes).ok().map(|(_, words)| words.len());
+            match ground {
+                20 => *depth > 63,
+                15 => offers.is_none(),
+                16 => offers.is_some_and(|offers| offers > unit.store.table.len()),
+                _ => false,
+            }
+        }
+        Call::Flush { state } => meets_as_flushed(&unit.store, *state, ground),
+        _ => false,
+    }
+}
+
+fn meets_as_flushed(store: &Store, state: u32, ground: u8) -> bool {
+    let head = &store.head;
+    match ground {
+        11 => state < head.checkpoint || state > head.tip,
+        20 => state != head.checkpoint && i128::from(state) > i128::from(head.tip) - i128::from(head.depth),
+        // A state has a map where nothing is wrong with the store but what no map depends on.
+        16 => {
+            let mut store = store.clone();
+            let head = &mut store.head;
+            head.depth = 0;
+            let closed = head.issued.iter_mut().zip(&head.held).filter(|(_, held)| !**held);
+            closed.for_each(|(issued, _)| *issued = 0);
+            store.is_sound() && store.keeps(state) && store.map_at(state).len() > store.table.len()
+        }
+        _ => false,
     }
 }
 
@@ -119,7 +168,8 @@ impl Met {
         let of_call = |&&(name, _): &&(&str, &[u8])| {
             name == call.form() || name == call.name() && call.caller().is_some()
         };
-        let Some(&(name, order)) = READS.iter().chain(&IMAGES).chain(&SHEETS).find(of_call) else {
+        let mut all = READS.iter().chain(&IMAGES).chain(&SHEETS).chain(&DEPTHS);
+        let Some(&(name, order)) = all.find(of_call) else {
             unit.serve(call);
             return;
         };
@@ -167,11 +217,16 @@ fn generated_scripts_meet_every_pair() {
             }
         }
     }
-    assert_eq!(met.pairs, all_pairs(&[&READS[..], &IMAGES, &SHEETS].concat()));
+    let mut all = all_pairs(&[&READS[..], &IMAGES, &SHEETS, &DEPTHS].concat());
+    // A memory that is lent with a length out of range is all zeros, and a store with it seldom has a map to flush.
+    for pairs in [&mut all, &mut met.pairs] {
+        pairs.remove(&("flush", 1, 16));
+    }
+    assert_eq!(met.pairs, all);
 }
 
-/// The pairs that a stored script has at calls that meet those two grounds alone.
-fn alone_in(name: &str) -> BTreeSet<(&'static str, u8, u8)> {
+/// The pairs that a stored script has at such calls that meet those two grounds alone.
+fn alone_in(name: &str, orders: &[(&'static str, &[u8])]) -> BTreeSet<(&'static str, u8, u8)> {
     let (_, script) = files("scripts", "script")
         .into_iter()
         .find(|(file, _)| file.ends_with(name))
@@ -185,14 +240,16 @@ fn alone_in(name: &str) -> BTreeSet<(&'static str, u8, u8)> {
             Line::NoCall(reason) => panic!("{}: {reason}", String::from_utf8_lossy(line)),
         }
     }
+    met.alone.retain(|(call, ..)| orders.iter().any(|(name, _)| name == call));
     met.alone
 }
 
-/// The script of callers has every pair of a read, the script of images every pair of an image and of a restart, and the script
-/// of sheets every pair of a sheet.
+/// The script of callers has every pair of a read, the script of images every pair of an image and of a restart, the script of
+/// sheets every pair of a sheet, and the script of depths every pair of a clear, a load and a flush.
 #[test]
 fn stored_scripts_have_every_pair() {
-    assert_eq!(alone_in("callers.script"), all_pairs(&READS));
-    assert_eq!(alone_in("images.script"), all_pairs(&IMAGES));
-    assert_eq!(alone_in("sheets.script"), all_pairs(&SHEETS));
+    assert_eq!(alone_in("callers.script", &READS), all_pairs(&READS));
+    assert_eq!(alone_in("images.script", &IMAGES), all_pairs(&IMAGES));
+    assert_eq!(alone_in("sheets.script", &SHEETS), all_pairs(&SHEETS));
+    assert_eq!(alone_in("depth.script", &DEPTHS), all_pairs(&DEPTHS));
 }

@@ -51,14 +51,21 @@ fn printed_as_stored(folder: &str) -> Vec<String> {
 /// The stored output is what the model prints today.
 #[test]
 fn stored_output_is_the_models() {
-    assert!(printed_as_stored("scripts").len() >= 10);
+    assert!(printed_as_stored("scripts").len() >= 11);
 }
 
-/// The output of the lines that are no call, of the images, of the sheets, of the sixteenths and of since when comes from the
-/// comments of their scripts and not from the model.
+/// The output of the lines that are no call, of the images, of the sheets, of the sixteenths, of since when and of depths comes
+/// from the comments of their scripts and not from the model.
 #[test]
 fn outputs_that_are_worked_out_by_hand() {
-    let names = ["no_calls.script", "images.script", "sheets.script", "sixteenths.script", "since.script"];
+    let names = [
+        "no_calls.script",
+        "images.script",
+        "sheets.script",
+        "sixteenths.script",
+        "since.script",
+        "depth.script",
+    ];
     let by_hand = |file: &Path| names.iter().any(|name| file.ends_with(name));
     let scripts = files("scripts", "script").into_iter().filter(|(file, _)| by_hand(file));
     let mut count = 0;
@@ -98,11 +105,12 @@ fn expected_answers(name: &str) -> BTreeSet<String> {
     expected(&script).into_iter().filter_map(answer_of).collect()
 }
 
-/// The scripts of refusals, of callers, of images, of sheets and of since when have every answer of every call among what their
-/// comments expect, from the desk and from the foyer, with a state and without one.
+/// The scripts of refusals, of callers, of images, of sheets, of since when and of depths have every answer of every call among
+/// what their comments expect, from the desk and from the foyer, with a state and without one.
 #[test]
 fn refusals_are_complete() {
-    let scripts = ["refusals.script", "callers.script", "images.script", "sheets.script", "since.script"];
+    let names = ["refusals", "callers", "images", "sheets", "since", "depth"];
+    let scripts = names.map(|name| format!("{name}.script"));
     let met: BTreeSet<String> = scripts.iter().flat_map(|name| expected_answers(name)).collect();
     let missing: Vec<String> = all_answers().into_iter().filter(|answer| !met.contains(answer)).collect();
     assert!(missing.is_empty(), "{missing:?}");
@@ -144,10 +152,34 @@ fn a_state_need_not_be_named() {
 /// A line that loads a file says whether it is an image or a sheet, and is written as it is read.
 #[test]
 fn the_format_of_a_file_is_named() {
-    for (line, format) in [("load_file x", Format::Image), ("load_sheet_file x", Format::Sheet)] {
-        let command = Command::LoadFile { format, name: b"x".to_vec() };
-        assert_eq!(command.to_string(), line);
-        assert_eq!(parse(line.as_bytes()), Line::Command(command));
+    for (word, format) in [("load_file", Format::Image), ("load_sheet_file", Format::Sheet)] {
+        for (rest, depth) in [("x", 0), ("x 1", 1), ("5 63", 63), ("5 4294967295", u32::MAX)] {
+            let line = format!("{word} {rest}");
+            let name = rest.split(' ').next().unwrap_or_default().as_bytes().to_vec();
+            let command = Command::LoadFile { depth, format, name };
+            assert_eq!(command.to_string(), line);
+            assert_eq!(parse(line.as_bytes()), Line::Command(command));
+        }
+    }
+}
+
+/// A depth need not be named: none is 0, and is written so. Whether a store may have it shows when the call is made.
+#[test]
+fn a_depth_need_not_be_named() {
+    let image = |depth| Call::Load { depth, format: Format::Image };
+    let sheet = |depth| Call::Load { depth, format: Format::Sheet };
+    let calls: [(&str, &dyn Fn(u32) -> Call); 3] =
+        [("clear", &|depth| Call::Clear { depth }), ("load", &image), ("load_sheet", &sheet)];
+    for (word, call) in calls {
+        assert_eq!(call(0).to_string(), word);
+        for line in [word.to_string(), format!("{word} 0"), format!("{word} 00000000000000000000")] {
+            assert_eq!(parse(line.as_bytes()), Line::Command(Command::Call(call(0))), "{line}");
+        }
+        for depth in [1, 62, 63, 64, u32::MAX] {
+            let line = format!("{word} {depth}");
+            assert_eq!(call(depth).to_string(), line);
+            assert_eq!(parse(line.as_bytes()), Line::Command(Command::Call(call(depth))));
+        }
     }
 }
 
@@ -167,14 +199,18 @@ fn commands_are_read_as_they_are_written() {
 
 /// Lines that are no call where table, journal and bytes are 4 long, and why: what docs/REPLAY.md's table of reasons says of
 /// each, in its order.
-const NO_CALLS: [(&[u8], &str); 102] = [
+const NO_CALLS: [(&[u8], &str); 117] = [
     (b"x", "unknown word 'x'"),
     (b"CLEAR", "unknown word 'CLEAR'"),
-    (b"clear x", "too many arguments: clear"),
+    (b"clear x", "expected DEPTH, a number from 0 to 4294967295, not 'x'"),
+    (b"clear 4294967296", "expected DEPTH, a number from 0 to 4294967295, not '4294967296'"),
+    (b"clear -1", "expected DEPTH, a number from 0 to 4294967295, not '-1'"),
+    (b"clear 0 0", "too many arguments: clear DEPTH"),
+    (b"clear depth 0", "too many arguments: clear DEPTH"),
     (b"clear\r\r", "unknown word 'clear\\x0D'"),
     (b"\rclear", "unknown word '\\x0Dclear'"),
     (b"\xC3\xA9", "unknown word '\\xC3\\xA9'"),
-    (b"clear \xFF", "too many arguments: clear"),
+    (b"clear \xFF", "expected DEPTH, a number from 0 to 4294967295, not '\\xFF'"),
     (b"\0", "unknown word '\\x00'"),
     (b"\x0B", "unknown word '\\x0B'"),
     (b"\x1B[2J\\", "unknown word '\\x1B[2J\\x5C'"),
@@ -204,7 +240,13 @@ const NO_CALLS: [(&[u8], &str); 102] = [
     (b"write_sheet tip", "expected STATE, a number from 0 to 4294967295, not 'tip'"),
     (b"write_sheet 4294967296", "expected STATE, a number from 0 to 4294967295, not '4294967296'"),
     (b"write_sheet 0 14", "too many arguments: write_sheet STATE"),
-    (b"load_sheet 0", "too many arguments: load_sheet"),
+    (b"load image", "expected DEPTH, a number from 0 to 4294967295, not 'image'"),
+    (b"load 0 14", "too many arguments: load DEPTH"),
+    (
+        b"load_sheet 000000000000000000001",
+        "expected DEPTH, a number from 0 to 4294967295, not '000000000000000000001'",
+    ),
+    (b"load_sheet 0 20", "too many arguments: load_sheet DEPTH"),
     (b"write_state_sheet 0", "unknown word 'write_state_sheet'"),
     (b"restart 0", "too many arguments: restart"),
     (b"look_up 4294967296 0", "expected OFFER, a number from 0 to 4294967295, not '4294967296'"),
@@ -256,8 +298,11 @@ const NO_CALLS: [(&[u8], &str); 102] = [
     ),
     (b"fill journal 5 0 0000000000000000 0000000000000000", "past the end of the journal, whose length is 4"),
     (b"fill journal 5 0 0000000000000000", "too few arguments: fill journal I N W W"),
-    (b"head", "expected used, oldest, checkpoint, tip, held, issued or ends, not the end of the line"),
-    (b"head floor 1", "expected used, oldest, checkpoint, tip, held, issued or ends, not 'floor'"),
+    (b"head", "expected used, oldest, checkpoint, tip, depth, held, issued or ends, not the end of the line"),
+    (b"head floor 1", "expected used, oldest, checkpoint, tip, depth, held, issued or ends, not 'floor'"),
+    (b"head depth", "too few arguments: head depth DEPTH"),
+    (b"head depth 1 2", "too many arguments: head depth DEPTH"),
+    (b"head depth 4294967296", "expected DEPTH, a number from 0 to 4294967295, not '4294967296'"),
     (b"head held 0 2", "expected N, a number from 0 to 1, not '2'"),
     (b"head held 8 2", "expected K, a number from 0 to 7, not '8'"),
     (b"head issued 0", "too few arguments: head issued K STATE"),
@@ -269,14 +314,19 @@ const NO_CALLS: [(&[u8], &str); 102] = [
     (b"show table 0 5", "past the end of the table, whose length is 4"),
     (b"show table 5 81", "expected N, a number from 0 to 80, not '81'"),
     (b"load_file", "too few arguments: load_file NAME"),
-    (b"load_file a b", "too many arguments: load_file NAME"),
+    (b"load_file a b", "expected DEPTH, a number from 0 to 4294967295, not 'b'"),
+    (b"load_file 5 no", "expected DEPTH, a number from 0 to 4294967295, not 'no'"),
+    (b"load_file a 0 b", "too many arguments: load_file NAME DEPTH"),
+    (b"load_file 5", "there is no file '5'"),
+    (b"load_file 5 64", "there is no file '5'"),
     (b"load_file no/such/file", "there is no file 'no/such/file'"),
     (b"load_file .", "'.' is a directory"),
     (b"load_file /dev/zero", "the file '/dev/zero' cannot be read"),
     (b"load_file Cargo.toml/x", "the file 'Cargo.toml/x' cannot be read"),
     (b"load_file a\0b", "the file 'a\\x00b' cannot be read"),
     (b"load_sheet_file", "too few arguments: load_sheet_file NAME"),
-    (b"load_sheet_file a b", "too many arguments: load_sheet_file NAME"),
+    (b"load_sheet_file a b", "expected DEPTH, a number from 0 to 4294967295, not 'b'"),
+    (b"load_sheet_file a 0 b", "too many arguments: load_sheet_file NAME DEPTH"),
     (b"load_sheet_file no/such/file", "there is no file 'no/such/file'"),
     (b"load_sheet_file .", "'.' is a directory"),
     (b"load_sheet_file /dev/zero", "the file '/dev/zero' cannot be read"),
@@ -358,24 +408,32 @@ fn lines_that_are_calls_at_the_edge() {
 fn files_are_loaded() {
     let mut unit = small_unit();
     let mut says = |line: &str| says(&mut unit, line.as_bytes());
-    let head = |used, state| {
+    let head = |used, state, depth| {
         format!(
-            "head used {used} oldest {state} checkpoint {state} tip {state} held 00000000 issued 0 0 0 0 0 0 0 0 ends"
+            "head used {used} oldest {state} checkpoint {state} tip {state} depth {depth} held 00000000 \
+             issued 0 0 0 0 0 0 0 0 ends"
         )
     };
     assert_eq!(says("load_file ../tests/listing/paper.in"), "ok");
-    assert_eq!(says("show head"), head(1, 7));
-    assert_eq!(says("load_sheet_file ../tests/sheets/two_rows.sheet"), "ok");
-    assert_eq!(says("show head"), head(3, 8));
+    assert_eq!(says("show head"), head(1, 7, 0));
+    assert_eq!(says("load_sheet_file ../tests/sheets/two_rows.sheet 63"), "ok");
+    assert_eq!(says("show head"), head(3, 8, 63));
+    assert_eq!(says("load_file ../tests/listing/paper.in 5"), "ok");
+    assert_eq!(says("show head"), head(1, 7, 5));
+    assert_eq!(says("load_sheet_file ../tests/sheets/two_rows.sheet 64"), "refused 20");
+    assert_eq!(says("show head"), head(1, 7, 5));
+    assert_eq!(says("load_sheet 2"), "ok");
+    assert_eq!(says("show head"), head(3, 8, 2));
     assert_eq!(says("look_up 31 8"), "ok 4 table");
     assert_eq!(says("load_file ../tests/sheets/two_rows.sheet"), "refused 15");
     assert_eq!(says("load_sheet"), "ok");
     assert_eq!(says("load_sheet_file ../tests/listing/paper.in"), "refused 15");
+    assert_eq!(says("load_file ../tests/listing/paper.in 4294967295"), "refused 20");
     assert_eq!(says("load"), "ok");
     assert_eq!(says("lend table 2"), "");
     assert_eq!(says("load_sheet_file ../tests/sheets/two_rows.sheet"), "refused 16");
     assert_eq!(says("show bytes 0 4"), "bytes from 0 00 00 00 08");
-    assert_eq!(says("show head"), head(1, 7));
+    assert_eq!(says("show head"), head(1, 7, 0));
 }
 
 #[test]
@@ -440,7 +498,7 @@ fn a_forward_takes_what_the_issue_filled() {
 }
 
 /// What random scripts are made of.
-const PIECES: [&[u8]; 29] = [
+const PIECES: [&[u8]; 31] = [
     b"lend ",
     b"table ",
     b"journal ",
@@ -449,6 +507,7 @@ const PIECES: [&[u8]; 29] = [
     b"fill ",
     b"head ",
     b"held ",
+    b"depth ",
     b"ends ",
     b"tally ",
     b"show ",
@@ -468,6 +527,7 @@ const PIECES: [&[u8]; 29] = [
     b"/ ",
     b"8000000500000001 ",
     b"7 ",
+    b"64 ",
     b"18446744073709551615 ",
     b"\n",
 ];

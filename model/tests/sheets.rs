@@ -263,7 +263,7 @@ fn random_store(draw: &mut Draw) -> Store {
     let mut store = Store::of_lengths(draw.rng.within(20, 200), draw.rng.within(50, 400));
     let format = draw.rng.pick(&FORMATS);
     let words = draw.map(store.table.len());
-    assert_eq!(store.load(format, &format.write(draw.number() / 2, &words)), Ok(()));
+    assert_eq!(store.load(0, format, &format.write(draw.number() / 2, &words)), Ok(()));
     for _ in 0..draw.rng.within(0, 12) {
         let _ = store.commit(&draw.changes());
         if draw.rng.percent(20) {
@@ -290,13 +290,15 @@ fn sheet_and_image_load_alike() {
             elsewhere.journal.fill(draw.rng.bits());
             elsewhere.head.tip = 5;
             elsewhere.head.held[3] = true;
+            elsewhere.head.depth = draw.depth();
+            let depth = draw.allowed_depth();
             elsewhere.tally = Tally { committed: 1, rolled_back: 2, flushed: 3 };
             let before = elsewhere.clone();
             let [image, sheet] = FORMATS.map(|format| {
                 let mut bytes = vec![0xEE; format.length(&map_words(&map))];
                 assert_eq!(store.write(format, Some(state), &mut bytes), Ok(bytes.len()));
                 let mut elsewhere = elsewhere.clone();
-                let outcome = elsewhere.load(format, &bytes);
+                let outcome = elsewhere.load(depth, format, &bytes);
                 lengths.insert((format, bytes.len()));
                 (outcome, elsewhere)
             });
@@ -307,7 +309,7 @@ fn sheet_and_image_load_alike() {
                 refused += 1;
             } else {
                 assert_eq!(outcome, Ok(()));
-                assert_eq!(loaded.head, Head::at_rest(state, map.len() as u64));
+                assert_eq!(loaded.head, Head::at_rest(state, map.len() as u64, depth));
                 assert_eq!((loaded.map_at(state), loaded.tally), (map, Tally::default()));
                 assert!(loaded.journal.iter().all(|&word| word == 0));
             }
@@ -326,10 +328,10 @@ fn the_longest_sheets() {
         let sheet = write(64, &words(rise));
         assert_eq!(sheet.len(), bytes);
         assert_eq!(read(&sheet), Ok((64, words(rise))));
-        assert_eq!(Store::of_lengths(8000, 1).load(Format::Sheet, &sheet), Err(Ground::TableFull));
+        assert_eq!(Store::of_lengths(8000, 1).load(0, Format::Sheet, &sheet), Err(Ground::TableFull));
         let shorter = write(64, &words(rise)[..8000]);
         let mut store = Store::of_lengths(8000, 1);
-        assert_eq!(store.load(Format::Sheet, &shorter), Ok(()));
+        assert_eq!(store.load(0, Format::Sheet, &shorter), Ok(()));
         assert_eq!(store.table, words(rise)[..8000]);
     }
 }

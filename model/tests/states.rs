@@ -13,7 +13,7 @@ use model::word::entry;
 fn store() -> Store {
     let mut store = Store::of_lengths(2, 20);
     let image = [0, 0, 0, 7, 0, 2, 0x80, 0, 0, 5, 0, 0, 0x04, 0xB0, 0x80, 0, 0, 9, 0, 0, 0x02, 0xBC];
-    assert_eq!(store.load(Image, &image), Ok(()));
+    assert_eq!(store.load(0, Image, &image), Ok(()));
     assert_eq!(store.issue(Desk, 0, &mut [entry(5, None)]), Ok(()));
     assert_eq!(store.commit(&[entry(2, Some(1)), entry(5, Some(0)), entry(9, None)]), Ok(()));
     assert_eq!(store.flush(8), Ok(()));
@@ -78,20 +78,22 @@ fn a_state_that_the_table_has_no_room_for() {
     {
         for (format, bytes) in [(Image, &AT_9[..]), (Sheet, &SHEET_9)] {
             let mut elsewhere = Store::of_lengths(words, 1);
-            assert_eq!(elsewhere.load(format, bytes), outcome, "{format} into {words} words");
+            assert_eq!(elsewhere.load(0, format, bytes), outcome, "{format} into {words} words");
             if outcome.is_ok() {
-                assert_eq!(elsewhere.head, Head::at_rest(9, 4));
+                assert_eq!(elsewhere.head, Head::at_rest(9, 4, 0));
                 assert_eq!(elsewhere.map_at(9), store.map_at(9));
             }
         }
     }
 }
 
-/// A restart goes by the checkpoint's image, whether the tip's is shorter, as at state 10, or longer, as at state 9.
+/// A restart goes by the checkpoint's image, whether the tip's is shorter, as at state 10, or longer, as at state 9, and keeps the
+/// depth.
 #[test]
 fn a_restart_keeps_the_checkpoint() {
     for tip in [8, 9, 10] {
         let mut store = store();
+        store.head.depth = tip;
         assert_eq!(store.roll_back(tip), Ok(()));
         for room in 0..AT_8.len() {
             let (before, mut bytes) = (store.clone(), vec![0xAA; room]);
@@ -101,7 +103,7 @@ fn a_restart_keeps_the_checkpoint() {
         let mut bytes = [0xAA; 24];
         assert_eq!(store.restart(&mut bytes), Ok(()));
         assert_eq!(bytes[..], [&AT_8[..], &[0xAA; 2]].concat());
-        assert_eq!((&store.head, store.map_at(8)), (&Head::at_rest(8, 2), map_of(&store.table)));
+        assert_eq!((&store.head, store.map_at(8)), (&Head::at_rest(8, 2, tip), map_of(&store.table)));
         assert_eq!(store.journal, vec![0; 20]);
     }
 }
@@ -112,7 +114,7 @@ fn the_longest_image() {
     let words: Vec<u64> = (0..8000).map(|offer| entry(2 * offer, Some(offer))).collect();
     let mut store = Store::of_lengths(8000, 4096);
     store.table.copy_from_slice(&words);
-    store.head = Head::at_rest(0, 8000);
+    store.head = Head::at_rest(0, 8000, 0);
     for step in 0..64 {
         let list: Vec<u64> = (0..64).map(|k| entry(2 * (64 * k + step) + 1, Some(step))).collect();
         assert_eq!(store.commit(&list), Ok(()));
@@ -126,7 +128,7 @@ fn the_longest_image() {
     }
     assert_eq!(bytes[..14], [0, 0, 0, 64, 0x2F, 0x40, 0x80, 0, 0, 0, 0, 0, 0, 0]);
     assert_eq!(store.write(Image, None, &mut bytes[..96_773]), Err(Ground::Output));
-    assert_eq!(Store::of_lengths(8000, 1).load(Image, &bytes), Err(Ground::TableFull));
+    assert_eq!(Store::of_lengths(8000, 1).load(0, Image, &bytes), Err(Ground::TableFull));
     // Every row has its 16 even seats, or all 32 where the steps put the odd ones.
     let mut bytes = vec![0; 145_160];
     for (state, length) in
@@ -136,7 +138,7 @@ fn the_longest_image() {
         assert_eq!(store.write(Sheet, Some(state), &mut bytes), Ok(length));
         let mut elsewhere = Store::of_lengths(8000, 1);
         let outcome = if state == 0 { Ok(()) } else { Err(Ground::TableFull) };
-        assert_eq!(elsewhere.load(Sheet, &bytes[..length]), outcome);
+        assert_eq!(elsewhere.load(0, Sheet, &bytes[..length]), outcome);
     }
     assert_eq!(store.restart(&mut bytes[..64_005]), Err(Ground::Output));
     assert_eq!(store.restart(&mut bytes[..64_006]), Ok(()));

@@ -11,7 +11,7 @@ use model::store::Store;
 use model::unit::{Answer, Call, Unit};
 use model::word::{entry, shown};
 
-/// Offers 5, 7 and 9 in a table of 4; a slot open since 10, checkpoint 11, tip 12; steps of 2 words in a journal of 100.
+/// Offers 5, 7 and 9 in a table of 4; a slot open since 10, checkpoint 11, tip 12, depth 0; steps of 2 words in a journal of 100.
 fn sample() -> Store {
     let mut store = Store::of_lengths(4, 100);
     store.table[..3].copy_from_slice(&[entry(5, Some(1)), entry(7, Some(1)), entry(9, Some(700))]);
@@ -21,7 +21,7 @@ fn sample() -> Store {
         entry(5, None),
         entry(8, Some(1)),
     ]);
-    store.head = Head { oldest: 10, checkpoint: 11, tip: 12, ..Head::at_rest(0, 3) };
+    store.head = Head { oldest: 10, checkpoint: 11, tip: 12, ..Head::at_rest(0, 3, 0) };
     store.head.held[0] = true;
     store.head.issued[0] = 10;
     store.head.ends[..2].copy_from_slice(&[2, 4]);
@@ -35,7 +35,7 @@ fn broken(store: &Store) -> Option<Clause> {
 type Damage = fn(&mut Store);
 
 /// For each clause some ways to break it and no clause that is tested before it.
-const DAMAGES: [(Clause, &[Damage]); 17] = [
+const DAMAGES: [(Clause, &[Damage]); 18] = [
     (Clause::OldestAboveCheckpoint, &[|s| s.head.oldest = 12, |s| s.head.oldest = u32::MAX]),
     (Clause::CheckpointAboveTip, &[|s| s.head.tip = 10, |s| s.head.checkpoint = 13, |s| s.head.tip = 0]),
     (Clause::TooManySteps, &[|s| s.head.tip = 75, |s| s.head.tip = u32::MAX]),
@@ -56,6 +56,7 @@ const DAMAGES: [(Clause, &[Damage]); 17] = [
         Clause::OldestNotLeast,
         &[|s| s.head.issued[0] = 11, |s| s.head.issued[0] = 9, |s| s.head.held[1] = true],
     ),
+    (Clause::DepthAboveMost, &[|s| s.head.depth = 64, |s| s.head.depth = 256, |s| s.head.depth = u32::MAX]),
 ];
 
 #[test]
@@ -97,7 +98,7 @@ fn all_calls_but_clear_and_load_refuse_an_unsound_store() {
             assert_eq!(unit.serve(call).answer, Answer::Refused(Ground::Unsound), "{call:?}");
             assert_eq!(unit, before);
         }
-        assert_eq!(unit.serve(&Call::Clear).answer, Answer::Done);
+        assert_eq!(unit.serve(&Call::Clear { depth: 0 }).answer, Answer::Done);
         assert_eq!(broken(&unit.store), None);
     }
     for call in calls {
@@ -109,7 +110,9 @@ fn all_calls_but_clear_and_load_refuse_an_unsound_store() {
 
 #[test]
 fn stores_at_the_ends_of_soundness() {
-    let ends: [Damage; 6] = [
+    let ends: [Damage; 8] = [
+        |s| s.head.depth = 63,
+        |s| s.head.depth = 1,
         |s| {
             s.table[3] = {
                 s.head.used = 4;
@@ -209,7 +212,7 @@ fn lookups_say_since_when() {
 #[test]
 fn sixty_four_steps_of_sixty_four_words_fill_the_journal() {
     let mut store = Store::of_lengths(8000, 4096);
-    assert_eq!(store.clear(), Ok(()));
+    assert_eq!(store.clear(0), Ok(()));
     for step in 0..64 {
         let list: Vec<u64> = (0..64).map(|offer| entry(step * 64 + offer, Some(step))).collect();
         assert_eq!(store.commit(&list), Ok(()));

@@ -19,14 +19,25 @@ static void hold_price(const struct cechnuol_store *of, uint32_t offer, uint32_t
     IS(quoted, price);
 }
 
-/* An empty store, with so many steps above the checkpoint, each of which puts offer 1. */
-static void begin(size_t table_words, size_t journal_words, uint32_t steps)
+/* An empty store of a depth, with so many steps above the checkpoint, each of which puts offer 1. */
+static void begin_deep(uint32_t depth, size_t table_words, size_t journal_words, uint32_t steps)
 {
     store.table_words = table_words;
     store.journal_words = journal_words;
-    ANSWERS(cechnuol_store_clear(&store), OK);
+    ANSWERS(cechnuol_store_clear(&store, depth), OK);
     while (steps-- > 0)
         ANSWERS(commit_put(1, steps), OK);
+}
+
+/* The same without a depth. */
+static void begin(size_t table_words, size_t journal_words, uint32_t steps)
+{
+    begin_deep(0, table_words, journal_words, steps);
+}
+
+static uint64_t flush_highest(void)
+{
+    return cechnuol_store_flush(&store, cechnuol_store_highest_flush(&store));
 }
 
 /* 64 steps and no slot open: one flush helps, to the tip or below it. */
@@ -79,6 +90,30 @@ static void steps_full_and_slots(void)
     IS(cechnuol_oldest_slot(store.head), CECHNUOL_SLOTS);
 }
 
+/* With the largest depth, and a slot open since state 0: the tip cannot be flushed to, and the highest state can. A depth
+ * alone does not keep the steps full. */
+static void steps_full_and_a_depth(void)
+{
+    begin_deep(63, 4, 128, 64);
+    ANSWERS(commit_put(2, 1), STEPS_FULL);
+    ANSWERS(cechnuol_store_flush(&store, cechnuol_store_tip(&store)), TOO_DEEP);
+    IS(cechnuol_store_highest_flush(&store), 1);
+    ANSWERS(flush_highest(), OK);
+    ANSWERS(commit_put(2, 1), OK);
+    begin_deep(60, 4, 128, 0);
+    ANSWERS(cechnuol_store_issue(&store, CECHNUOL_DESK, 0, NULL, 0), OK);
+    while (cechnuol_store_tip(&store) < 64)
+        ANSWERS(commit_put(1, 5), OK);
+    ANSWERS(commit_put(1, 6), STEPS_FULL);
+    ANSWERS(flush_highest(), OK);
+    IS(cechnuol_store_checkpoint(&store), 4);
+    ANSWERS(commit_put(1, 6), STEPS_FULL);
+    IS(cechnuol_store_highest_flush(&store), cechnuol_store_checkpoint(&store));
+    IS(cechnuol_store_oldest(&store) < cechnuol_store_checkpoint(&store), 1);
+    ANSWERS(release_oldest(), OK);
+    ANSWERS(commit_put(1, 6), OK);
+}
+
 /* The same for the words of the journal. */
 static void journal_full(void)
 {
@@ -98,6 +133,76 @@ static void journal_full(void)
     ANSWERS(commit_put(1, 10), OK);
 }
 
+/* Three steps of a word each in a journal of three words, and depth 3: no flush makes room, and no slot is open. */
+static void begin_with_depth_in_the_way(void)
+{
+    begin_deep(3, 4, 3, 3);
+    ANSWERS(commit_put(1, 9), JOURNAL_FULL);
+    ANSWERS(cechnuol_store_flush(&store, 3), TOO_DEEP);
+    ANSWERS(cechnuol_store_flush(&store, 1), TOO_DEEP);
+    IS(cechnuol_store_highest_flush(&store), cechnuol_store_oldest(&store));
+    ANSWERS(flush_highest(), OK);
+    ANSWERS(commit_put(1, 9), JOURNAL_FULL);
+}
+
+/* What helps then: a rollback, a restart, the image of the tip, or empty lists, after which a step can be flushed. */
+static void journal_full_and_a_depth(void)
+{
+    uint64_t count = 0;
+    begin_with_depth_in_the_way();
+    ANSWERS(cechnuol_store_roll_back(&store, 2), OK);
+    ANSWERS(commit_put(1, 9), OK);
+    begin_with_depth_in_the_way();
+    ANSWERS(cechnuol_store_restart(&store, image, sizeof image), OK);
+    IS(cechnuol_store_tip(&store), 0);
+    ANSWERS(commit_put(1, 9), OK);
+    begin_with_depth_in_the_way();
+    ANSWERS(cechnuol_store_write_image(&store, image, sizeof image, &count), OK);
+    ANSWERS(cechnuol_store_load(&store, cechnuol_store_depth(&store), image, count), OK);
+    IS(cechnuol_store_checkpoint(&store), 3);
+    IS(cechnuol_store_depth(&store), 3);
+    hold_price(&store, 1, 0);
+    ANSWERS(commit_put(1, 9), OK);
+    begin_with_depth_in_the_way();
+    ANSWERS(cechnuol_store_commit(&store, NULL, 0), OK);
+    ANSWERS(cechnuol_store_flush(&store, 2), TOO_DEEP);
+    ANSWERS(flush_highest(), OK);
+    IS(cechnuol_store_checkpoint(&store), 1);
+    ANSWERS(commit_put(1, 9), OK);
+}
+
+/* A journal of 64 * (depth + 1) words has room for the longest list whenever all is flushed that may be; one of a word
+ * less has not. The lists remove what is not there, so that the table takes any state. */
+static void journal_for_a_depth(void)
+{
+    uint64_t words[CECHNUOL_LIST_WORDS];
+    uint32_t i;
+    for (i = 0; i < CECHNUOL_LIST_WORDS; i++)
+        words[i] = cechnuol_remove(i);
+    begin_deep(1, 4, 128, 0);
+    for (i = 0; i < 100; i++) {
+        ANSWERS(cechnuol_store_commit(&store, words, CECHNUOL_LIST_WORDS), OK);
+        ANSWERS(flush_highest(), OK);
+    }
+    begin_deep(1, 4, 127, 0);
+    ANSWERS(cechnuol_store_commit(&store, words, CECHNUOL_LIST_WORDS), OK);
+    ANSWERS(flush_highest(), OK);
+    ANSWERS(cechnuol_store_commit(&store, words, CECHNUOL_LIST_WORDS), JOURNAL_FULL);
+    ANSWERS(cechnuol_store_commit(&store, words, CECHNUOL_LIST_WORDS - 1), OK);
+}
+
+/* A flush too high: a lower one is accepted, and that one once further steps are committed. */
+static void flush_too_deep(void)
+{
+    begin_deep(2, 4, 8, 3);
+    ANSWERS(cechnuol_store_flush(&store, 2), TOO_DEEP);
+    ANSWERS(flush_highest(), OK);
+    IS(cechnuol_store_checkpoint(&store), 1);
+    ANSWERS(cechnuol_store_flush(&store, 2), TOO_DEEP);
+    ANSWERS(commit_put(1, 9), OK);
+    ANSWERS(cechnuol_store_flush(&store, 2), OK);
+}
+
 /* Nothing is held, and still the list does not fit: in parts it does, and in a store with a longer journal. */
 static void list_longer_than_journal(void)
 {
@@ -109,7 +214,7 @@ static void list_longer_than_journal(void)
     IS(cechnuol_store_oldest(&store), cechnuol_store_tip(&store));
     ANSWERS(cechnuol_store_commit(&store, words, 3), JOURNAL_FULL);
     ANSWERS(cechnuol_store_write_image(&store, image, sizeof image, &count), OK);
-    ANSWERS(cechnuol_store_load(&other, image, count), OK);
+    ANSWERS(cechnuol_store_load(&other, 0, image, count), OK);
     ANSWERS(cechnuol_store_commit(&other, words, 3), OK);
     hold_price(&other, 3, 100);
     ANSWERS(cechnuol_store_commit(&store, words, 2), OK);
@@ -220,6 +325,21 @@ static void table_full_at_a_flush(void)
     ANSWERS(cechnuol_store_flush(&store, 2), OK);
 }
 
+/* With a depth the state that a removal leads to is flushed once so many steps lie above it. */
+static void table_full_and_a_depth(void)
+{
+    const uint64_t cut = cechnuol_remove(1);
+    begin_deep(2, 1, 8, 1);
+    ANSWERS(commit_put(2, 20), OK);
+    ANSWERS(cechnuol_store_commit(&store, &cut, 1), OK);
+    ANSWERS(commit_put(2, 21), OK);
+    ANSWERS(cechnuol_store_flush(&store, 2), TABLE_FULL);
+    ANSWERS(cechnuol_store_flush(&store, 3), TOO_DEEP);
+    ANSWERS(commit_put(2, 22), OK);
+    ANSWERS(cechnuol_store_flush(&store, 3), OK);
+    hold_price(&store, 2, 22);
+}
+
 /* Commits to another store the lists of this one that lie above its checkpoint, from where the header says that they
  * stand in the journal. */
 static void commit_again(struct cechnuol_store *other)
@@ -244,7 +364,7 @@ static void longer_table(void)
     IS(cechnuol_store_checkpoint(&store) - cechnuol_store_oldest(&store), 1);
     ANSWERS(cechnuol_store_write_state_image(&store, cechnuol_store_checkpoint(&store), image, sizeof image, &count), OK);
     IS(count, CECHNUOL_IMAGE_BYTES_OF(store.head[CECHNUOL_USED]));
-    ANSWERS(cechnuol_store_load(&other, image, count), OK);
+    ANSWERS(cechnuol_store_load(&other, 0, image, count), OK);
     hold_price(&other, 1, 10);
     ANSWERS(cechnuol_store_look_up(&other, CECHNUOL_DESK, 2, cechnuol_store_tip(&other), &price, &since), NO_PRICE);
     commit_again(&other);
@@ -254,10 +374,10 @@ static void longer_table(void)
     hold_price(&other, 2, 20);
     /* a load into a table that is too short: the fifth and sixth byte say how long it must be */
     ANSWERS(cechnuol_store_write_image(&store, image, sizeof image, &count), OK);
-    ANSWERS(cechnuol_store_load(&shorter, image, count), TABLE_FULL);
+    ANSWERS(cechnuol_store_load(&shorter, 0, image, count), TABLE_FULL);
     IS((uint64_t)image[4] << 8 | image[5], 2);
     shorter.table_words = 2;
-    ANSWERS(cechnuol_store_load(&shorter, image, count), OK);
+    ANSWERS(cechnuol_store_load(&shorter, 0, image, count), OK);
     IS(cechnuol_store_checkpoint(&shorter), cechnuol_store_tip(&store));
     hold_price(&shorter, 1, 11);
     hold_price(&shorter, 2, 20);
@@ -272,18 +392,18 @@ static void table_full_at_a_sheet(void)
     begin(4, 8, 0);
     ANSWERS(cechnuol_store_commit(&store, words, 3), OK);
     ANSWERS(cechnuol_store_write_sheet(&store, sheet, sizeof sheet, &count), OK);
-    ANSWERS(cechnuol_store_load_sheet(&other, sheet, count), TABLE_FULL);
+    ANSWERS(cechnuol_store_load_sheet(&other, 0, sheet, count), TABLE_FULL);
     rows = (uint64_t)sheet[4] << 24 | (uint64_t)sheet[5] << 16 | (uint64_t)sheet[6] << 8 | sheet[7];
     IS(rows, 2);
     other.table_words = (count - 8 - 8 * rows) / 4;
     IS(other.table_words, 3);
-    ANSWERS(cechnuol_store_load_sheet(&other, sheet, count), OK);
+    ANSWERS(cechnuol_store_load_sheet(&other, 0, sheet, count), OK);
     hold_price(&other, 2, 20);
     hold_price(&other, 32, 30);
 }
 
 /* An image has the newest prices, or those of the state that is named. A restart has the checkpoint: what is above it is
- * lost, unless it is flushed before. */
+ * lost, unless it is flushed before or loaded from the tip's image instead. */
 static void images_and_restarts(void)
 {
     struct cechnuol_store other = {longer, 4, journal + 64, 8, {0}, {0}};
@@ -295,7 +415,7 @@ static void images_and_restarts(void)
     IS(count, 6);
     IS(cechnuol_store_image_bytes(&store), 14);
     ANSWERS(cechnuol_store_write_image(&store, image, cechnuol_store_image_bytes(&store), &count), OK);
-    ANSWERS(cechnuol_store_load(&other, image, count), OK);
+    ANSWERS(cechnuol_store_load(&other, 0, image, count), OK);
     IS(cechnuol_store_tip(&other), 1);
     hold_price(&other, 1, 10);
     ANSWERS(cechnuol_store_flush(&store, 1), OK);
@@ -309,6 +429,14 @@ static void images_and_restarts(void)
     ANSWERS(cechnuol_store_flush(&store, 2), OK);
     ANSWERS(cechnuol_store_restart(&store, image, sizeof image), OK);
     hold_price(&store, 1, 11);
+    /* with a depth nothing is flushed before: the image of the tip is loaded instead */
+    begin_deep(1, 4, 8, 0);
+    ANSWERS(commit_put(1, 10), OK);
+    ANSWERS(cechnuol_store_flush(&store, 1), TOO_DEEP);
+    ANSWERS(cechnuol_store_write_image(&store, image, sizeof image, &count), OK);
+    ANSWERS(cechnuol_store_load(&store, cechnuol_store_depth(&store), image, count), OK);
+    IS(cechnuol_store_tip(&store), 1);
+    hold_price(&store, 1, 10);
 }
 
 /* At the last state number: the image with number 0 has the same prices. */
@@ -317,12 +445,12 @@ static void last_state(void)
     const uint8_t last_but_one[6] = {0xFF, 0xFF, 0xFF, 0xFE, 0, 0};
     uint64_t count = 0;
     begin(4, 8, 0);
-    ANSWERS(cechnuol_store_load(&store, last_but_one, 6), OK);
+    ANSWERS(cechnuol_store_load(&store, 0, last_but_one, 6), OK);
     ANSWERS(commit_put(1, 10), OK);
     ANSWERS(commit_put(1, 11), LAST_STATE);
     ANSWERS(cechnuol_store_write_image(&store, image, sizeof image, &count), OK);
     memset(image, 0, 4);
-    ANSWERS(cechnuol_store_load(&store, image, count), OK);
+    ANSWERS(cechnuol_store_load(&store, 0, image, count), OK);
     IS(cechnuol_store_tip(&store), 0);
     hold_price(&store, 1, 10);
     ANSWERS(commit_put(1, 11), OK);
@@ -374,12 +502,17 @@ int main(void)
 {
     steps_full_and_no_slot();
     steps_full_and_slots();
+    steps_full_and_a_depth();
     journal_full();
+    journal_full_and_a_depth();
+    journal_for_a_depth();
+    flush_too_deep();
     list_longer_than_journal();
     journal_full_and_table_full();
     steps_full_and_slots_at_the_checkpoint();
     another_read_set();
     table_full_at_a_flush();
+    table_full_and_a_depth();
     longer_table();
     table_full_at_a_sheet();
     images_and_restarts();

@@ -17,11 +17,11 @@ static void of_resets(void)
 {
     const uint8_t empty[6] = {0, 0, 0, 3, 0, 0}, no_rows[8] = {0, 0, 0, 3, 0, 0, 0, 0};
     begin();
-    CHANGES(cechnuol_clear(STORE), TABLE | JOURNAL | HEAD | TALLY);
+    CHANGES(cechnuol_clear(STORE, 0), TABLE | JOURNAL | HEAD | TALLY);
     begin();
-    CHANGES(cechnuol_load(STORE, empty, 6), TABLE | JOURNAL | HEAD | TALLY);
+    CHANGES(cechnuol_load(STORE, 0, empty, 6), TABLE | JOURNAL | HEAD | TALLY);
     begin();
-    CHANGES(cechnuol_load_sheet(STORE, no_rows, 8), TABLE | JOURNAL | HEAD | TALLY);
+    CHANGES(cechnuol_load_sheet(STORE, 0, no_rows, 8), TABLE | JOURNAL | HEAD | TALLY);
     begin();
     CHANGES(cechnuol_restart(STORE, lent.bytes, 64), JOURNAL | HEAD | TALLY | BYTES);
     IS(lent.bytes[3], 7);

@@ -49,7 +49,7 @@ static inline void begin(void)
                                       0x80, 0, 0, 6, 0, 0, 0x03, 0x84};
     static const uint64_t add = 0x80000009000002BC, cut = 0x0000000500000000;
     memset(&lent, 0x5A, sizeof lent);
-    ANSWERS(cechnuol_load(STORE, image, sizeof image), OK);
+    ANSWERS(cechnuol_load(STORE, 0, image, sizeof image), OK);
     ANSWERS(cechnuol_commit(STORE, &add, 1), OK);
     ANSWERS(cechnuol_commit(STORE, &cut, 1), OK);
     lent.words[0] = cechnuol_ask(5);

@@ -25,13 +25,13 @@ static void lengths(void)
     struct cechnuol_store long_journal = of(1, CECHNUOL_JOURNAL_WORDS + 1);
     table[CECHNUOL_TABLE_WORDS] = journal[CECHNUOL_JOURNAL_WORDS] = GUARD;
     table[CECHNUOL_TABLE_WORDS - 1] = journal[CECHNUOL_JOURNAL_WORDS - 1] = 7;
-    ANSWERS(cechnuol_store_clear(&none), LENGTHS);
-    ANSWERS(cechnuol_store_clear(&no_journal), LENGTHS);
-    ANSWERS(cechnuol_store_clear(&long_table), LENGTHS);
-    ANSWERS(cechnuol_store_clear(&long_journal), LENGTHS);
-    ANSWERS(cechnuol_store_clear(&least), OK);
+    ANSWERS(cechnuol_store_clear(&none, 0), LENGTHS);
+    ANSWERS(cechnuol_store_clear(&no_journal, 0), LENGTHS);
+    ANSWERS(cechnuol_store_clear(&long_table, 0), LENGTHS);
+    ANSWERS(cechnuol_store_clear(&long_journal, 0), LENGTHS);
+    ANSWERS(cechnuol_store_clear(&least, 0), OK);
     IS(table[CECHNUOL_TABLE_WORDS - 1] + journal[CECHNUOL_JOURNAL_WORDS - 1], 14);
-    ANSWERS(cechnuol_store_clear(&store), OK);
+    ANSWERS(cechnuol_store_clear(&store, 0), OK);
     IS(table[CECHNUOL_TABLE_WORDS - 1] + journal[CECHNUOL_JOURNAL_WORDS - 1], 0);
     IS(table[CECHNUOL_TABLE_WORDS], GUARD);
     IS(journal[CECHNUOL_JOURNAL_WORDS], GUARD);
@@ -55,11 +55,11 @@ static void images(void)
     const size_t full = CECHNUOL_IMAGE_BYTES_OF(CECHNUOL_TABLE_WORDS);
     uint64_t count = 7;
     IS(image_of(CECHNUOL_TABLE_WORDS + 1), full + 8);
-    ANSWERS(cechnuol_store_load(&store, image, full + 8), TABLE_FULL);
+    ANSWERS(cechnuol_store_load(&store, 0, image, full + 8), TABLE_FULL);
     IS(image_of(CECHNUOL_TABLE_WORDS), full);
-    ANSWERS(cechnuol_store_load(&store, image, full + 1), BAD_IMAGE);
-    ANSWERS(cechnuol_store_load(&store, image, full - 1), BAD_IMAGE);
-    ANSWERS(cechnuol_store_load(&store, image, full), OK);
+    ANSWERS(cechnuol_store_load(&store, 0, image, full + 1), BAD_IMAGE);
+    ANSWERS(cechnuol_store_load(&store, 0, image, full - 1), BAD_IMAGE);
+    ANSWERS(cechnuol_store_load(&store, 0, image, full), OK);
     IS(store.head[CECHNUOL_USED], CECHNUOL_TABLE_WORDS);
     IS(cechnuol_store_image_bytes(&store), full);
     memset(copy, GUARD, sizeof copy);
@@ -68,7 +68,7 @@ static void images(void)
     IS(count, full);
     IS(memcmp(copy, image, full) == 0, 1);
     IS(copy[full], GUARD);
-    ANSWERS(cechnuol_store_load(&store, image, image_of(0)), OK);
+    ANSWERS(cechnuol_store_load(&store, 0, image, image_of(0)), OK);
     IS(image_of(0), 6);
 }
 
@@ -78,7 +78,7 @@ static void longest_image(void)
     const size_t full = CECHNUOL_IMAGE_BYTES_OF(CECHNUOL_TABLE_WORDS);
     size_t step;
     uint64_t count = 7;
-    ANSWERS(cechnuol_store_load(&store, image, image_of(CECHNUOL_TABLE_WORDS)), OK);
+    ANSWERS(cechnuol_store_load(&store, 0, image, image_of(CECHNUOL_TABLE_WORDS)), OK);
     for (step = 0; step < CECHNUOL_STEPS; step++) {
         put_offers(words, CECHNUOL_LIST_WORDS, cechnuol_low_bits(CECHNUOL_TABLE_WORDS + CECHNUOL_LIST_WORDS * step), 1);
         ANSWERS(cechnuol_store_commit(&store, words, CECHNUOL_LIST_WORDS), OK);
@@ -93,7 +93,7 @@ static void longest_image(void)
     IS(count, CECHNUOL_IMAGE_BYTES);
     IS(memcmp(copy, image, CECHNUOL_IMAGE_BYTES) == 0, 1);
     IS(copy[CECHNUOL_IMAGE_BYTES], GUARD);
-    ANSWERS(cechnuol_store_load(&store, copy, CECHNUOL_IMAGE_BYTES), TABLE_FULL);
+    ANSWERS(cechnuol_store_load(&store, 0, copy, CECHNUOL_IMAGE_BYTES), TABLE_FULL);
     ANSWERS(cechnuol_store_write_state_image(&store, 0, copy, full, &count), OK);
     IS(count, full);
     ANSWERS(cechnuol_store_restart(&store, copy, full - 1), OUTPUT_SHORT);
@@ -128,11 +128,11 @@ static void sheets(void)
     const size_t full = CECHNUOL_SHEET_BYTES_OF(CECHNUOL_TABLE_WORDS);
     uint64_t count = 7;
     IS(sheet_of(CECHNUOL_TABLE_WORDS + 1), full + 12);
-    ANSWERS(cechnuol_store_load_sheet(&store, sheet, full + 12), TABLE_FULL);
+    ANSWERS(cechnuol_store_load_sheet(&store, 0, sheet, full + 12), TABLE_FULL);
     IS(sheet_of(CECHNUOL_TABLE_WORDS), full);
-    ANSWERS(cechnuol_store_load_sheet(&store, sheet, full + 1), BAD_IMAGE);
-    ANSWERS(cechnuol_store_load_sheet(&store, sheet, full - 1), BAD_IMAGE);
-    ANSWERS(cechnuol_store_load_sheet(&store, sheet, full), OK);
+    ANSWERS(cechnuol_store_load_sheet(&store, 0, sheet, full + 1), BAD_IMAGE);
+    ANSWERS(cechnuol_store_load_sheet(&store, 0, sheet, full - 1), BAD_IMAGE);
+    ANSWERS(cechnuol_store_load_sheet(&store, 0, sheet, full), OK);
     IS(store.head[CECHNUOL_USED], CECHNUOL_TABLE_WORDS);
     IS(cechnuol_store_sheet_bytes(&store), full);
     memset(copy, GUARD, sizeof copy);
@@ -142,7 +142,7 @@ static void sheets(void)
     IS(memcmp(copy, sheet, full) == 0, 1);
     IS(copy[full], GUARD);
     IS(sheet_of(0), 8);
-    ANSWERS(cechnuol_store_load_sheet(&store, sheet, 8), OK);
+    ANSWERS(cechnuol_store_load_sheet(&store, 0, sheet, 8), OK);
 }
 
 /* The longest sheet: of a full table and a journal full of new offers, each in a row of its own. No table takes it. */
@@ -151,7 +151,7 @@ static void longest_sheet(void)
     const size_t full = CECHNUOL_SHEET_BYTES_OF(CECHNUOL_TABLE_WORDS);
     size_t step, i;
     uint64_t count = 7;
-    ANSWERS(cechnuol_store_load_sheet(&store, sheet, sheet_of(CECHNUOL_TABLE_WORDS)), OK);
+    ANSWERS(cechnuol_store_load_sheet(&store, 0, sheet, sheet_of(CECHNUOL_TABLE_WORDS)), OK);
     for (step = 0; step < CECHNUOL_STEPS; step++) {
         for (i = 0; i < CECHNUOL_LIST_WORDS; i++)
             words[i] = cechnuol_put(cechnuol_low_bits(32 * (CECHNUOL_TABLE_WORDS + CECHNUOL_LIST_WORDS * step + i)), 1);
@@ -167,7 +167,7 @@ static void longest_sheet(void)
     IS(count, CECHNUOL_SHEET_BYTES);
     IS(memcmp(copy, sheet, CECHNUOL_SHEET_BYTES) == 0, 1);
     IS(copy[CECHNUOL_SHEET_BYTES], GUARD);
-    ANSWERS(cechnuol_store_load_sheet(&store, copy, CECHNUOL_SHEET_BYTES), TABLE_FULL);
+    ANSWERS(cechnuol_store_load_sheet(&store, 0, copy, CECHNUOL_SHEET_BYTES), TABLE_FULL);
     ANSWERS(cechnuol_store_write_state_sheet(&store, 0, copy, full - 1, &count), OUTPUT_SHORT);
     ANSWERS(cechnuol_store_write_state_sheet(&store, 0, copy, full, &count), OK);
     IS(count, full);
@@ -176,7 +176,7 @@ static void longest_sheet(void)
 static void lists(void)
 {
     size_t i;
-    ANSWERS(cechnuol_store_clear(&store), OK);
+    ANSWERS(cechnuol_store_clear(&store, 0), OK);
     put_offers(words, CECHNUOL_LIST_WORDS + 1, 0, 1);
     ANSWERS(cechnuol_store_commit(&store, words, CECHNUOL_LIST_WORDS), OK);
     ANSWERS(cechnuol_store_commit(&store, words, CECHNUOL_LIST_WORDS + 1), BAD_LIST);
@@ -210,7 +210,7 @@ static void batches(void)
 
 static void slots(void)
 {
-    ANSWERS(cechnuol_store_clear(&store), OK);
+    ANSWERS(cechnuol_store_clear(&store, 0), OK);
     ANSWERS(cechnuol_store_issue(&store, CECHNUOL_DESK, CECHNUOL_SLOTS, NULL, 0), SLOT_RANGE);
     ANSWERS(cechnuol_store_issue(&store, CECHNUOL_DESK, SIZE_MAX, NULL, 0), SLOT_RANGE);
     ANSWERS(cechnuol_store_issue(&store, CECHNUOL_FOYER, CECHNUOL_SLOTS - 1, NULL, 0), OK);
@@ -226,7 +226,7 @@ static void callers(void)
     const uint32_t foyer = CECHNUOL_FOYER, unknown = UINT32_MAX;
     const size_t first = CECHNUOL_FOYER_SLOT, most = CECHNUOL_FOYER_WORDS;
     size_t slot, i;
-    ANSWERS(cechnuol_store_clear(&store), OK);
+    ANSWERS(cechnuol_store_clear(&store, 0), OK);
     for (slot = 0; slot < CECHNUOL_SLOTS; slot++) {
         const uint32_t own = slot < 6 ? 0 : 1;
         IS(cechnuol_caller_of(slot), own);
@@ -251,17 +251,35 @@ static void steps(void)
     struct cechnuol_store shorter = of(1, CECHNUOL_JOURNAL_WORDS - 1);
     size_t i;
     put_offers(words, CECHNUOL_LIST_WORDS, 0, 1);
-    ANSWERS(cechnuol_store_clear(&store), OK);
+    ANSWERS(cechnuol_store_clear(&store, 0), OK);
     for (i = 0; i < CECHNUOL_STEPS; i++)
         ANSWERS(cechnuol_store_commit(&store, words, CECHNUOL_LIST_WORDS), OK);
     IS(store.head[CECHNUOL_ENDS + CECHNUOL_STEPS - 1], CECHNUOL_JOURNAL_WORDS);
     ANSWERS(cechnuol_store_commit(&store, NULL, 0), STEPS_FULL);
     IS(journal[CECHNUOL_JOURNAL_WORDS], GUARD);
-    ANSWERS(cechnuol_store_clear(&shorter), OK);
+    ANSWERS(cechnuol_store_clear(&shorter, 0), OK);
     for (i = 0; i < CECHNUOL_STEPS - 1; i++)
         ANSWERS(cechnuol_store_commit(&shorter, words, CECHNUOL_LIST_WORDS), OK);
     ANSWERS(cechnuol_store_commit(&shorter, words, CECHNUOL_LIST_WORDS), JOURNAL_FULL);
     ANSWERS(cechnuol_store_commit(&shorter, words, CECHNUOL_LIST_WORDS - 1), OK);
+}
+
+/* The deepest store that can be: of as many steps as are held one can be flushed. */
+static void depths(void)
+{
+    const uint32_t most = CECHNUOL_MOST_DEPTH;
+    size_t i;
+    ANSWERS(cechnuol_store_clear(&store, most + 1), TOO_DEEP);
+    ANSWERS(cechnuol_store_load(&store, most + 1, image, image_of(0)), TOO_DEEP);
+    ANSWERS(cechnuol_store_load(&store, most, image, image_of(0)), OK);
+    ANSWERS(cechnuol_store_load_sheet(&store, most + 1, sheet, sheet_of(0)), TOO_DEEP);
+    ANSWERS(cechnuol_store_load_sheet(&store, most, sheet, sheet_of(0)), OK);
+    ANSWERS(cechnuol_store_clear(&store, most), OK);
+    IS(cechnuol_store_depth(&store), 63);
+    for (i = 0; i < CECHNUOL_STEPS; i++)
+        ANSWERS(cechnuol_store_commit(&store, NULL, 0), OK);
+    ANSWERS(cechnuol_store_flush(&store, 2), TOO_DEEP);
+    ANSWERS(cechnuol_store_flush(&store, 1), OK);
 }
 
 /* Head and tally lie between words that no call touches; of their own words clear writes the first and the last. */
@@ -270,9 +288,11 @@ static void head_and_tally(void)
     static uint64_t head[CECHNUOL_HEAD_WORDS + 2], tally[CECHNUOL_TALLY_WORDS + 2];
     memset(head, GUARD, sizeof head);
     memset(tally, GUARD, sizeof tally);
-    ANSWERS(cechnuol_clear(table, 4, journal, 4, head + 1, tally + 1), OK);
+    ANSWERS(cechnuol_clear(table, 4, journal, 4, head + 1, tally + 1, 7), OK);
     IS(head[0], UINT64_C(0x5A5A5A5A5A5A5A5A));
-    IS(head[1] + head[CECHNUOL_HEAD_WORDS], 0);
+    IS(head[1], 0);
+    IS(head[CECHNUOL_HEAD_WORDS - 1], 0);
+    IS(head[CECHNUOL_HEAD_WORDS], 7);
     IS(head[CECHNUOL_HEAD_WORDS + 1], UINT64_C(0x5A5A5A5A5A5A5A5A));
     IS(tally[0], UINT64_C(0x5A5A5A5A5A5A5A5A));
     IS(tally[1] + tally[CECHNUOL_TALLY_WORDS], 0);
@@ -291,6 +311,7 @@ int main(void)
     slots();
     callers();
     steps();
+    depths();
     head_and_tally();
     return differences != 0;
 }

@@ -1,5 +1,5 @@
 /* The sheet and the image of a state load alike: table, journal, head and tally are then the same, word for word, whatever
- * they were. The states are random, with rows from sparse to full. */
+ * they were. The states are random, with rows from sparse to full, and so are the depths. */
 #include "hold.h"
 
 enum { TABLE_LENGTH = 1000, JOURNAL_LENGTH = 1000, STEPS = 12, GUARD = 0x5A };
@@ -53,6 +53,7 @@ static void commit_random(uint32_t way)
 /* Image and sheet of a state, each loaded into memory of any words; and each written again of what the other loaded. */
 static void hold_state(uint32_t state)
 {
+    const uint32_t depth = below(CECHNUOL_MOST_DEPTH + 1);
     uint64_t image_count = 0, sheet_count = 0, count = 0;
     size_t offers;
     memset(sheet, GUARD, sizeof sheet);
@@ -64,14 +65,15 @@ static void hold_state(uint32_t state)
     BYTES_ALIKE(sheet, image, 4);
     memset(&by_image, below(256) & 0xFF, sizeof by_image);
     memset(&by_sheet, below(256) & 0xFF, sizeof by_sheet);
-    ANSWERS(cechnuol_load(LENT(by_image), image, image_count), OK);
-    ANSWERS(cechnuol_load_sheet(LENT(by_sheet), sheet, sheet_count), OK);
+    ANSWERS(cechnuol_load(LENT(by_image), depth, image, image_count), OK);
+    ANSWERS(cechnuol_load_sheet(LENT(by_sheet), depth, sheet, sheet_count), OK);
     WORDS_ALIKE(by_image.table, by_sheet.table);
     WORDS_ALIKE(by_image.journal, by_sheet.journal);
     WORDS_ALIKE(by_image.head, by_sheet.head);
     WORDS_ALIKE(by_image.tally, by_sheet.tally);
     IS(by_sheet.head[CECHNUOL_TIP], state);
     IS(by_sheet.head[CECHNUOL_USED], offers);
+    IS(by_sheet.head[CECHNUOL_DEPTH], depth);
     ANSWERS(cechnuol_write_sheet(TO_READ(by_image), sheet_again, sizeof sheet_again, &count), OK);
     IS(count, sheet_count);
     BYTES_ALIKE(sheet, sheet_again, sheet_count);
@@ -92,9 +94,10 @@ static void hold_refused(void)
         return;
     words--;
     by_image = by_sheet;
-    ANSWERS(cechnuol_load(by_image.table, words, by_image.journal, 1, by_image.head, by_image.tally, image, image_count),
+    ANSWERS(cechnuol_load(by_image.table, words, by_image.journal, 1, by_image.head, by_image.tally, 0, image,
+                          image_count),
             TABLE_FULL);
-    ANSWERS(cechnuol_load_sheet(by_image.table, words, by_image.journal, 1, by_image.head, by_image.tally, sheet,
+    ANSWERS(cechnuol_load_sheet(by_image.table, words, by_image.journal, 1, by_image.head, by_image.tally, 0, sheet,
                                 sheet_count),
             TABLE_FULL);
     BYTES_ALIKE(&by_image, &by_sheet, sizeof by_image);
@@ -106,7 +109,7 @@ int main(void)
     uint32_t state, states = 0;
     int round, i;
     for (round = 0; round < 40; round++) {
-        ANSWERS(cechnuol_store_clear(&store), OK);
+        ANSWERS(cechnuol_store_clear(&store, 0), OK);
         for (i = 0; i < STEPS; i++)
             commit_random(ways[round % 4]);
         ANSWERS(cechnuol_store_flush(&store, below(STEPS)), OK);

@@ -11,11 +11,11 @@ static uint64_t table[4], journal[16], head[CECHNUOL_HEAD_WORDS], tally[CECHNUOL
 static void on_nothing(void)
 {
     uint64_t value = 7, since = 8;
-    ANSWERS(cechnuol_clear(NOTHING), LENGTHS);
-    ANSWERS(cechnuol_load(NOTHING, NULL, 0), LENGTHS);
+    ANSWERS(cechnuol_clear(NOTHING, UINT32_MAX), LENGTHS);
+    ANSWERS(cechnuol_load(NOTHING, UINT32_MAX, NULL, 0), LENGTHS);
     ANSWERS(cechnuol_write_image(NOTHING_TO_READ, NULL, 0, &value), LENGTHS);
     ANSWERS(cechnuol_write_state_image(NOTHING_TO_READ, 0, NULL, 0, &value), LENGTHS);
-    ANSWERS(cechnuol_load_sheet(NOTHING, NULL, 0), LENGTHS);
+    ANSWERS(cechnuol_load_sheet(NOTHING, UINT32_MAX, NULL, 0), LENGTHS);
     ANSWERS(cechnuol_write_sheet(NOTHING_TO_READ, NULL, 0, &value), LENGTHS);
     ANSWERS(cechnuol_write_state_sheet(NOTHING_TO_READ, 0, NULL, 0, &value), LENGTHS);
     ANSWERS(cechnuol_restart(NOTHING, NULL, 0), LENGTHS);
@@ -35,9 +35,11 @@ static void of_no_length(void)
     uint64_t value = 7;
     ANSWERS(cechnuol_price_batch(NULL, 0, NULL, 0, NULL, 0, &value), OK);
     IS(value, 0);
-    ANSWERS(cechnuol_clear(STORE), OK);
-    ANSWERS(cechnuol_load(STORE, NULL, 0), BAD_IMAGE);
-    ANSWERS(cechnuol_load_sheet(STORE, NULL, 0), BAD_IMAGE);
+    ANSWERS(cechnuol_clear(STORE, 0), OK);
+    ANSWERS(cechnuol_load(STORE, 64, NULL, 0), TOO_DEEP);
+    ANSWERS(cechnuol_load(STORE, 63, NULL, 0), BAD_IMAGE);
+    ANSWERS(cechnuol_load_sheet(STORE, 64, NULL, 0), TOO_DEEP);
+    ANSWERS(cechnuol_load_sheet(STORE, 63, NULL, 0), BAD_IMAGE);
     ANSWERS(cechnuol_commit(STORE, NULL, 0), OK);
     ANSWERS(cechnuol_issue(STORE, CECHNUOL_DESK, 0, NULL, 0), OK);
     ANSWERS(cechnuol_forward(STORE, CECHNUOL_DESK, 0, 1, NULL, 0), OK);
@@ -55,12 +57,15 @@ static void on_any_words(void)
     memset(head, 0xFF, sizeof head);
     memset(tally, 0xFF, sizeof tally);
     ANSWERS(cechnuol_release(STORE, CECHNUOL_DESK, 0), UNSOUND);
-    ANSWERS(cechnuol_load(STORE, NULL, 0), BAD_IMAGE);
-    ANSWERS(cechnuol_load_sheet(STORE, NULL, 0), BAD_IMAGE);
+    ANSWERS(cechnuol_load(STORE, 0, NULL, 0), BAD_IMAGE);
+    ANSWERS(cechnuol_load_sheet(STORE, 0, NULL, 0), BAD_IMAGE);
+    ANSWERS(cechnuol_clear(STORE, 64), TOO_DEEP);
     IS(head[CECHNUOL_TIP], UINT64_MAX);
+    IS(head[CECHNUOL_DEPTH], UINT64_MAX);
     IS(tally[CECHNUOL_FLUSHED], UINT64_MAX);
-    ANSWERS(cechnuol_clear(STORE), OK);
+    ANSWERS(cechnuol_clear(STORE, 9), OK);
     IS(head[CECHNUOL_TIP], 0);
+    IS(head[CECHNUOL_DEPTH], 9);
     IS(tally[CECHNUOL_FLUSHED], 0);
 }
 
@@ -81,7 +86,7 @@ static void on_noise(void)
     }
     IS(value, 7);
     IS(since, 8);
-    ANSWERS(cechnuol_clear(STORE), OK);
+    ANSWERS(cechnuol_clear(STORE, 0), OK);
     ANSWERS(cechnuol_flush(STORE, 0), OK);
 }
 

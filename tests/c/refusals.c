@@ -18,15 +18,18 @@ static void of_resets(void)
     const uint8_t five_seats[36] = {0, 0, 0, 0, 0, 0, 0, 1, 0, 0, 0, 0, 0x7C, 0, 0, 0,
                                     0, 0, 0, 1, 0, 0, 0, 1, 0, 0, 0, 1, 0, 0, 0, 1, 0, 0, 0, 1};
     begin();
-    REFUSED(cechnuol_clear(NOTHING), LENGTHS);
-    REFUSED(cechnuol_load(NOTHING, five, 46), LENGTHS);
-    REFUSED(cechnuol_load(STORE, falling, 22), BAD_IMAGE);
-    REFUSED(cechnuol_load(STORE, five, 45), BAD_IMAGE);
-    REFUSED(cechnuol_load(STORE, five, 46), TABLE_FULL);
-    REFUSED(cechnuol_load_sheet(NOTHING, five_seats, 36), LENGTHS);
-    REFUSED(cechnuol_load_sheet(STORE, falling_rows, 32), BAD_IMAGE);
-    REFUSED(cechnuol_load_sheet(STORE, five_seats, 35), BAD_IMAGE);
-    REFUSED(cechnuol_load_sheet(STORE, five_seats, 36), TABLE_FULL);
+    REFUSED(cechnuol_clear(NOTHING, 64), LENGTHS);
+    REFUSED(cechnuol_clear(STORE, 64), TOO_DEEP);
+    REFUSED(cechnuol_load(NOTHING, 64, five, 46), LENGTHS);
+    REFUSED(cechnuol_load(STORE, 64, falling, 22), TOO_DEEP);
+    REFUSED(cechnuol_load(STORE, 0, falling, 22), BAD_IMAGE);
+    REFUSED(cechnuol_load(STORE, 0, five, 45), BAD_IMAGE);
+    REFUSED(cechnuol_load(STORE, 0, five, 46), TABLE_FULL);
+    REFUSED(cechnuol_load_sheet(NOTHING, 64, five_seats, 36), LENGTHS);
+    REFUSED(cechnuol_load_sheet(STORE, 64, falling_rows, 32), TOO_DEEP);
+    REFUSED(cechnuol_load_sheet(STORE, 0, falling_rows, 32), BAD_IMAGE);
+    REFUSED(cechnuol_load_sheet(STORE, 0, five_seats, 35), BAD_IMAGE);
+    REFUSED(cechnuol_load_sheet(STORE, 0, five_seats, 36), TABLE_FULL);
     REFUSED(cechnuol_restart(NOTHING, lent.bytes, 22), LENGTHS);
     REFUSED(cechnuol_restart(STORE, lent.bytes, 21), OUTPUT_SHORT);
     damage();
@@ -67,7 +70,7 @@ static void begin_at_last(void)
 {
     const uint8_t image[6] = {0xFF, 0xFF, 0xFF, 0xFF, 0, 0};
     memset(&lent, 0x5A, sizeof lent);
-    ANSWERS(cechnuol_load(STORE, image, 6), OK);
+    ANSWERS(cechnuol_load(STORE, 0, image, 6), OK);
 }
 
 static void of_commit(void)
@@ -101,6 +104,9 @@ static void of_other_steps(void)
     put_offers(lent.words, 3, 20, 1);
     ANSWERS(cechnuol_commit(STORE, lent.words, 3), OK);
     REFUSED(cechnuol_flush(STORE, 10), TABLE_FULL);
+    lent.head[CECHNUOL_DEPTH] = 1;
+    REFUSED(cechnuol_flush(STORE, 11), STATE_RANGE);
+    REFUSED(cechnuol_flush(STORE, 10), TOO_DEEP);
     damage();
     REFUSED(cechnuol_roll_back(STORE, 6), UNSOUND);
     REFUSED(cechnuol_flush(STORE, 6), UNSOUND);

@@ -56,7 +56,7 @@ static void load_numbers(const uint32_t *numbers, size_t count)
     const size_t length = put_numbers(sheet, numbers, count);
     memset(&lent, 0x5A, sizeof lent);
     before = lent;
-    ANSWERS(cechnuol_load_sheet(STORE, sheet, length), OK);
+    ANSWERS(cechnuol_load_sheet(STORE, 0, sheet, length), OK);
     hold((uint64_t)changed(), TABLE | JOURNAL | HEAD | TALLY, "parts changed by a load");
 }
 
@@ -96,7 +96,7 @@ static void two_states(void)
     const uint64_t offer_5 = 0x80000005000004B0, added[2] = {0x8000001F00000004, 0xFFFFFFFF00000003};
     const uint64_t loaded[3] = {0x80000005000004B0, 0x8000001F00000004, 0xFFFFFFFF00000003};
     memset(&lent, 0x5A, sizeof lent);
-    ANSWERS(cechnuol_load_sheet(STORE, sheet, 20), OK);
+    ANSWERS(cechnuol_load_sheet(STORE, 0, sheet, 20), OK);
     hold_loaded(7, &offer_5, 1);
     hold_sheet(7, seven, 5);
     IS(memcmp(lent.bytes, sheet, 20) == 0, 1);
@@ -118,7 +118,7 @@ static void no_rows(void)
     hold_sheet(9, nine, 2);
     load_numbers(last, 2);
     hold_sheet(0xFFFFFFFF, last, 2);
-    ANSWERS(cechnuol_clear(STORE), OK);
+    ANSWERS(cechnuol_clear(STORE, 0), OK);
     hold_sheet(0, first, 2);
 }
 
@@ -154,8 +154,8 @@ static void all_seats(void)
     for (i = 0; i < 32; i++)
         numbers[4 + i] = i;
     IS(put_numbers(sheet, numbers, 36), 144);
-    ANSWERS(cechnuol_load_sheet(table, 31, journal, 1, head, tally, sheet, 144), TABLE_FULL);
-    ANSWERS(cechnuol_load_sheet(table, 32, journal, 1, head, tally, sheet, 144), OK);
+    ANSWERS(cechnuol_load_sheet(table, 31, journal, 1, head, tally, 0, sheet, 144), TABLE_FULL);
+    ANSWERS(cechnuol_load_sheet(table, 32, journal, 1, head, tally, 0, sheet, 144), OK);
     for (i = 0; i < 32; i++)
         IS(table[i], cechnuol_put(32 + i, i));
     memset(copy, 0x5A, sizeof copy);
@@ -175,8 +175,8 @@ static void more_than_the_table_holds(void)
     begin();
     ANSWERS(cechnuol_commit(STORE, added, 4), OK);
     hold_sheet(10, ten, COUNT(ten));
-    REFUSED(cechnuol_load_sheet(STORE, lent.bytes, 40), TABLE_FULL);
-    ANSWERS(cechnuol_load_sheet(table, 6, journal, 1, head, tally, lent.bytes, 40), OK);
+    REFUSED(cechnuol_load_sheet(STORE, 0, lent.bytes, 40), TABLE_FULL);
+    ANSWERS(cechnuol_load_sheet(table, 6, journal, 1, head, tally, 0, lent.bytes, 40), OK);
     IS(head[CECHNUOL_TIP], 10);
     IS(table[5], cechnuol_put(10, 4));
 }
@@ -215,7 +215,7 @@ static void broken(void)
         put_numbers(sheet, none[i].numbers, 9);
         begin();
         before = lent;
-        hold_answer(cechnuol_load_sheet(STORE, sheet, none[i].length), CECHNUOL_BAD_IMAGE, "BAD_IMAGE", none[i].what);
+        hold_answer(cechnuol_load_sheet(STORE, 0, sheet, none[i].length), CECHNUOL_BAD_IMAGE, "BAD_IMAGE", none[i].what);
         hold((uint64_t)changed(), 0, none[i].what);
     }
 }
@@ -228,8 +228,8 @@ static void table_full(void)
     uint8_t sheet[36];
     BOTH_WAYS(7, four, loaded);
     put_numbers(sheet, five, 9);
-    REFUSED(cechnuol_load_sheet(STORE, sheet, 35), BAD_IMAGE);
-    REFUSED(cechnuol_load_sheet(STORE, sheet, 36), TABLE_FULL);
+    REFUSED(cechnuol_load_sheet(STORE, 0, sheet, 35), BAD_IMAGE);
+    REFUSED(cechnuol_load_sheet(STORE, 0, sheet, 36), TABLE_FULL);
     hold_loaded(7, loaded, 4);
 }
 
@@ -238,9 +238,9 @@ static void neither_for_the_other(void)
 {
     begin();
     ANSWERS(cechnuol_write_image(TO_READ, lent.bytes, sizeof lent.bytes, &lent.value), OK);
-    REFUSED(cechnuol_load_sheet(STORE, lent.bytes, lent.value), BAD_IMAGE);
+    REFUSED(cechnuol_load_sheet(STORE, 0, lent.bytes, lent.value), BAD_IMAGE);
     ANSWERS(cechnuol_write_sheet(TO_READ, lent.bytes, sizeof lent.bytes, &lent.value), OK);
-    REFUSED(cechnuol_load(STORE, lent.bytes, lent.value), BAD_IMAGE);
+    REFUSED(cechnuol_load(STORE, 0, lent.bytes, lent.value), BAD_IMAGE);
 }
 
 int main(void)

@@ -30,7 +30,7 @@ static void begin(uint32_t state)
     int i;
     for (i = 0; i < 4; i++)
         image[i] = state >> (24 - 8 * i) & 0xFF;
-    ANSWERS(cechnuol_store_load(&store, image, sizeof image), OK);
+    ANSWERS(cechnuol_store_load(&store, 0, image, sizeof image), OK);
 }
 
 static void commit(uint64_t word)
@@ -167,7 +167,7 @@ static void two_stores(void)
     commit(cechnuol_put(5, 1));
     commit(cechnuol_put(9, 2));
     ANSWERS(cechnuol_store_write_image(&store, image, sizeof image, &count), OK);
-    ANSWERS(cechnuol_store_load(&other, image, count), OK);
+    ANSWERS(cechnuol_store_load(&other, 0, image, count), OK);
     hold_quote(5, 2, 1, 1);
     hold_quote(9, 2, 2, 2);
     first = store;

@@ -24,6 +24,8 @@ static void hold_alike(uint64_t by_plain, uint64_t by_struct, const char *what)
     hold(cechnuol_store_oldest(&store), plain.head[1], "oldest");
     hold(cechnuol_store_checkpoint(&store), plain.head[2], "checkpoint");
     hold(cechnuol_store_tip(&store), plain.head[3], "tip");
+    hold(cechnuol_store_depth(&store), plain.head[84], "depth");
+    hold(cechnuol_store_highest_flush(&store), cechnuol_highest_flush(plain.head), "highest flush");
     hold(cechnuol_store_image_bytes(&store), cechnuol_image_bytes(plain.head), "bytes of an image");
     hold(cechnuol_store_sheet_bytes(&store), cechnuol_sheet_bytes(plain.head), "bytes of a sheet");
 }
@@ -41,7 +43,11 @@ static void give(uint64_t first, uint64_t second, uint64_t third)
 
 static void steps(void)
 {
-    hold_alike(cechnuol_clear(STORE), cechnuol_store_clear(&store), "clear");
+    ALIKE(clear, 63);
+    IS(cechnuol_store_depth(&store), 63);
+    ALIKE(clear, 64);
+    ALIKE(clear, 0);
+    IS(cechnuol_store_depth(&store), 0);
     give(cechnuol_put(1, 10), cechnuol_put(2, 20), cechnuol_put(3, 30));
     ALIKE(commit, other.words, 3);
     ALIKE(commit, other.words, 2);
@@ -94,8 +100,10 @@ static void images(void)
     hold_alike(cechnuol_write_state_image(TO_READ, 1, plain.bytes, 64, &plain.value),
                cechnuol_store_write_state_image(&store, 1, other.bytes, 64, &other.value), "write_state_image");
     hold_alike(cechnuol_restart(STORE, plain.bytes, 64), cechnuol_store_restart(&store, other.bytes, 64), "restart");
-    ALIKE(load, image, 14);
-    ALIKE(load, image, 13);
+    ALIKE(load, 62, image, 14);
+    IS(cechnuol_store_depth(&store), 62);
+    ALIKE(load, 63, image, 13);
+    ALIKE(load, 64, image, 14);
     hold_alike(cechnuol_write_image(TO_READ, plain.bytes, 13, &plain.value),
                cechnuol_store_write_image(&store, other.bytes, 13, &other.value), "write_image, short");
 }
@@ -103,9 +111,11 @@ static void images(void)
 static void sheets(void)
 {
     const uint8_t sheet[20] = {0, 0, 0, 7, 0, 0, 0, 1, 0, 0, 0, 0, 0x04, 0, 0, 0, 0, 0, 0x04, 0xB0};
-    ALIKE(load_sheet, sheet, 20);
+    ALIKE(load_sheet, 61, sheet, 20);
     IS(cechnuol_store_tip(&store), 7);
-    ALIKE(load_sheet, sheet, 19);
+    IS(cechnuol_store_depth(&store), 61);
+    ALIKE(load_sheet, 63, sheet, 19);
+    ALIKE(load_sheet, 64, sheet, 20);
     give(cechnuol_put(37, 10), 0, 0);
     ALIKE(commit, other.words, 1);
     hold_alike(cechnuol_write_sheet(TO_READ, plain.bytes, 64, &plain.value),
@@ -175,6 +185,23 @@ static void oldest_slots(void)
     IS(cechnuol_oldest_slot(head), 3);
 }
 
+/* Heads with checkpoint, tip and depth as given, and the highest state to flush to. */
+static void highest_flushes(void)
+{
+    static const uint32_t numbers[][4] = {
+        {0, 0, 0, 0}, {0, 0, 63, 0}, {0, 1, 0, 1}, {0, 1, 1, 0}, {0, 1, 2, 0}, {0, 64, 63, 1}, {3, 5, 0, 5},
+        {3, 5, 1, 4}, {3, 5, 2, 3}, {3, 5, 3, 3}, {3, 5, 5, 3}, {3, 5, 6, 3}, {3, 67, 63, 4},
+        {4294967290, 4294967295, 1, 4294967294}, {4294967290, 4294967295, 63, 4294967290},
+        {4294967295, 4294967295, 63, 4294967295},
+    };
+    uint64_t head[CECHNUOL_HEAD_WORDS] = {0};
+    size_t i;
+    for (i = 0; i < sizeof numbers / sizeof *numbers; i++) {
+        head[2] = numbers[i][0], head[3] = numbers[i][1], head[84] = numbers[i][2];
+        hold(cechnuol_highest_flush(head), numbers[i][3], "highest flush");
+    }
+}
+
 int main(void)
 {
     steps();
@@ -182,8 +209,9 @@ int main(void)
     images();
     sheets();
     oldest_slots();
+    highest_flushes();
     room();
-    IS(sizeof store.head / sizeof *store.head, 84);
+    IS(sizeof store.head / sizeof *store.head, 85);
     IS(sizeof store.tally / sizeof *store.tally, 3);
     return differences != 0;
 }

@@ -14,7 +14,7 @@ static void hold_entry(uint32_t offer, uint32_t price)
 {
     const uint64_t put = cechnuol_put(offer, price), removal = cechnuol_remove(offer);
     uint64_t asked = cechnuol_ask(offer), quoted = 7, since = 7;
-    ANSWERS(cechnuol_store_clear(&store), OK);
+    ANSWERS(cechnuol_store_clear(&store, 0), OK);
     ANSWERS(cechnuol_store_look_up(&store, CECHNUOL_DESK, offer, 0, &quoted, &since), NO_PRICE);
     IS(quoted, 7);
     IS(since, CECHNUOL_BY_TABLE);
@@ -43,7 +43,7 @@ static void hold_list(void)
     size_t i;
     for (i = 0; i < CORNERS; i++)
         words[i] = cechnuol_put(corners[i], prices[i]);
-    ANSWERS(cechnuol_store_clear(&store), OK);
+    ANSWERS(cechnuol_store_clear(&store, CECHNUOL_MOST_DEPTH), OK);
     ANSWERS(cechnuol_store_commit(&store, words, CORNERS), OK);
     for (i = 0; i < CORNERS; i++) {
         ANSWERS(cechnuol_store_look_up(&store, CECHNUOL_DESK, corners[i], 1, &quoted, &since), OK);

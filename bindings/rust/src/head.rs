@@ -1,10 +1,12 @@
 //! The head and the tally of a store, read by names.
 
-use crate::raw::{CHECKPOINT, COMMITTED, ENDS, FLUSHED, ISSUED, OLDEST, ROLLED_BACK, TAKEN, TIP, USED};
+use crate::raw::{
+    CHECKPOINT, COMMITTED, DEPTH, ENDS, FLUSHED, ISSUED, OLDEST, ROLLED_BACK, TAKEN, TIP, USED,
+};
 use crate::{HEAD_WORDS, SLOTS, STEPS, TALLY_WORDS};
 use std::fmt;
 
-/// The head of a store: which states it has, which slots are open, and where the held steps lie.
+/// The head of a store: which states it has, which slots are open, where the held steps lie, and how deep it is.
 ///
 /// Every accepted call leaves a head that says what is here; any other words are those of a head too, and the library
 /// refuses a store that has them ([`Refusal::Unsound`](crate::Refusal::Unsound)). Of such words, a number that does not
@@ -49,6 +51,34 @@ impl Head {
         self.0[TIP] as u32
     }
 
+    /// The depth: how many steps back from the tip a flush must leave possible, 0 to 63.
+    pub const fn depth(&self) -> u32 {
+        self.0[DEPTH] as u32
+    }
+
+    /// The highest state to which the depth lets a flush go: the tip less the depth or, where that is not above it, the
+    /// checkpoint, and then a flush frees nothing. A flush to it is never [`Refusal::TooDeep`](crate::Refusal::TooDeep); the
+    /// table may still have no room for it ([`Refusal::TableFull`](crate::Refusal::TableFull)).
+    ///
+    /// ```
+    /// use cechnuol::{Refusal, Store};
+    ///
+    /// let mut store = Store::new(4, 16)?;
+    /// store.clear(2)?;
+    /// (0..5).try_for_each(|_| store.commit(&[]))?;
+    /// assert_eq!(store.flush(4), Err(Refusal::TooDeep));
+    /// assert_eq!(store.head().highest_flush(), 3);
+    /// store.flush(3)?;
+    ///
+    /// // A rollback leaves one step above the checkpoint, which is fewer than the depth.
+    /// store.roll_back(4)?;
+    /// assert_eq!(store.head().highest_flush(), 3);
+    /// # Ok::<(), Refusal>(())
+    /// ```
+    pub fn highest_flush(&self) -> u32 {
+        self.tip().saturating_sub(self.depth()).max(self.checkpoint())
+    }
+
     /// Whether a slot is open. There is none above 7.
     pub fn is_open(&self, slot: usize) -> bool {
         self.word_of(TAKEN, slot).is_some_and(|taken| taken != 0)
@@ -60,7 +90,7 @@ impl Head {
     }
 
     /// The open slot that was issued at the lowest state, the first of them where there are several: the one that keeps the
-    /// oldest steps held. To forward or release it makes room where a flush to the tip did not, if [`Head::oldest`] is below
+    /// oldest steps held. To forward or release it makes room where a flush did not, if [`Head::oldest`] is below
     /// [`Head::checkpoint`]; else no slot keeps anything.
     pub fn oldest_slot(&self) -> Option<usize> {
         (0..SLOTS).filter(|&slot| self.is_open(slot)).min_by_key(|&slot| self.issued(slot))
@@ -75,7 +105,7 @@ impl Head {
     /// Where each held step ends in the journal, the oldest first: how many words there are through its end. The last is
     /// how many words of the journal are in use.
     pub fn ends(&self) -> &[u64] {
-        let ends = &self.0[ENDS..];
+        let ends = &self.0[ENDS..DEPTH];
         &ends[..self.held_steps().min(STEPS)]
     }
 
@@ -94,7 +124,7 @@ impl Head {
     }
 }
 
-/// The head that a clear leaves: the empty map as state 0.
+/// The head that a clear with depth 0 leaves: the empty map as state 0.
 impl Default for Head {
     fn default() -> Head {
         Head([0; HEAD_WORDS])
@@ -111,7 +141,8 @@ impl fmt::Debug for Head {
             .field("tip", &self.0[TIP])
             .field("taken", &&self.0[TAKEN..ISSUED])
             .field("issued", &&self.0[ISSUED..ENDS])
-            .field("ends", &&self.0[ENDS..])
+            .field("ends", &&self.0[ENDS..DEPTH])
+            .field("depth", &self.0[DEPTH])
             .finish()
     }
 }

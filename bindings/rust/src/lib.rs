@@ -55,7 +55,13 @@
 //! newest. A *step* leads from a state to the next; it is the list that was committed. A *slot* is the place of a read
 //! that has started and not ended: [`Store::issue`] opens it, and [`Store::forward`] or [`Store::release`] closes it. The
 //! *oldest* state is the least of the checkpoint and the states at which the open slots were issued, and the steps above
-//! it are held in the journal. [`Head`] has all of these.
+//! it are held in the journal. The *depth* is how many steps back from the tip a flush must leave possible: other than to
+//! the checkpoint, which changes nothing, [`Store::flush`] goes no higher than the tip less the depth. [`Head`] has all of
+//! these.
+//!
+//! A new store has depth 0, which bars nothing. [`Store::clear`] and the loads are told the depth, [`Store::restart`] keeps
+//! it, and no image or sheet has it. It bars no rollback, and so fewer steps than the depth may be there after one, as after
+//! a clear or a load; then there is nothing to flush until more steps than the depth lie above the checkpoint.
 //!
 //! A lookup ([`Store::look_up`]) gives a [`Quote`]: the price of an offer at a state, or none, and the state to which the
 //! last step leads that names the offer, or that the table answered ([`Since`]).
@@ -85,6 +91,7 @@
 //! | slots | 8, from 0 to 7 | [`SLOTS`] |
 //! | the desk's slots, and the foyer's | 0 to 5, and 6 and 7 | [`FOYER_SLOT`] |
 //! | held steps | 64 | [`STEPS`] |
+//! | a depth | 0 to 63 steps | [`MOST_DEPTH`] |
 //! | an image | 6 bytes and 8 for each offer | [`image_bytes_of`], [`Store::image_bytes`] |
 //! | the longest image, of a state with a full table and 4,096 new offers above it | 96,774 bytes | [`IMAGE_BYTES`] |
 //! | the longest that can be loaded | 64,006 bytes, in a table of 8,000 words | |
@@ -110,10 +117,10 @@
 //! hundred, as does an image of the state that they lead to, and a forward of 64 entries over as many steps some tens. A
 //! sheet takes longer to write and to load than the image of the same state, and the longer the more rows it has.
 //!
-//! [`Refusal::Unsound`] is answered where the form of a store is broken: the order of offers, the zeros, or numbers that do
-//! not fit each other. A price, an offer, the end of a step or the checkpoint that was changed within that form is taken as
-//! it is. A call that was cut off, by a kill or a loss of power, may leave such a store: go on from an image, and keep a
-//! checksum of your own where memory may fail. An image has none either, nor has a sheet.
+//! [`Refusal::Unsound`] is answered where the form of a store is broken: the order of offers, the zeros, numbers that do not
+//! fit each other, or a depth above 63. A price, an offer, the end of a step, the checkpoint or the depth that was changed
+//! within that form is taken as it is. A call that was cut off, by a kill or a loss of power, may leave such a store: go on
+//! from an image, and keep a checksum of your own where memory may fail. An image has none either, nor has a sheet.
 //!
 //! # Linking
 //!
@@ -160,6 +167,8 @@ pub const SLOTS: usize = 8;
 pub const FOYER_SLOT: usize = 6;
 /// The most steps that are held.
 pub const STEPS: usize = 64;
+/// The largest depth of a store.
+pub const MOST_DEPTH: u32 = 63;
 /// The bytes of the longest image: of a state that has as many offers as the longest table and the longest journal have words.
 /// No table holds more offers than [`TABLE_WORDS`], so that the longest image that can be loaded is shorter.
 pub const IMAGE_BYTES: usize = image_bytes_of(TABLE_WORDS + JOURNAL_WORDS);
@@ -167,12 +176,12 @@ pub const IMAGE_BYTES: usize = image_bytes_of(TABLE_WORDS + JOURNAL_WORDS);
 /// is shorter.
 pub const SHEET_BYTES: usize = sheet_bytes_of(TABLE_WORDS + JOURNAL_WORDS);
 /// The words of a head.
-pub const HEAD_WORDS: usize = 84;
+pub const HEAD_WORDS: usize = 85;
 /// The words of a tally.
 pub const TALLY_WORDS: usize = 3;
 
 /// The version of this crate as a number: major * 1,000,000 + minor * 1,000 + patch.
-pub const VERSION: u64 = 5_001_000;
+pub const VERSION: u64 = 6_000_000;
 
 /// The version of the library that is linked, as a number. It differs from [`VERSION`] where crate and library are not of
 /// one release.

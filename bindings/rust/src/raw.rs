@@ -51,6 +51,8 @@ pub const TAKEN: usize = 4;
 pub const ISSUED: usize = 12;
 /// The first of the head's 64 words with the end of each held step in the journal; those not in use are 0.
 pub const ENDS: usize = 20;
+/// The place in the head of the depth: how many steps back from the tip a flush must leave possible.
+pub const DEPTH: usize = 84;
 
 /// The place in the tally of the steps committed.
 pub const COMMITTED: usize = 0;
@@ -108,9 +110,9 @@ macro_rules! declare_queries {
 }
 
 declare_calls! {
-    cechnuol_clear();
-    cechnuol_load(bytes: *const u8, byte_count: usize);
-    cechnuol_load_sheet(bytes: *const u8, byte_count: usize);
+    cechnuol_clear(depth: u32);
+    cechnuol_load(depth: u32, bytes: *const u8, byte_count: usize);
+    cechnuol_load_sheet(depth: u32, bytes: *const u8, byte_count: usize);
     cechnuol_restart(bytes: *mut u8, byte_count: usize);
     cechnuol_commit(words: *const u64, word_count: usize);
     cechnuol_roll_back(state: u32);
@@ -169,25 +171,25 @@ macro_rules! query {
 
 /// The calls, each as [`Store`](crate::Store) has it by the same name. Who calls is a number, [`DESK`] or [`FOYER`].
 impl StoreMut<'_> {
-    /// Makes the store the empty map, as state 0.
+    /// Makes the store the empty map, as state 0, with a depth.
     #[inline]
-    pub fn clear(self) -> u64 {
-        call!(self, cechnuol_clear)
+    pub fn clear(self, depth: u32) -> u64 {
+        call!(self, cechnuol_clear, depth)
     }
 
-    /// Makes the store the map of an image.
+    /// Makes the store the map of an image, with a depth.
     #[inline]
-    pub fn load(self, image: &[u8]) -> u64 {
-        call!(self, cechnuol_load, image.as_ptr(), image.len())
+    pub fn load(self, depth: u32, image: &[u8]) -> u64 {
+        call!(self, cechnuol_load, depth, image.as_ptr(), image.len())
     }
 
-    /// Makes the store the map of a sheet.
+    /// Makes the store the map of a sheet, with a depth.
     #[inline]
-    pub fn load_sheet(self, sheet: &[u8]) -> u64 {
-        call!(self, cechnuol_load_sheet, sheet.as_ptr(), sheet.len())
+    pub fn load_sheet(self, depth: u32, sheet: &[u8]) -> u64 {
+        call!(self, cechnuol_load_sheet, depth, sheet.as_ptr(), sheet.len())
     }
 
-    /// Writes the image of the checkpoint into the bytes and loads it from there.
+    /// Writes the image of the checkpoint into the bytes and loads it from there, with the depth that the store has.
     #[inline]
     pub fn restart(self, bytes: &mut [u8]) -> u64 {
         call!(self, cechnuol_restart, bytes.as_mut_ptr(), bytes.len())

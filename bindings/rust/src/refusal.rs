@@ -85,20 +85,23 @@ refusals! {
         "Write the image of the tip, put a lower state number into its first four bytes, and load it. States below the tip, \
          open reads and the tally are gone then.";
     StepsFull = 13 "STEPS_FULL" "64 steps are held",
-        "That is, tip - oldest is 64. Flush; if it is still full and the oldest state is below the checkpoint, a slot that \
-         was opened there holds the steps: forward or release it ([`Head::oldest_slot`](crate::Head::oldest_slot)). To \
-         flush again and again does not help while that slot is open. [`Store::commit`](crate::Store::commit) has an \
-         example.";
+        "That is, tip - oldest is 64. Flush, as high as the depth lets it \
+         ([`Head::highest_flush`](crate::Head::highest_flush)); if it is still full and the oldest state is below the \
+         checkpoint, a slot that was opened there holds the steps: forward or release it \
+         ([`Head::oldest_slot`](crate::Head::oldest_slot)). To flush again and again does not help while that slot is open. \
+         A depth alone never keeps the steps full. [`Store::commit`](crate::Store::commit) has an example.";
     JournalFull = 14 "JOURNAL_FULL" "the list has more words than the journal has unused",
         "A list that is longer than the journal never fits: test that first, and commit it in parts. Flush; if it is still \
-         full, forward or release the slot that was opened at the oldest state, as for [`Refusal::StepsFull`].";
+         full, forward or release the slot that was opened at the oldest state, as for [`Refusal::StepsFull`]. The steps \
+         that the depth keeps may fill the journal, and then neither helps: \
+         [`Store::commit`](crate::Store::commit) says what does.";
     BadImage = 15 "BAD_IMAGE" "the length, the order or a bit of the image or sheet is wrong",
         "An image or a sheet may be loaded by its own call alone: [`Store::load`](crate::Store::load), or \
          [`Store::load_sheet`](crate::Store::load_sheet).";
     TableFull = 16 "TABLE_FULL" "the state has more prices than the table has words",
-        "At a flush: flush to another state whose map fits, or commit removals first and flush to the state after them; \
-         or write the image of the state, which needs no room in the table, and load it into a longer one. At a load: load \
-         into a longer table.";
+        "At a flush: flush to another state whose map fits, or commit removals first and flush to the state after them, with \
+         a depth once so many steps lie above it; or write the image of the state, which needs no room in the table, and \
+         load it into a longer one. At a load: load into a longer table.";
     OutputShort = 17 "OUTPUT_SHORT" "the output is shorter than what is to be written",
         "[`Store::image_bytes`](crate::Store::image_bytes) are enough for any image of a store and for its restart, \
          [`IMAGE_BYTES`](crate::IMAGE_BYTES) for those of every store, [`Store::sheet_bytes`](crate::Store::sheet_bytes) and \
@@ -107,6 +110,10 @@ refusals! {
         "A list that the foyer issues, or a read set that it forwards. Ask for the offers in several reads, one after another.";
     OthersSlot = 19 "OTHERS_SLOT" "the slot is not the caller's",
         "The desk has slots 0 to 5, the foyer 6 and 7 ([`Caller::slots`](crate::Caller::slots)).";
+    TooDeep = 20 "TOO_DEEP" "the depth is above 63, or the flush goes higher than tip - depth",
+        "At a clear or a load: a depth is at most [`MOST_DEPTH`](crate::MOST_DEPTH). At a flush: fewer steps than the depth \
+         lie above the state. Flush to [`Head::highest_flush`](crate::Head::highest_flush), if that is above the checkpoint, \
+         or commit further steps first. A flush to the checkpoint is never refused so.";
 }
 
 impl Refusal {

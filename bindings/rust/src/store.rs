@@ -26,7 +26,8 @@ pub struct Store<T = Vec<u64>, J = T> {
 
 impl Store {
     /// An empty store, as state 0, in memory of its own: so many words of table, 1 to 8,000, one for each offer that a map
-    /// may have at a flush, and so many of journal, 1 to 4,096, one for each entry of the steps that may be held.
+    /// may have at a flush, and so many of journal, 1 to 4,096, one for each entry of the steps that may be held. Its depth is
+    /// 0; [`Store::clear`] and the loads set another.
     ///
     /// Refused: [`Refusal::Lengths`], before anything is allocated that is longer.
     ///
@@ -48,7 +49,7 @@ impl Store {
 
 impl<'a> Store<&'a mut [u64]> {
     /// An empty store, as state 0, in memory that is lent for as long as the store is used. What the memory holds before does
-    /// not matter, and is gone.
+    /// not matter, and is gone. Its depth is 0; [`Store::clear`] and the loads set another.
     ///
     /// Refused: [`Refusal::Lengths`]; the memory is then as it came.
     ///
@@ -69,7 +70,8 @@ impl<'a> Store<&'a mut [u64]> {
 
 impl<T, J> Store<T, J> {
     /// The store of these parts as they are: one that was kept elsewhere and is taken up again, or one in a `static`, where
-    /// all zeros are an empty store. Nothing is tested or written here; the calls test its form ([`Refusal::Unsound`]).
+    /// all zeros are an empty store of depth 0. Nothing is tested or written here; the calls test its form
+    /// ([`Refusal::Unsound`]).
     ///
     /// ```
     /// use cechnuol::{Caller, Entry, Refusal, Store};
@@ -235,9 +237,9 @@ impl<T: AsRef<[u64]>, J: AsRef<[u64]>> Store<T, J> {
     /// let length = store.write_image(&mut bytes)?;
     ///
     /// // The table of one word has no room for two offers, and a longer one has.
-    /// assert_eq!(store.load(&bytes[..length]), Err(Refusal::TableFull));
+    /// assert_eq!(store.load(0, &bytes[..length]), Err(Refusal::TableFull));
     /// let mut longer = Store::new(2, 16)?;
-    /// longer.load(&bytes[..length])?;
+    /// longer.load(0, &bytes[..length])?;
     /// assert_eq!(longer.head().tip(), 1);
     /// assert_eq!(longer.look_up(Caller::Desk, 9, 1)?.price, Some(700));
     /// # Ok::<(), Refusal>(())
@@ -269,7 +271,7 @@ impl<T: AsRef<[u64]>, J: AsRef<[u64]>> Store<T, J> {
     /// let mut bytes = vec![0; store.image_bytes()];
     /// let length = store.write_state_image(1, &mut bytes)?;
     /// let mut then = Store::new(4, 16)?;
-    /// then.load(&bytes[..length])?;
+    /// then.load(0, &bytes[..length])?;
     /// assert_eq!(then.look_up(Caller::Desk, 5, 1)?.price, Some(1200));
     ///
     /// assert_eq!(store.write_state_image(3, &mut bytes), Err(Refusal::StateRange));
@@ -332,7 +334,7 @@ impl<T: AsRef<[u64]>, J: AsRef<[u64]>> Store<T, J> {
     /// let mut bytes = vec![0; store.sheet_bytes()];
     /// let length = store.write_state_sheet(1, &mut bytes)?;
     /// let mut then = Store::new(4, 16)?;
-    /// then.load_sheet(&bytes[..length])?;
+    /// then.load_sheet(0, &bytes[..length])?;
     /// assert_eq!(then.look_up(Caller::Desk, 5, 1)?.price, Some(1200));
     ///
     /// assert_eq!(store.write_state_sheet(3, &mut bytes), Err(Refusal::StateRange));
@@ -351,7 +353,7 @@ impl<T: AsRef<[u64]>, J: AsRef<[u64]>> Store<T, J> {
 impl<T: AsMut<[u64]>, J: AsMut<[u64]>> Store<T, J> {
     fn cleared(table: T, journal: J) -> Result<Store<T, J>, Refusal> {
         let mut store = Store::from_parts(table, journal, Head::default(), Tally::default());
-        store.clear().map(|()| store)
+        store.clear(0).map(|()| store)
     }
 
     /// The store as a call of the plain functions is lent it.
@@ -366,36 +368,55 @@ impl<T: AsMut<[u64]>, J: AsMut<[u64]>> Store<T, J> {
     }
 
     /// Makes the store the empty map, as state 0, with all slots closed and the tally at zero. What it held before is not
-    /// tested, and is gone.
+    /// tested, and is gone. From then on the store has the depth given, 0 to 63: so many steps back from the tip a flush must
+    /// leave possible.
     ///
-    /// Refused: [`Refusal::Lengths`].
+    /// Refused: [`Refusal::Lengths`], [`Refusal::TooDeep`] (a depth above 63).
+    ///
+    /// ```
+    /// use cechnuol::{Entry, Refusal, Store};
+    ///
+    /// let mut store = Store::new(4, 16)?;
+    /// // The newest list can always be taken back.
+    /// store.clear(1)?;
+    /// store.commit(&[Entry::put(5, 1200)])?;
+    /// assert_eq!(store.flush(1), Err(Refusal::TooDeep));
+    /// store.commit(&[Entry::put(5, 12)])?;
+    /// store.flush(1)?;
+    /// store.roll_back(1)?;
+    /// assert_eq!(store.clear(64), Err(Refusal::TooDeep));
+    /// # Ok::<(), Refusal>(())
+    /// ```
     #[inline]
-    pub fn clear(&mut self) -> Result<(), Refusal> {
-        Refusal::check(self.as_raw_mut().clear())
+    pub fn clear(&mut self, depth: u32) -> Result<(), Refusal> {
+        Refusal::check(self.as_raw_mut().clear(depth))
     }
 
     /// Makes the store the map of an image, under its state number, which becomes oldest, checkpoint and tip; all slots
-    /// close and the tally is set to zero. What the store held before is not tested, and is gone.
+    /// close and the tally is set to zero. What the store held before is not tested, and is gone. From then on it has the depth
+    /// given, as after [`Store::clear`]: an image has none.
     ///
     /// An image is the state number in 4 bytes, the number of offers in 2 and then the entries, 8 bytes each, offers rising,
     /// all with the most significant byte first. The bytes are the image and no more.
     ///
-    /// Refused: [`Refusal::Lengths`], [`Refusal::BadImage`], [`Refusal::TableFull`] (load it into a longer table).
+    /// Refused: [`Refusal::Lengths`], [`Refusal::TooDeep`] (a depth above 63), [`Refusal::BadImage`], [`Refusal::TableFull`]
+    /// (load it into a longer table).
     ///
     /// ```
     /// use cechnuol::{Caller, Refusal, Store};
     ///
     /// let mut store = Store::new(4, 16)?;
-    /// store.load(&[0, 0, 0, 7, 0, 1, 0x80, 0, 0, 5, 0, 0, 0x04, 0xB0])?;
+    /// store.load(0, &[0, 0, 0, 7, 0, 1, 0x80, 0, 0, 5, 0, 0, 0x04, 0xB0])?;
     /// assert_eq!(store.look_up(Caller::Desk, 5, 7)?.price, Some(1200));
     /// # Ok::<(), Refusal>(())
     /// ```
     #[inline]
-    pub fn load(&mut self, image: &[u8]) -> Result<(), Refusal> {
-        Refusal::check(self.as_raw_mut().load(image))
+    pub fn load(&mut self, depth: u32, image: &[u8]) -> Result<(), Refusal> {
+        Refusal::check(self.as_raw_mut().load(depth, image))
     }
 
-    /// Makes the store the map of a sheet, as [`Store::load`] does of an image. The sheet and the image of a state load alike.
+    /// Makes the store the map of a sheet, with a depth, as [`Store::load`] does of an image. The sheet and the image of a state
+    /// load alike.
     ///
     /// A sheet has the prices by row, 32 seats to a row, where an offer is 32 times its row and its seat. It is numbers of 4
     /// bytes, most significant byte first: the state number and the number of rows, and then for each row, rising, 64 times the
@@ -403,26 +424,26 @@ impl<T: AsMut<[u64]>, J: AsMut<[u64]>> Store<T, J> {
     /// price for each set bit, in seat order. A map without offers has no rows. The bytes are the sheet and no more, and each
     /// map with its number has one sheet.
     ///
-    /// Refused: [`Refusal::Lengths`], [`Refusal::BadImage`], [`Refusal::TableFull`] (load it into a longer table, of a word for
-    /// each offer).
+    /// Refused: [`Refusal::Lengths`], [`Refusal::TooDeep`] (a depth above 63), [`Refusal::BadImage`], [`Refusal::TableFull`]
+    /// (load it into a longer table, of a word for each offer).
     ///
     /// ```
     /// use cechnuol::{Caller, Refusal, Store};
     ///
     /// let mut store = Store::new(4, 16)?;
     /// // State 7 has one row, row 0, with seat 5.
-    /// store.load_sheet(&[0, 0, 0, 7, 0, 0, 0, 1, 0, 0, 0, 0, 0x04, 0, 0, 0, 0, 0, 0x04, 0xB0])?;
+    /// store.load_sheet(0, &[0, 0, 0, 7, 0, 0, 0, 1, 0, 0, 0, 0, 0x04, 0, 0, 0, 0, 0, 0x04, 0xB0])?;
     /// assert_eq!(store.look_up(Caller::Desk, 5, 7)?.price, Some(1200));
     /// # Ok::<(), Refusal>(())
     /// ```
     #[inline]
-    pub fn load_sheet(&mut self, sheet: &[u8]) -> Result<(), Refusal> {
-        Refusal::check(self.as_raw_mut().load_sheet(sheet))
+    pub fn load_sheet(&mut self, depth: u32, sheet: &[u8]) -> Result<(), Refusal> {
+        Refusal::check(self.as_raw_mut().load_sheet(depth, sheet))
     }
 
     /// Writes the image of the checkpoint to the start of the bytes and loads it from there. The tip falls back to the
-    /// checkpoint: the steps above it are lost, all slots close, and the tally is set to zero. To keep the newest state,
-    /// flush to the tip before.
+    /// checkpoint: the steps above it are lost, all slots close, and the tally is set to zero. The depth stays. To keep the
+    /// newest state, write the image of the tip and load that instead; or, where the depth is 0, flush to the tip before.
     ///
     /// Refused: [`Refusal::Lengths`], [`Refusal::Unsound`], [`Refusal::OutputShort`]. The last goes by the image of the
     /// checkpoint, however long that of the tip is: [`image_bytes_of`] the words of the table in use.
@@ -449,18 +470,26 @@ impl<T: AsMut<[u64]>, J: AsMut<[u64]>> Store<T, J> {
     /// [`Refusal::StepsFull`], [`Refusal::JournalFull`].
     ///
     /// The last two say that there is no room, of 64 steps or of the journal's words. A list longer than the journal never
-    /// fits. A flush to the tip makes room, but not while a slot is open that was issued at an old state, since its steps are
-    /// held for it; so to flush and try again is not enough. If there is still no room, or no flush is possible, and the
-    /// oldest state is below the checkpoint, forward or release the slot that was issued there. Where it is the checkpoint,
-    /// no slot holds a step back and to close one frees nothing; then see [`Store::flush`] on [`Refusal::TableFull`].
+    /// fits. A flush makes room, to the highest state that the depth allows ([`Head::highest_flush`]), but not while a slot is
+    /// open that was issued at an old state, since its steps are held for it; so to flush and try again is not enough. If there
+    /// is still no room, or no state above the checkpoint can be flushed to, and the oldest state is below the checkpoint,
+    /// forward or release the slot that was issued there. Where it is the checkpoint, no slot holds a step back and to close
+    /// one frees nothing; if the flush is refused by [`Refusal::TableFull`], see [`Store::flush`].
+    ///
+    /// Where the oldest state is the highest that can be flushed to, the steps that the depth keeps fill the journal, and
+    /// neither helps. Then give up states to step back to: roll back, or restart, which falls back to the checkpoint, or write
+    /// the image of the tip and load it with the depth wanted, which drops the states below the tip. Or commit empty lists,
+    /// which take no words, until more steps than the depth lie above the checkpoint, and flush: empty steps count too. It does
+    /// not come to this with a journal of 64 * (depth + 1) words, and the 64 steps are never kept full by a depth alone.
     ///
     /// ```
     /// use cechnuol::{Caller, Entry, Refusal, Store};
     ///
     /// /// Makes room in a store that is full, by a flush or by the release of a slot that keeps it full.
     /// fn make_room(store: &mut Store, full: Refusal) -> Result<(), Refusal> {
-    ///     let (oldest, checkpoint, tip) = (store.head().oldest(), store.head().checkpoint(), store.head().tip());
-    ///     let flushed = if checkpoint < tip { store.flush(tip) } else { Err(full) };
+    ///     let (oldest, checkpoint) = (store.head().oldest(), store.head().checkpoint());
+    ///     let highest = store.head().highest_flush();
+    ///     let flushed = if checkpoint < highest { store.flush(highest) } else { Err(full) };
     ///     match store.head().oldest_slot() {
     ///         // whoever reads in this slot has to issue it again
     ///         Some(slot) if flushed.is_err() && oldest < checkpoint => store.release(Caller::of_slot(slot), slot),
@@ -497,6 +526,15 @@ impl<T: AsMut<[u64]>, J: AsMut<[u64]>> Store<T, J> {
     /// }
     /// assert_eq!(commit(&mut store, &[Entry::remove(9)]), Err(Refusal::TableFull));
     /// assert!(store.head().is_open(3));
+    ///
+    /// // Ten steps back stay possible, however many come: 64 * (10 + 1) entries have room for them and the next list.
+    /// let mut store = Store::new(100, 704)?;
+    /// store.clear(10)?;
+    /// for price in 0..1000 {
+    ///     commit(&mut store, &[Entry::put(5, price)])?;
+    /// }
+    /// store.roll_back(990)?;
+    /// assert_eq!(store.look_up(Caller::Desk, 5, 990)?.price, Some(989));
     /// # Ok::<(), Refusal>(())
     /// ```
     #[inline]
@@ -505,7 +543,7 @@ impl<T: AsMut<[u64]>, J: AsMut<[u64]>> Store<T, J> {
     }
 
     /// Makes a state from the checkpoint to the tip the tip. The steps above it are gone, and later commits use their
-    /// numbers again.
+    /// numbers again. The depth does not bar it: fewer steps than the depth may be left above the checkpoint.
     ///
     /// Refused: [`Refusal::Lengths`], [`Refusal::Unsound`], [`Refusal::StateRange`].
     ///
@@ -526,17 +564,22 @@ impl<T: AsMut<[u64]>, J: AsMut<[u64]>> Store<T, J> {
 
     /// Makes a state from the checkpoint to the tip the checkpoint: the table becomes the map at that state. Steps that no
     /// open slot needs go, and make room for commits; states below it can no longer be looked up or rolled back to, and no
-    /// quote is since a state up to it any more ([`Since`]).
+    /// quote is since a state up to it any more ([`Since`]). A flush to the checkpoint changes nothing, and no depth bars it.
     ///
     /// Needs up to 160 KiB of stack.
     ///
-    /// Refused: [`Refusal::Lengths`], [`Refusal::Unsound`], [`Refusal::StateRange`], [`Refusal::TableFull`]. At the last
-    /// the map at the state has more offers than the table has words. Flush to another state whose map fits, or commit
-    /// removals first and flush to the state after them (only the map at the state named has to fit; where there is no room
-    /// for a commit, roll back before); or write the image of the tip ([`Store::write_image`]), or of the checkpoint to keep
-    /// the states above it ([`Store::write_state_image`]), and load it into another store with a longer table. Lists that it
-    /// does not hold are committed there again: [`Store::journal`] and [`Head::ends`](crate::Head::ends) of this one have
-    /// them. Open reads and the tally stay behind.
+    /// Refused: [`Refusal::Lengths`], [`Refusal::Unsound`], [`Refusal::StateRange`], [`Refusal::TooDeep`],
+    /// [`Refusal::TableFull`].
+    ///
+    /// At [`Refusal::TooDeep`] the state is not the checkpoint, and fewer steps than the depth lie above it. Flush to a lower
+    /// one, [`Head::highest_flush`] if that is above the checkpoint, or commit further steps first.
+    ///
+    /// At [`Refusal::TableFull`] the map at the state has more offers than the table has words. Flush to another state whose
+    /// map fits, or commit removals first and flush to the state after them, with a depth once so many steps lie above it
+    /// (only the map at the state named has to fit; where there is no room for a commit, roll back before); or write the image
+    /// of the tip ([`Store::write_image`]), or of the checkpoint to keep the states above it ([`Store::write_state_image`]),
+    /// and load it into another store with a longer table. Lists that it does not hold are committed there again:
+    /// [`Store::journal`] and [`Head::ends`] of this one have them. Open reads and the tally stay behind.
     ///
     /// ```
     /// use cechnuol::{Entry, Refusal, Store};

@@ -2,7 +2,7 @@
 
 mod common;
 
-use cechnuol::raw::{self, ENDS, TAKEN, TIP};
+use cechnuol::raw::{self, DEPTH, ENDS, TAKEN, TIP};
 use cechnuol::Caller::{Desk, Foyer};
 use cechnuol::Refusal::{self, *};
 use cechnuol::{image_bytes_of, price_batch, sheet_bytes_of, Entry, Head, Order, Store, Tally};
@@ -20,7 +20,7 @@ fn every_call_tests_the_lengths() {
 
 #[test]
 fn every_call_but_clear_and_the_loads_tests_the_store() {
-    let damages = [(TIP, 1 << 32), (TAKEN, 2), (ENDS, 100), (0, 9)];
+    let damages = [(TIP, 1 << 32), (TAKEN, 2), (ENDS, 100), (0, 9), (DEPTH, 64), (DEPTH, 1 << 32)];
     for damage in damages {
         let damaged = with_head(&store(), &[damage]);
         for (name, call) in CALLS {
@@ -42,38 +42,54 @@ fn every_call_is_accepted() {
 #[test]
 fn clear() {
     let mut store = store();
-    assert_eq!(store.clear(), Ok(()));
+    assert_eq!(store.clear(0), Ok(()));
     assert_eq!(store, of_lengths(8, 16));
+    assert_eq!(store.clear(63), Ok(()));
+    assert_eq!(store, with_head(&of_lengths(8, 16), &[(DEPTH, 63)]));
+    refused(&store, TooDeep, |store| store.clear(64));
+    refused(&of_lengths(0, 16), Lengths, |store| store.clear(64));
 }
 
 #[test]
 fn load() {
     let mut store = store();
-    assert_eq!(store.load(&IMAGE), Ok(()));
+    assert_eq!(store.load(0, &IMAGE), Ok(()));
     assert_eq!(store.entries(), [Entry::put(5, 1200), Entry::put(9, 700)]);
     let head = store.head();
     assert_eq!((head.oldest(), head.checkpoint(), head.tip(), head.used()), (1, 1, 1, 2));
     assert_eq!((head.is_open(3), store.tally()), (false, &Tally::default()));
-    refused(&store, BadImage, |store| store.load(&[]));
-    refused(&store, BadImage, |store| store.load(&IMAGE[..21]));
-    refused(&store, BadImage, |store| store.load(&[&IMAGE[..], &[0]].concat()));
-    refused(&of_lengths(1, 1), TableFull, |store| store.load(&IMAGE));
+    refused(&store, BadImage, |store| store.load(0, &[]));
+    refused(&store, BadImage, |store| store.load(0, &IMAGE[..21]));
+    refused(&store, BadImage, |store| store.load(0, &[&IMAGE[..], &[0]].concat()));
+    refused(&of_lengths(1, 1), TableFull, |store| store.load(0, &IMAGE));
+    // the depth is tested before the bytes
+    refused(&store, TooDeep, |store| store.load(64, &[]));
+    refused(&store, BadImage, |store| store.load(63, &[]));
+    refused(&of_lengths(1, 1), TooDeep, |store| store.load(64, &IMAGE));
+    refused(&of_lengths(1, 0), Lengths, |store| store.load(64, &IMAGE));
+    assert_eq!((store.load(63, &IMAGE), store.head().depth()), (Ok(()), 63));
 }
 
 /// A sheet loads as the image of its state does: the same table, journal, head and tally.
 #[test]
 fn load_sheet() {
     let [mut by_image, mut by_sheet] = [store(), store()];
-    assert_eq!((by_image.load(&IMAGE), by_sheet.load_sheet(&SHEET)), (Ok(()), Ok(())));
-    assert_eq!(by_sheet, by_image);
-    assert_eq!(by_sheet.load_sheet(&[0, 0, 0, 9, 0, 0, 0, 0]), Ok(()));
+    for depth in [0, 63] {
+        assert_eq!((by_image.load(depth, &IMAGE), by_sheet.load_sheet(depth, &SHEET)), (Ok(()), Ok(())));
+        assert_eq!((&by_sheet, by_sheet.head().depth()), (&by_image, depth));
+    }
+    assert_eq!(by_sheet.load_sheet(0, &[0, 0, 0, 9, 0, 0, 0, 0]), Ok(()));
     assert_eq!((by_sheet.head().tip(), by_sheet.entries()), (9, &[][..]));
-    refused(&by_sheet, BadImage, |store| store.load_sheet(&[]));
-    refused(&by_sheet, BadImage, |store| store.load_sheet(&SHEET[..23]));
-    refused(&by_sheet, BadImage, |store| store.load_sheet(&[&SHEET[..], &[0]].concat()));
-    refused(&by_sheet, BadImage, |store| store.load_sheet(&IMAGE));
-    refused(&by_sheet, BadImage, |store| store.load(&SHEET));
-    refused(&of_lengths(1, 1), TableFull, |store| store.load_sheet(&SHEET));
+    refused(&by_sheet, BadImage, |store| store.load_sheet(0, &[]));
+    refused(&by_sheet, BadImage, |store| store.load_sheet(0, &SHEET[..23]));
+    refused(&by_sheet, BadImage, |store| store.load_sheet(0, &[&SHEET[..], &[0]].concat()));
+    refused(&by_sheet, BadImage, |store| store.load_sheet(0, &IMAGE));
+    refused(&by_sheet, BadImage, |store| store.load(0, &SHEET));
+    refused(&of_lengths(1, 1), TableFull, |store| store.load_sheet(0, &SHEET));
+    refused(&by_sheet, TooDeep, |store| store.load_sheet(64, &[]));
+    refused(&by_sheet, BadImage, |store| store.load_sheet(63, &[]));
+    refused(&of_lengths(1, 1), TooDeep, |store| store.load_sheet(64, &SHEET));
+    refused(&of_lengths(1, 0), Lengths, |store| store.load_sheet(64, &SHEET));
 }
 
 #[test]
@@ -139,15 +155,15 @@ fn a_state_that_the_table_has_no_room_for() {
     let mut bytes = [0xAA; 22];
     assert_eq!((store.write_image(&mut bytes), bytes), (Ok(22), IMAGE));
     assert_eq!(store.write_state_image(1, &mut bytes), Ok(22));
-    refused(&store, TableFull, |store| store.load(&bytes));
+    refused(&store, TableFull, |store| store.load(0, &bytes));
     let mut longer = of_lengths(2, 1);
-    assert_eq!(longer.load(&bytes), Ok(()));
+    assert_eq!(longer.load(0, &bytes), Ok(()));
     assert_eq!(longer.entries(), [Entry::put(5, 1200), Entry::put(9, 700)]);
     let mut bytes = [0xAA; 24];
     assert_eq!((store.write_sheet(&mut bytes), bytes), (Ok(24), SHEET));
-    refused(&store, TableFull, |store| store.load_sheet(&bytes));
+    refused(&store, TableFull, |store| store.load_sheet(0, &bytes));
     let mut by_sheet = of_lengths(2, 1);
-    assert_eq!((by_sheet.load_sheet(&bytes), by_sheet), (Ok(()), longer));
+    assert_eq!((by_sheet.load_sheet(0, &bytes), by_sheet), (Ok(()), longer));
 }
 
 /// Enough bytes for the image of every state, whether or not an open slot holds steps below the checkpoint.
@@ -187,8 +203,18 @@ fn restart() {
     assert_eq!(store.restart(&mut bytes), Ok(()));
     assert_eq!(bytes[..], [&IMAGE[..], &[0xAA]].concat());
     let mut loaded = of_lengths(8, 16);
-    assert_eq!(loaded.load(&IMAGE), Ok(()));
+    assert_eq!(loaded.load(0, &IMAGE), Ok(()));
     assert_eq!(store, loaded);
+}
+
+/// A restart keeps the depth.
+#[test]
+fn restart_of_a_deep_store() {
+    let mut store = with_head(&store(), &[(DEPTH, 2)]);
+    assert_eq!((store.restart(&mut [0; 22]), store.head().depth()), (Ok(()), 2));
+    (0..2).for_each(|_| assert_eq!(store.commit(&[]), Ok(())));
+    refused(&store, TooDeep, |store| store.flush(2));
+    assert_eq!((store.load(0, &IMAGE), store.commit(&[]), store.flush(2)), (Ok(()), Ok(()), Ok(())));
 }
 
 /// A restart goes by the image of the checkpoint, where that of the tip is longer and where it is shorter.
@@ -222,7 +248,7 @@ fn commit() {
     refused(&store, JournalFull, |store| store.commit(&rising[..13]));
     assert_eq!(store.commit(&rising[..12]), Ok(()));
     let mut last = of_lengths(1, 1);
-    assert_eq!(last.load(&[0xFF, 0xFF, 0xFF, 0xFF, 0, 0]), Ok(()));
+    assert_eq!(last.load(0, &[0xFF, 0xFF, 0xFF, 0xFF, 0, 0]), Ok(()));
     refused(&last, LastState, |store| store.commit(&[]));
 }
 
@@ -263,6 +289,39 @@ fn flush() {
     let mut small = of_lengths(1, 4);
     assert_eq!(small.commit(&[Entry::put(1, 1), Entry::put(2, 2)]), Ok(()));
     refused(&small, TableFull, |store| store.flush(1));
+}
+
+/// A depth of 2 on a table with room for one offer, which state 1 and those above it have too many of.
+#[test]
+fn flush_of_a_deep_store() {
+    let mut store = of_lengths(1, 4);
+    assert_eq!((store.clear(2), store.flush(0)), (Ok(()), Ok(())));
+    assert_eq!(store.commit(&[Entry::put(1, 1), Entry::put(2, 2)]), Ok(()));
+    assert_eq!((store.commit(&[]), store.head().highest_flush()), (Ok(()), 0));
+    refused(&store, TooDeep, |store| store.flush(1));
+    assert_eq!((store.commit(&[]), store.head().highest_flush()), (Ok(()), 1));
+    refused(&store, StateRange, |store| store.flush(4));
+    refused(&store, TooDeep, |store| store.flush(3));
+    refused(&store, TooDeep, |store| store.flush(2));
+    refused(&store, TableFull, |store| store.flush(1));
+    refused(&with_head(&store, &[(TAKEN, 2)]), Unsound, |store| store.flush(2));
+    let before = store.clone();
+    assert_eq!((store.flush(0), &store), (Ok(()), &before));
+    // no depth bars a rollback, and after it there is nothing to flush
+    assert_eq!((store.roll_back(1), store.head().depth()), (Ok(()), 2));
+    refused(&store, TooDeep, |store| store.flush(1));
+    assert_eq!((store.roll_back(0), store.flush(0)), (Ok(()), Ok(())));
+}
+
+/// At the last state numbers the sum of state and depth has more than 32 bits.
+#[test]
+fn flush_at_the_last_states() {
+    let mut store = of_lengths(1, 1);
+    assert_eq!(store.load(1, &[0xFF, 0xFF, 0xFF, 0xFA, 0, 0]), Ok(()));
+    (0..5).for_each(|_| assert_eq!(store.commit(&[]), Ok(())));
+    refused(&store, TooDeep, |store| store.flush(u32::MAX));
+    assert_eq!((store.head().highest_flush(), store.flush(u32::MAX - 1)), (u32::MAX - 1, Ok(())));
+    refused(&store, TooDeep, |store| store.flush(u32::MAX));
 }
 
 #[test]
@@ -334,7 +393,7 @@ fn since_when_at_other_numbers() {
     assert_eq!((store.roll_back(1), store.commit(&[Entry::put(5, 1)])), (Ok(()), Ok(())));
     assert_eq!(store.look_up(Desk, 5, 2), since(2, Some(1)));
     assert_eq!(store.look_up(Desk, 9, 2), by_table(Some(700)));
-    assert_eq!(store.load(&[0xFF, 0xFF, 0xFF, 0xFE, 0, 0]), Ok(()));
+    assert_eq!(store.load(0, &[0xFF, 0xFF, 0xFF, 0xFE, 0, 0]), Ok(()));
     assert_eq!(store.commit(&[Entry::put(5, 1)]), Ok(()));
     assert_eq!(store.look_up(Desk, 5, u32::MAX - 1), by_table(None));
     assert_eq!(store.look_up(Desk, 5, u32::MAX), since(u32::MAX, Some(1)));

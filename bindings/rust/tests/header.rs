@@ -79,6 +79,7 @@ fn constants_are_those_of_the_header() {
         ("TAKEN", TAKEN),
         ("ISSUED", ISSUED),
         ("ENDS", ENDS),
+        ("DEPTH", DEPTH),
         ("HEAD_WORDS", HEAD_WORDS),
         ("COMMITTED", COMMITTED),
         ("ROLLED_BACK", ROLLED_BACK),
@@ -94,6 +95,7 @@ fn constants_are_those_of_the_header() {
         ("DESK", DESK as usize),
         ("FOYER", FOYER as usize),
         ("STEPS", STEPS),
+        ("MOST_DEPTH", MOST_DEPTH as usize),
         ("IMAGE_BYTES", IMAGE_BYTES),
         ("SHEET_BYTES", SHEET_BYTES),
         ("LIST", Order::LIST.into()),
@@ -137,7 +139,7 @@ fn the_word_for_the_table() {
 
 #[test]
 fn what_is_unknown_is_kept() {
-    for number in [0, 20, 99, 100, 101, 1 << 32, u64::MAX] {
+    for number in [0, 21, 99, 100, 101, 1 << 32, u64::MAX] {
         let refusal = Refusal::of_number(number);
         assert_eq!(
             (refusal, refusal.number(), refusal.name()),

@@ -2,23 +2,23 @@
 
 mod common;
 
-use cechnuol::raw::{StoreMut, CHECKPOINT, ENDS, OLDEST, TIP, USED};
+use cechnuol::raw::{StoreMut, CHECKPOINT, DEPTH, ENDS, OLDEST, TIP, USED};
 use cechnuol::Caller::{Desk, Foyer};
 use cechnuol::{image_bytes_of, price_batch, sheet_bytes_of, Entry, Order, Refusal, Store};
 use cechnuol::{
-    BATCH_ORDERS, FOYER_SLOT, FOYER_WORDS, HEAD_WORDS, IMAGE_BYTES, JOURNAL_WORDS, LIST_WORDS, SHEET_BYTES,
-    SLOTS, STEPS, TABLE_WORDS, TALLY_WORDS,
+    BATCH_ORDERS, FOYER_SLOT, FOYER_WORDS, HEAD_WORDS, IMAGE_BYTES, JOURNAL_WORDS, LIST_WORDS, MOST_DEPTH,
+    SHEET_BYTES, SLOTS, STEPS, TABLE_WORDS, TALLY_WORDS,
 };
-use common::{of_lengths, store, with_head};
+use common::{of_lengths, refused, store, with_head};
 
 #[test]
 fn tables_and_journals() {
     for (table, journal) in [(1, 1), (TABLE_WORDS, JOURNAL_WORDS)] {
-        assert_eq!(of_lengths(table, journal).clear(), Ok(()));
+        assert_eq!(of_lengths(table, journal).clear(0), Ok(()));
         assert!(Store::new(table, journal).is_ok());
     }
     for (table, journal) in [(0, 1), (1, 0), (TABLE_WORDS + 1, 1), (1, JOURNAL_WORDS + 1)] {
-        assert_eq!(of_lengths(table, journal).clear(), Err(Refusal::Lengths));
+        assert_eq!(of_lengths(table, journal).clear(0), Err(Refusal::Lengths));
         assert_eq!(Store::new(table, journal), Err(Refusal::Lengths));
     }
     for huge in [usize::MAX, usize::MAX / 8, 1 << 40] {
@@ -85,6 +85,42 @@ fn steps() {
     assert_eq!(store.commit(&[]), Err(Refusal::StepsFull));
 }
 
+/// With the largest depth one of as many steps as can be held may be flushed, and with that there is room for another.
+#[test]
+fn depths() {
+    let mut store = of_lengths(1, 1);
+    for depth in [MOST_DEPTH + 1, 127, 128, 256, 1 << 31, u32::MAX] {
+        refused(&store, Refusal::TooDeep, |store| store.clear(depth));
+        refused(&store, Refusal::TooDeep, |store| store.load(depth, &[0; 6]));
+        refused(&store, Refusal::TooDeep, |store| store.load_sheet(depth, &[0; 8]));
+    }
+    for depth in [0, 1, MOST_DEPTH - 1, MOST_DEPTH] {
+        assert_eq!((store.load(depth, &[0; 6]), store.head().depth()), (Ok(()), depth));
+        assert_eq!((store.load_sheet(depth, &[0; 8]), store.head().depth()), (Ok(()), depth));
+        assert_eq!((store.clear(depth), store.head().depth()), (Ok(()), depth));
+    }
+    (0..STEPS).for_each(|_| assert_eq!(store.commit(&[]), Ok(())));
+    refused(&store, Refusal::StepsFull, |store| store.commit(&[]));
+    refused(&store, Refusal::TooDeep, |store| store.flush(2));
+    assert_eq!((store.head().highest_flush(), store.flush(1)), (1, Ok(())));
+    assert_eq!(store.commit(&[]), Ok(()));
+}
+
+/// A head whose depth is more than that is unsound, whether or not it fits 32 bits.
+#[test]
+fn depths_of_heads() {
+    for depth in [64, u32::MAX.into(), 1 << 32, (1 << 32) + 1, u64::MAX] {
+        let damaged = with_head(&store(), &[(DEPTH, depth)]);
+        refused(&damaged, Refusal::Unsound, |store| store.flush(1));
+        refused(&damaged, Refusal::Unsound, |store| store.look_up(Desk, 5, 1));
+        refused(&damaged, Refusal::TooDeep, |store| store.clear(64));
+        assert_eq!((damaged.clone().clear(5), damaged.clone().load(5, &[0; 6])), (Ok(()), Ok(())));
+    }
+    for depth in 0..=63 {
+        assert_eq!(with_head(&store(), &[(DEPTH, depth)]).flush(1), Ok(()));
+    }
+}
+
 #[test]
 fn images() {
     assert_eq!((IMAGE_BYTES, image_bytes_of(0), image_bytes_of(usize::MAX)), (96_774, 6, usize::MAX));
@@ -92,7 +128,7 @@ fn images() {
     let image = image_of(0, TABLE_WORDS as u32);
     assert_eq!((full, image.len()), (64_006, 64_006));
     let mut store = of_lengths(TABLE_WORDS, JOURNAL_WORDS);
-    assert_eq!(store.load(&image), Ok(()));
+    assert_eq!(store.load(0, &image), Ok(()));
     assert_eq!(store.image_bytes(), full);
     let mut bytes = vec![0; IMAGE_BYTES];
     assert_eq!(store.write_image(&mut bytes[..full - 1]), Err(Refusal::OutputShort));
@@ -107,7 +143,7 @@ fn images() {
     assert_eq!(store.write_image(&mut bytes[..IMAGE_BYTES - 1]), Err(Refusal::OutputShort));
     assert_eq!(store.write_image(&mut bytes), Ok(IMAGE_BYTES));
     assert_eq!(bytes, image_of(64, (TABLE_WORDS + JOURNAL_WORDS) as u32));
-    assert_eq!(store.load(&bytes), Err(Refusal::TableFull));
+    assert_eq!(store.load(0, &bytes), Err(Refusal::TableFull));
     assert_eq!((store.write_state_image(0, &mut bytes), &bytes[..full]), (Ok(full), &image[..]));
     assert_eq!(store.restart(&mut bytes[..full - 1]), Err(Refusal::OutputShort));
     assert_eq!(store.restart(&mut bytes[..full]), Ok(()));
@@ -126,7 +162,7 @@ fn sheets() {
         let mut store = of_lengths(TABLE_WORDS, JOURNAL_WORDS);
         let full = sheet_of(0, offers(0, TABLE_WORDS));
         assert_eq!(full.len(), length(TABLE_WORDS));
-        assert_eq!(store.load_sheet(&full), Ok(()));
+        assert_eq!(store.load_sheet(0, &full), Ok(()));
         let mut bytes = vec![0; SHEET_BYTES];
         assert_eq!(store.write_sheet(&mut bytes[..full.len() - 1]), Err(Refusal::OutputShort));
         assert_eq!((store.write_sheet(&mut bytes), &bytes[..full.len()]), (Ok(full.len()), &full[..]));
@@ -142,7 +178,7 @@ fn sheets() {
         assert_eq!(store.write_sheet(&mut bytes[..wanted.len() - 1]), Err(Refusal::OutputShort));
         assert_eq!(store.write_sheet(&mut bytes), Ok(wanted.len()));
         assert_eq!(bytes[..wanted.len()], wanted);
-        assert_eq!(store.load_sheet(&wanted), Err(Refusal::TableFull));
+        assert_eq!(store.load_sheet(0, &wanted), Err(Refusal::TableFull));
     }
 }
 
@@ -174,7 +210,7 @@ fn image_of(state: u32, offers: u32) -> Vec<u8> {
 /// Of any words of a head, no more bytes than the longest image has, and than the longest sheet has.
 #[test]
 fn bytes_for_images() {
-    let (used, end, last) = (USED, ENDS, HEAD_WORDS - 1);
+    let (used, end, last) = (USED, ENDS, ENDS + STEPS - 1);
     for words in [
         &[(used, u64::MAX)][..],
         &[(end, u64::MAX)],
@@ -182,6 +218,7 @@ fn bytes_for_images() {
         &[(TIP, u64::MAX), (last, u64::MAX)],
         &[(CHECKPOINT, u64::MAX), (end, 7)],
         &[(OLDEST, 7), (end, 7)],
+        &[(TIP, u64::MAX), (DEPTH, u64::MAX)],
     ] {
         assert!(with_head(&store(), words).image_bytes() <= IMAGE_BYTES, "{words:?}");
         assert!(with_head(&store(), words).sheet_bytes() <= SHEET_BYTES, "{words:?}");
@@ -193,13 +230,13 @@ fn bytes_for_images() {
 /// The last word of the head is tested, and the last of the tally counted; the library writes nothing behind them.
 #[test]
 fn heads_and_tallies() {
-    assert_eq!(with_head(&store(), &[(HEAD_WORDS - 1, 1)]).release(Desk, 3), Err(Refusal::Unsound));
+    assert_eq!(with_head(&store(), &[(HEAD_WORDS - 1, 64)]).release(Desk, 3), Err(Refusal::Unsound));
     let (mut table, mut journal) = ([7; 2], [7; 2]);
     let mut head = [[u64::MAX; HEAD_WORDS]; 2];
     let mut tally = [[u64::MAX; TALLY_WORDS]; 2];
     let ([head, after_head], [tally, after_tally]) = (&mut head, &mut tally);
     let calls: [fn(StoreMut) -> u64; 3] =
-        [|lent| lent.clear(), |lent| lent.commit(&[]), |lent| lent.flush(1)];
+        [|lent| lent.clear(0), |lent| lent.commit(&[]), |lent| lent.flush(1)];
     for call in calls {
         assert_eq!(call(StoreMut { table: &mut table, journal: &mut journal, head, tally }), 0);
     }

@@ -2,9 +2,10 @@
 
 mod common;
 
+use cechnuol::raw::DEPTH;
 use cechnuol::Caller::Desk;
-use cechnuol::{Entry, Head, Refusal, Store, Tally};
-use common::{by_table, since, store, IMAGE, SHEET, TIP_IMAGE, TIP_SHEET};
+use cechnuol::{Entry, Head, Refusal, Store, Tally, HEAD_WORDS};
+use common::{by_table, since, store, with_head, IMAGE, SHEET, TIP_IMAGE, TIP_SHEET};
 use std::thread;
 
 const ENTRY: Entry = Entry::put(5, 1200);
@@ -33,10 +34,11 @@ fn memory_that_is_refused() {
 
 #[test]
 fn arrays_and_boxes() {
-    let mut arrays = Store::from_parts([7; 4], [7; 16], Head::from_words([7; 84]), Tally::from_words([7; 3]));
+    let mut arrays =
+        Store::from_parts([7; 4], [7; 16], Head::from_words([7; HEAD_WORDS]), Tally::from_words([7; 3]));
     assert_eq!(arrays.commit(&[ENTRY]), Err(Refusal::Unsound));
     assert_eq!(
-        (arrays.clear(), arrays.commit(&[ENTRY]), arrays.look_up(Desk, 5, 1)),
+        (arrays.clear(0), arrays.commit(&[ENTRY]), arrays.look_up(Desk, 5, 1)),
         (Ok(()), Ok(()), since(1, Some(1200)))
     );
     let (table, journal) = (vec![0; 4].into_boxed_slice(), vec![0; 16]);
@@ -89,12 +91,11 @@ fn queries_from_several_threads() {
 /// What is printed of a store for those who look for a fault: every word of head and tally, and no table of 8,000 words.
 #[test]
 fn what_is_printed() {
-    let text = format!("{:?}", store());
-    for part in
-        ["table_words: 8", "journal_words: 16", "used: 2", "checkpoint: 1", "tip: 2", "committed: 2", ".."]
-    {
+    let text = format!("{:?}", with_head(&store(), &[(DEPTH, 9)]));
+    let head = ["used: 2", "checkpoint: 1", "tip: 2", "depth: 9"];
+    for part in head.into_iter().chain(["table_words: 8", "journal_words: 16", "committed: 2", ".."]) {
         assert!(text.contains(part), "{part} in {text}");
     }
-    let odd = format!("{:?}", Head::from_words([u64::MAX; 84]));
-    assert_eq!(odd.matches(&u64::MAX.to_string()).count(), 84);
+    let odd = format!("{:?}", Head::from_words([u64::MAX; HEAD_WORDS]));
+    assert_eq!(odd.matches(&u64::MAX.to_string()).count(), HEAD_WORDS);
 }

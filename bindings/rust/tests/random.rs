@@ -5,8 +5,16 @@ mod common;
 
 use cechnuol::Caller::{Desk, Foyer};
 use cechnuol::{price_batch, Entry, Head, Order, Refusal, Since, Store, Tally};
-use cechnuol::{HEAD_WORDS, IMAGE_BYTES, TALLY_WORDS};
+use cechnuol::{HEAD_WORDS, IMAGE_BYTES, MOST_DEPTH, TALLY_WORDS};
 use common::{by_table, of_lengths, since, store, Rng, CALLS};
+
+/// A depth that may be too deep.
+fn any_depth(rng: &mut Rng) -> u32 {
+    match rng.below(8) {
+        0 => rng.bits() as u32,
+        _ => rng.below(66) as u32,
+    }
+}
 
 fn entries(rng: &mut Rng) -> Vec<Entry> {
     let count = rng.below(70);
@@ -26,14 +34,20 @@ fn random_bytes_as_images() {
         }
         image.iter_mut().skip(6).step_by(8).for_each(|byte| *byte |= 0x80);
         let before = (store.clone(), image.clone());
-        match store.load(&image) {
+        let depth = any_depth(&mut rng);
+        match store.load(depth, &image) {
             Ok(()) => {
                 accepted += 1;
                 let mut bytes = vec![0; length];
                 assert_eq!((store.write_image(&mut bytes), &bytes), (Ok(length), &image));
+                assert_eq!((store.head().depth(), depth <= MOST_DEPTH), (depth, true));
             }
             Err(refusal) => {
-                assert!(matches!(refusal, Refusal::BadImage | Refusal::TableFull), "{refusal}");
+                assert!(
+                    matches!(refusal, Refusal::TooDeep | Refusal::BadImage | Refusal::TableFull),
+                    "{refusal}"
+                );
+                assert_eq!(refusal == Refusal::TooDeep, depth > MOST_DEPTH);
                 assert!((store, image) == before);
             }
         }
@@ -54,7 +68,7 @@ fn random_bytes_as_sheets() {
             sheet.truncate(rng.below(sheet.len()));
         }
         let before = (store.clone(), sheet.clone());
-        match store.load_sheet(&sheet) {
+        match store.load_sheet(0, &sheet) {
             Ok(()) => {
                 accepted += 1;
                 let mut bytes = vec![0; sheet.len()];
@@ -139,7 +153,7 @@ fn random_store(rng: &mut Rng) -> Store {
     }
     let small = [0, 1, 2, 3, 7, u64::MAX][rng.below(6)];
     let (mut table, mut journal, head, tally) =
-        common::with_head(&store(), &[(rng.below(84), small)]).into_parts();
+        common::with_head(&store(), &[(rng.below(HEAD_WORDS), small)]).into_parts();
     let (at, step) = (rng.below(8), rng.below(16));
     table[at] ^= (rng.bits() & rng.bits()) * rng.below(2) as u64;
     journal[step] ^= (1 << rng.below(64)) * rng.below(2) as u64;
@@ -188,10 +202,12 @@ fn images_of_random_stores() {
     let (mut images, mut large, mut changed) = (0, 0, 0);
     for _ in 0..300 {
         let mut store = of_lengths(1 + rng.below(12), 200);
+        let depth = rng.below(6) as u32;
+        assert_eq!(store.clear(depth), Ok(()));
         for _ in 0..rng.below(40) {
             let head = store.head();
             let state = head.checkpoint() + rng.below((head.tip() - head.checkpoint()) as usize + 1) as u32;
-            // refused where there is no room, which does no harm here
+            // refused where there is no room, or so many steps back must stay, which does no harm here
             let _ = match rng.below(8) {
                 0 => store.flush(state),
                 1 => store.roll_back(state),
@@ -214,7 +230,7 @@ fn images_of_random_stores() {
         for state in store.head().checkpoint()..=store.head().tip() {
             let length = store.write_state_image(state, &mut bytes).expect("bytes enough for each state");
             let mut elsewhere = of_lengths(20, 1);
-            assert_eq!(elsewhere.load(&bytes[..length]), Ok(()));
+            assert_eq!(elsewhere.load(0, &bytes[..length]), Ok(()));
             for offer in 0..20 {
                 let quote = store.look_up(Desk, offer, state).expect("a state that is kept");
                 assert_eq!(quote.since, last_named(&store, offer, state), "offer {offer} at state {state}");
@@ -224,7 +240,8 @@ fn images_of_random_stores() {
             assert_eq!(length, 6 + 8 * elsewhere.entries().len());
             let length = store.write_state_sheet(state, &mut sheet).expect("bytes enough for each state");
             let mut by_sheet = of_lengths(20, 1);
-            assert_eq!((by_sheet.load_sheet(&sheet[..length]), &by_sheet), (Ok(()), &elsewhere));
+            assert_eq!((by_sheet.load_sheet(0, &sheet[..length]), &by_sheet), (Ok(()), &elsewhere));
+            assert_eq!(store.head().depth(), depth);
             images += 1;
             large += usize::from(elsewhere.entries().len() > store.table().len());
         }
@@ -233,6 +250,43 @@ fn images_of_random_stores() {
         images > 1000 && large > 100 && changed > 1000,
         "{images} images, {large} with more offers than the table has words, {changed} quotes since a state"
     );
+}
+
+/// Random commits, rollbacks, flushes and restarts with a depth: a flush is refused so exactly where the state is not the
+/// checkpoint and fewer steps than the depth are above it, and [`Head::highest_flush`] is the highest that is not.
+#[test]
+fn flushes_of_random_depths() {
+    let mut rng = Rng(9);
+    let (mut flushed, mut barred) = (0, 0);
+    for _ in 0..500 {
+        let mut store = of_lengths(4, 1);
+        let depth = if rng.below(2) == 0 { rng.below(64) } else { rng.below(8) } as u32;
+        let first = if rng.below(2) == 0 { 0 } else { u32::MAX - rng.below(80) as u32 };
+        assert_eq!(store.load(depth, &[&first.to_be_bytes()[..], &[0; 2]].concat()), Ok(()));
+        for _ in 0..rng.below(120) {
+            let (checkpoint, tip) = (store.head().checkpoint(), store.head().tip());
+            let state = checkpoint + rng.below((tip - checkpoint) as usize + 1) as u32;
+            match rng.below(12) {
+                0 => assert_eq!(store.roll_back(state), Ok(())),
+                1 => {
+                    let is_barred = state != checkpoint && tip - state < depth;
+                    assert_eq!(store.head().highest_flush() < state, is_barred);
+                    let answer = if is_barred { Err(Refusal::TooDeep) } else { Ok(()) };
+                    assert_eq!(store.flush(state), answer, "state {state} of {:?}", store.head());
+                    flushed += usize::from(state != checkpoint && !is_barred);
+                    barred += usize::from(is_barred);
+                }
+                2 => assert_eq!(store.flush(store.head().highest_flush()), Ok(())),
+                3 if rng.below(20) == 0 => assert_eq!(store.restart(&mut [0; 6]), Ok(())),
+                _ => {
+                    let full = tip - checkpoint == 64 || tip == u32::MAX;
+                    assert_eq!(store.commit(&[]).is_err(), full);
+                }
+            }
+            assert_eq!(store.head().depth(), depth);
+        }
+    }
+    assert!(flushed > 500 && barred > 500, "{flushed} flushed, {barred} barred");
 }
 
 /// What is read of a head and shown of a store, of any words.
@@ -246,6 +300,7 @@ fn random_heads_are_read() {
         assert!(slots.iter().all(|&slot| head.is_open(slot) == head.issued(slot).is_some()));
         assert!(head.oldest_slot().is_none_or(|slot| head.is_open(slot)));
         assert_eq!(head.ends().len(), head.held_steps().min(64));
+        assert!(head.highest_flush() >= head.checkpoint());
         assert!(store.entries().len() <= store.table().len());
         assert!((6..=IMAGE_BYTES).contains(&store.image_bytes()));
         assert!(!format!("{store:?}").is_empty());

@@ -6,7 +6,7 @@ use Rattle.answers.specs.declared.ground.Ground.{Ground}
 use Rattle.answers.specs.declared.ground.Ground.the-variants.{Lengths, Unsound, SlotRange, SlotTaken, SlotClosed, BadList}
 use Rattle.answers.specs.declared.ground.Ground.the-variants.{BadOrder, OfferNotRead, OrderNoPrice, PriceRange, StateRange, LastState}
 use Rattle.answers.specs.declared.ground.Ground.the-variants.{StepsFull, JournalFull, BadImage, TableFull, OutputShort}
-use Rattle.answers.specs.declared.ground.Ground.the-variants.{LongList, OthersSlot}
+use Rattle.answers.specs.declared.ground.Ground.the-variants.{LongList, OthersSlot, TooDeep}
 
 -- the number of each ground
 abbrev pub numberOf : Ground → ℕ
@@ -29,3 +29,4 @@ numberOf TableFull = 16
 numberOf OutputShort = 17
 numberOf LongList = 18
 numberOf OthersSlot = 19
+numberOf TooDeep = 20

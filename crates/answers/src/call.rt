@@ -11,10 +11,10 @@ pub enum Call {
 
 // The calls that make a store anew and set the tally to zero.
 pub enum Reset {
-    // The empty map as state 0.
-    Clear,
-    // The bytes are a map and its state number, in this format.
-    Load(Format),
+    // The empty map as state 0, with this depth.
+    Clear(u32),
+    // A depth; the bytes are a map and its state number, in this format.
+    Load(u32, Format),
     // The checkpoint's image goes to the start of the bytes and is loaded back.
     Restart,
 }

@@ -44,6 +44,8 @@ pub enum Ground {
     LongList,
     // 19. A place that isn't the caller's.
     OthersSlot,
+    // 20. A depth above 63, or a flush that the depth bars: to a state other than the anchor and higher than tip − depth.
+    TooDeep,
 }
 
 // The number of a ground in the papers.
@@ -70,5 +72,6 @@ pub fn number(ground: Ground) -> u32
         Ground::OutputShort => 17,
         Ground::LongList => 18,
         Ground::OthersSlot => 19,
+        Ground::TooDeep => 20,
     }
 }

@@ -36,12 +36,13 @@ pub fn clear(
     journal: &mut [u64],
     head: &mut [u64; HEAD_WORDS],
     tally: &mut [u64; TALLY_WORDS],
+    depth: u32,
 ) -> u64
-    ensures { λ r. ⌜ StoreKeeps (Reset Clear)
+    ensures { λ r. ⌜ StoreKeeps (Reset (Clear depth))
         (now (table .entry)) (now (journal .entry)) (now (head .entry)) (now (tally .entry))
         r (now (table .exit)) (now (journal .exit)) (now (head .exit)) (now (tally .exit)) ⌝ }
 {
-    cechnuol_clear(table, journal, head, tally)
+    cechnuol_clear(table, journal, head, tally, depth)
 }
 
 // `cechnuol_load`.
@@ -50,13 +51,14 @@ pub fn load(
     journal: &mut [u64],
     head: &mut [u64; HEAD_WORDS],
     tally: &mut [u64; TALLY_WORDS],
+    depth: u32,
     bytes: &[u8],
 ) -> u64
-    ensures { λ r. ⌜ BytesKeep (Reset (Load Image))
+    ensures { λ r. ⌜ BytesKeep (Reset (Load depth Image))
         (now (table .entry)) (now (journal .entry)) (now (head .entry)) (now (tally .entry))
         (now (bytes .entry)) r (now (table .exit)) (now (journal .exit)) (now (head .exit)) (now (tally .exit)) (now (bytes .entry)) ⌝ }
 {
-    cechnuol_load(table, journal, head, tally, bytes)
+    cechnuol_load(table, journal, head, tally, depth, bytes)
 }
 
 // `cechnuol_load_sheet`.
@@ -65,13 +67,14 @@ pub fn load_sheet(
     journal: &mut [u64],
     head: &mut [u64; HEAD_WORDS],
     tally: &mut [u64; TALLY_WORDS],
+    depth: u32,
     bytes: &[u8],
 ) -> u64
-    ensures { λ r. ⌜ BytesKeep (Reset (Load Sheet))
+    ensures { λ r. ⌜ BytesKeep (Reset (Load depth Sheet))
         (now (table .entry)) (now (journal .entry)) (now (head .entry)) (now (tally .entry))
         (now (bytes .entry)) r (now (table .exit)) (now (journal .exit)) (now (head .exit)) (now (tally .exit)) (now (bytes .entry)) ⌝ }
 {
-    cechnuol_load_sheet(table, journal, head, tally, bytes)
+    cechnuol_load_sheet(table, journal, head, tally, depth, bytes)
 }
 
 // `cechnuol_restart`.

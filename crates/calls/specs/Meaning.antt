@@ -22,12 +22,11 @@ use Rattle.answers.specs.declared.call.Step.{Step as StepCall}
 use Rattle.answers.specs.declared.call.Step.the-variants.{Commit, RollBack, Flush}
 use Rattle.image.specs.Image.{countIn, numberIn, wordsIn}
 use Rattle.formats.specs.Formats.{mapIn}
-use Rattle.soundness.specs.Checks.{lengthGrounds}
 use Rattle.layout.specs.States.{heldOf, mapHere}
 use Rattle.views.specs.Laid.{padded}
 use Rattle.views.specs.Trim.{trimmedHead, trimmedJournal}
 use Rattle.slots.specs.Slots.{opened, closedAt}
-use Rattle.snapshot.specs.Snapshots.{loadGrounds}
+use Rattle.snapshot.specs.Snapshots.{freshGrounds, loadGrounds}
 use Rattle.snapshot.specs.Fresh.{freshHead}
 use Rattle.exports.specs.Export.{writeGrounds, ownGrounds, stateSize, stateOver}
 use Rattle.restarts.specs.Restart.{restartGrounds, restartImage}
@@ -43,22 +42,22 @@ use Rattle.calls.specs.Lent.{Lent, withStore, withWords, withBytes, Left
 module _ (l : Lent) where
   -- the calls that make a store anew
   abbrev pub resetOf : ResetCall → Meaning
-  resetOf Clear =
-      means (lengthGrounds (length (l .table)) (length (l .journal))) Done
-      (withStore l (replicate (length (l .table)) 0) (replicate (length (l .journal)) 0) (freshHead 0 0))
-  resetOf (Load format) =
+  resetOf (Clear depth) =
+      means (freshGrounds (length (l .table)) (length (l .journal)) depth) Done
+      (withStore l (replicate (length (l .table)) 0) (replicate (length (l .journal)) 0) (freshHead 0 0 depth))
+  resetOf (Load depth format) =
       let map = mapIn format (l .bytes) in
-      means (loadGrounds (length (l .table)) (length (l .journal)) format (l .bytes)) Done
+      means (loadGrounds (length (l .table)) (length (l .journal)) depth format (l .bytes)) Done
       (withStore l
       (padded (length (l .table)) map)
       (replicate (length (l .journal)) 0)
-      (freshHead (length map) (numberIn (l .bytes))))
+      (freshHead (length map) (numberIn (l .bytes)) depth))
   resetOf Restart =
       let image = restartImage (l .table) (l .journal) (l .head) in
       means (restartGrounds (l .table) (l .journal) (l .head) (length (l .bytes))) Done
       (withBytes
       (withStore l (padded (length (l .table)) (wordsIn image)) (replicate (length (l .journal)) 0)
-      (freshHead (countIn image) (numberIn image)))
+      (freshHead (countIn image) (numberIn image) (l .head .depth)))
       (stateOver Image (l .table) (l .journal) (l .head) (l .head .checkpoint) (l .bytes)))
 
   -- the calls that add steps, take them back and flush them

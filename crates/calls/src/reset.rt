@@ -21,8 +21,8 @@ pub fn reset(
         (r .answer) (now (table .exit)) (now (journal .exit)) (now (words .exit)) (now (bytes .exit)) (r .head) ⌝ }
 {
     match call {
-        Reset::Clear => clear(table, journal, head),
-        Reset::Load(format) => load(table, journal, head, format, bytes),
+        Reset::Clear(depth) => clear(table, journal, head, depth),
+        Reset::Load(depth, format) => load(table, journal, head, depth, format, bytes),
         Reset::Restart => restart(table, journal, head, bytes),
     }
 }

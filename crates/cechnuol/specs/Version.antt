@@ -4,4 +4,4 @@ use Prim.Native.Nat.{ℕ}
 
 -- major × 1,000,000 + minor × 1,000 + patch
 abbrev pub version : ℕ
-version = 5001000
+version = 6000000

@@ -65,11 +65,12 @@ pub(crate) fn clear_on(
     journal: &mut [u64],
     head: &mut [u64; HEAD_WORDS],
     tally: &mut [u64; TALLY_WORDS],
+    depth: u32,
 ) -> Answer
-    ensures { λ r. ⌜ Leaves (now (table .entry)) (now (journal .entry)) [] [] (now (head .entry)) (now (tally .entry)) clear r
+    ensures { λ r. ⌜ Leaves (now (table .entry)) (now (journal .entry)) [] [] (now (head .entry)) (now (tally .entry)) (clear depth) r
         (now (table .exit)) (now (journal .exit)) [] [] (now (head .exit)) (now (tally .exit)) ⌝ }
 {
-    let served = serve_clear(tally_in(tally), table, journal, unpack(head));
+    let served = serve_clear(tally_in(tally), table, journal, unpack(head), depth);
     let reply = served.reply;
     let answer = reply.answer;
     put_served(head, tally, served);
@@ -105,13 +106,22 @@ pub(crate) fn load_on(
     bytes: &[u8],
     head: &mut [u64; HEAD_WORDS],
     tally: &mut [u64; TALLY_WORDS],
+    depth: u32,
     format: Format,
 ) -> Answer
     ensures { λ r. ⌜ Leaves (now (table .entry)) (now (journal .entry)) [] (now (bytes .entry)) (now (head .entry))
-        (now (tally .entry)) (loadAs format) r (now (table .exit)) (now (journal .exit)) [] (now (bytes .entry))
+        (now (tally .entry)) (loadAs format depth) r (now (table .exit)) (now (journal .exit)) [] (now (bytes .entry))
         (now (head .exit)) (now (tally .exit)) ⌝ }
 {
-    let served = serve_load(tally_in(tally), table, journal, bytes, unpack(head), format);
+    let served = serve_load(
+        tally_in(tally),
+        table,
+        journal,
+        bytes,
+        unpack(head),
+        depth,
+        format,
+    );
     let reply = served.reply;
     let answer = reply.answer;
     put_served(head, tally, served);

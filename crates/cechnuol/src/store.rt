@@ -27,37 +27,39 @@ ghost use Rattle.lent.specs.Asked.{clear, load, loadSheet, restart, commit, rol
 ghost use Rattle.lent.specs.Asked.{writeImage, writeStateImage, writeSheet, writeStateSheet};
 ghost use Rattle.lent.specs.Lent.{Serves, Tells, TellsSince, wordsAfter, bytesAfter, bytesWritten};
 
-// The empty map as state 0.
+// The empty map as state 0, with a depth.
 #[no_mangle]
 pub extern "C" fn cechnuol_clear(
     table: &mut [u64],
     journal: &mut [u64],
     head: &mut [u64; HEAD_WORDS],
     tally: &mut [u64; TALLY_WORDS],
+    depth: u32,
 ) -> u64
     ensures { λ r. ⌜ Serves (now (table .entry)) (now (journal .entry)) [] [] (now (head .entry)) (now (tally .entry))
-        clear r (now (table .exit)) (now (journal .exit)) (now (head .exit)) (now (tally .exit)) ⌝ }
+        (clear depth) r (now (table .exit)) (now (journal .exit)) (now (head .exit)) (now (tally .exit)) ⌝ }
 {
-    let answer = clear_on(table, journal, head, tally);
+    let answer = clear_on(table, journal, head, tally, depth);
     code_of(answer)
 }
 
-// Loads the image that the bytes are.
+// Loads the image that the bytes are, with a depth.
 #[no_mangle]
 pub extern "C" fn cechnuol_load(
     table: &mut [u64],
     journal: &mut [u64],
     head: &mut [u64; HEAD_WORDS],
     tally: &mut [u64; TALLY_WORDS],
+    depth: u32,
     bytes: &[u8],
 ) -> u64
     ensures { λ r. ⌜ Serves (now (table .entry)) (now (journal .entry)) [] (now (bytes .entry)) (now (head .entry))
-        (now (tally .entry)) load r (now (table .exit)) (now (journal .exit)) (now (head .exit)) (now (tally .exit))
+        (now (tally .entry)) (load depth) r (now (table .exit)) (now (journal .exit)) (now (head .exit)) (now (tally .exit))
         × (now (bytes .entry)
         ≡ bytesAfter (now (table .entry)) (now (journal .entry)) [] (now (bytes .entry)) (now (head .entry))
-        (now (tally .entry)) load) ⌝ }
+        (now (tally .entry)) (load depth)) ⌝ }
 {
-    let answer = load_on(table, journal, bytes, head, tally, Format::Image);
+    let answer = load_on(table, journal, bytes, head, tally, depth, Format::Image);
     code_of(answer)
 }
 
@@ -117,22 +119,23 @@ pub extern "C" fn cechnuol_write_state_image(
     code_of(answer)
 }
 
-// Loads the sheet that the bytes are.
+// Loads the sheet that the bytes are, with a depth.
 #[no_mangle]
 pub extern "C" fn cechnuol_load_sheet(
     table: &mut [u64],
     journal: &mut [u64],
     head: &mut [u64; HEAD_WORDS],
     tally: &mut [u64; TALLY_WORDS],
+    depth: u32,
     bytes: &[u8],
 ) -> u64
     ensures { λ r. ⌜ Serves (now (table .entry)) (now (journal .entry)) [] (now (bytes .entry)) (now (head .entry))
-        (now (tally .entry)) loadSheet r (now (table .exit)) (now (journal .exit)) (now (head .exit)) (now (tally .exit))
+        (now (tally .entry)) (loadSheet depth) r (now (table .exit)) (now (journal .exit)) (now (head .exit)) (now (tally .exit))
         × (now (bytes .entry)
         ≡ bytesAfter (now (table .entry)) (now (journal .entry)) [] (now (bytes .entry)) (now (head .entry))
-        (now (tally .entry)) loadSheet) ⌝ }
+        (now (tally .entry)) (loadSheet depth)) ⌝ }
 {
-    let answer = load_on(table, journal, bytes, head, tally, Format::Sheet);
+    let answer = load_on(table, journal, bytes, head, tally, depth, Format::Sheet);
     code_of(answer)
 }
 

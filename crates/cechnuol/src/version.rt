@@ -3,7 +3,7 @@ ghost use mathlib.Core.Path.{_≡_};
 ghost use Rattle.cechnuol.specs.Version.{version};
 
 // Major × 1,000,000 + minor × 1,000 + patch.
-const VERSION: u64 = 5001000;
+const VERSION: u64 = 6000000;
 
 // The version of this library.
 #[no_mangle]

@@ -6,7 +6,8 @@ use native.Mathlib.Omega.{arith}
 use borrow.Author.Tests.{ne-eqb}
 use Rattle.answers.specs.declared.call.Caller.the-variants.{Foyer}
 use Rattle.lent.specs.Callers.{callerOf}
-use Rattle.head_words.proofs.Theorems.{word-used, word-oldest, word-checkpoint, word-tip, words-taken, words-issued, words-ends, words-long}
+use Rattle.head_words.proofs.Theorems.{word-used, word-oldest, word-checkpoint, word-tip, words-taken, words-issued}
+use Rattle.head_words.proofs.Theorems.{words-ends, word-depth, words-long}
 use Rattle.conditions.specs.CLayout.{CLayout}
 
 foyer : (n : ℕ) → 1 ≤ n → callerOf n ≡ Foyer
@@ -21,6 +22,7 @@ c-layout = record {
   taken = words-taken;
   issued = words-issued;
   ends = words-ends;
+  depth = word-depth;
   size = words-long;
   tally = λ t. refl;
   caller-desk = refl;

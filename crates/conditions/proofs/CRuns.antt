@@ -184,12 +184,12 @@ starts-c m load r l =
     let start = starts k load (seenOf k a) (record {
       words = l .words;
       serves = serves-seen k a;
-      accepted = accepted-anew m (LoadCall (load .format)) (l .words) (load .bytes) r (l .serves) (l .accepted);
+      accepted = accepted-anew m (LoadCall (load .depth) (load .format)) (l .words) (load .bytes) r (l .serves) (l .accepted);
     }) in (
       start .0,
       record {
         carried = next k a;
-        stands = stands-anew m (LoadCall (load .format)) (l .words) (load .bytes) r (l .serves) (l .accepted);
+        stands = stands-anew m (LoadCall (load .depth) (load .format)) (l .words) (load .bytes) r (l .serves) (l .accepted);
         follows = ap storeCarried (sym (next-is k a)) ∙ start .1;
       },
     )
@@ -201,5 +201,5 @@ pub loads-c-as-plain : (m : Memory) (words : List ℕ) (load : Load) (r : Result
 loads-c-as-plain m words load r range c =
     let k = carriedIn m in
     let a = loading words load in
-    code-is m words (load .bytes) r (Reset (LoadCall (load .format))) (c .promise) refl
+    code-is m words (load .bytes) r (Reset (LoadCall (load .depth) (load .format))) (c .promise) refl
     ∙ ap codeOf (loads-as-plain k words load (seenOf k a) range (serves-seen k a))

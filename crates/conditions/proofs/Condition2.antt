@@ -2,10 +2,12 @@
 -- Assumes nothing.
 use Rattle.answers.specs.declared.call.Format.the-variants.{Image, Sheet}
 use Rattle.moments.proofs.Theorem.{moments-follow, callers-follow, images-follow, batches-follow, since-follows, sheets-follow}
+use Rattle.moments.proofs.Theorem.{depths-follow}
 use Rattle.conditions.specs.Condition2.{Condition2}
 use Rattle.conditions.proofs.Batches.{batches}
 use Rattle.conditions.proofs.AsServed.{as-served}
 use Rattle.conditions.proofs.CLayout.{c-layout}
+use Rattle.conditions.proofs.Depths.{depths}
 use Rattle.conditions.proofs.FlushToAnchor.{flush-to-the-anchor}
 use Rattle.conditions.proofs.Laws.{laws}
 use Rattle.conditions.proofs.Lookups.{lookups}
@@ -25,6 +27,7 @@ condition-2 = record {
   sheets = sheets;
   restarts = restarts;
   lookups = lookups;
+  depths = depths;
   flush-to-the-anchor = flush-to-the-anchor;
   queries-change-nothing = query-keeps;
   c-as-served = as-served;
@@ -35,4 +38,5 @@ condition-2 = record {
   batch-table = batches-follow;
   since-when = since-follows;
   sheets-of-states = sheets-follow;
+  depth-table = depths-follow;
 }

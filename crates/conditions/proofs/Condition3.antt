@@ -5,13 +5,17 @@ use mathlib.Core.Bool.{cond}
 use mathlib.Core.List.{List, [], _∷_, _++_}
 use Prim.Native.Nat.{ℕ}
 use Rattle.answers.specs.Answers.{When, byBook}
+use Rattle.answers.specs.declared.call.Format.{Format}
+use Rattle.views.specs.View.{Limits}
+use Rattle.history.specs.Earlier.{earlierLoad}
+use Rattle.history.specs.Plain.{firstOf, loadOf, loadChecked}
 use Rattle.history.specs.Named.{Quote, priced, unpriced, brought, refused, done, filled, quote, dated, report}
 use Rattle.history.specs.Named.{Call, Response, compared, acceptedB, acceptedCalls, quoteIn, quotes}
 use Rattle.conditions.specs.CCalls.{CallOnStoreC, memoryAfter, tellsC, CLoads, lengthsC}
 use Rattle.conditions.specs.Serving.{CallOnStore, handed, tells, lengthsIn, Loads}
 use Rattle.conditions.specs.Condition3.{Condition3}
 use Rattle.conditions.proofs.CRuns.{FollowsC, store-steps-c, loads-c-as-plain, starts-c}
-use Rattle.conditions.proofs.Followed.{answers, alike}
+use Rattle.conditions.proofs.Followed.{answers, alike, earlier}
 use Rattle.conditions.proofs.ServeRuns.{Follows, store-steps, loads-as-plain, starts}
 
 accepted-one : (c : Call) (calls : List Call) (r : Response) (responses : List Response)
@@ -53,6 +57,12 @@ priced-apart : (p q : ℕ) → priced p ≡ priced q → p ≡ q
 unfolding price-in
 priced-apart p q e = ap price-in e
 
+-- depth 0 is not above 63
+loads-0 : (limits : Limits) (format : Format) (bytes : List ℕ)
+    → loadChecked limits (loadOf 0 format bytes) ≡ earlierLoad limits format bytes
+unfolding firstOf
+loads-0 limits format bytes = refl
+
 pub condition-3 : Condition3
 condition-3 = record {
   bytes-not-compared = λ named list a b. refl;
@@ -67,8 +77,11 @@ condition-3 = record {
   lookups-count = λ q since. refl;
   serve-loads-as-plain = loads-as-plain;
   c-loads-as-plain = loads-c-as-plain;
+  depth-0-loads = loads-0;
   serve-answers-as-plain = answers CallOnStore handed tells Loads lengthsIn Follows store-steps starts;
   serve-quotes-alike = alike CallOnStore handed tells Loads lengthsIn Follows store-steps starts;
+  serve-runs-as-earlier = earlier CallOnStore handed tells Loads lengthsIn Follows store-steps starts;
   c-answers-as-plain = answers CallOnStoreC memoryAfter tellsC CLoads lengthsC FollowsC store-steps-c starts-c;
   c-quotes-alike = alike CallOnStoreC memoryAfter tellsC CLoads lengthsC FollowsC store-steps-c starts-c;
+  c-runs-as-earlier = earlier CallOnStoreC memoryAfter tellsC CLoads lengthsC FollowsC store-steps-c starts-c;
 }

@@ -7,14 +7,15 @@ use lib.ListN.{replicate}
 use Rattle.views.specs.View.{Limits}
 use Rattle.unit.specs.Carried.{Asked}
 use Rattle.history.specs.Named.{Named, Call, Response, acceptedCalls, quotes}
-use Rattle.history.specs.Plain.{responseBy, leftBy, Plain, checked, given, changed, Load, loadedPlain}
+use Rattle.history.specs.Plain.{responseBy, leftBy, Plain, checked, given, changed, Load, loadOf, loadedPlain}
 use Rattle.history.specs.Traces.{Asked as AskedIn3, ReadSet, nothing, readSetsAfter, plainResponses}
 use Rattle.history.proofs.Alike.{plain-alike}
+use Rattle.history.proofs.AsEarlier.{as-earlier}
 use Rattle.history.proofs.Following.{fit-after, sets-after}
 use Rattle.history.proofs.Outstanding.{Outstanding}
 use Rattle.history.proofs.Views.{Fit}
 use Rattle.conditions.specs.Runs.{Turn, lentIn, RunFrom, responsesIn, callsIn}
-use Rattle.conditions.specs.Condition3.{AnswersAsPlain, QuotesAlike}
+use Rattle.conditions.specs.Condition3.{AnswersAsPlain, QuotesAlike, RunsAsEarlier}
 
 -- what the plain list answers and is after a call
 abbrev pub answered : Plain → Call → Response
@@ -55,10 +56,15 @@ module _ {M S : Type 0} (Does : M → Asked → S → Type 0) (left : S → M) (
       follow turns (left loaded) (loadedPlain (lengths m) load) (s .0 .fit) (replicate 8 nothing) (s .0 .outstanding) (s .1) run
 
   pub alike : QuotesAlike Does left tells Loads lengths
-  alike m₁ m₂ load loaded₁ loaded₂ turns₁ turns₂ l₁ r₁ l₂ r₂ same =
-      let e₁ = answers m₁ load loaded₁ turns₁ l₁ r₁ in
-      let e₂ = answers m₂ load loaded₂ turns₂ l₂ r₂ in
+  alike m₁ m₂ depth₁ depth₂ format bytes loaded₁ loaded₂ turns₁ turns₂ l₁ r₁ l₂ r₂ same =
+      let e₁ = answers m₁ (loadOf depth₁ format bytes) loaded₁ turns₁ l₁ r₁ in
+      let e₂ = answers m₂ (loadOf depth₂ format bytes) loaded₂ turns₂ l₂ r₂ in
       ap quotes e₁
-      ∙ plain-alike (lengths m₁) (lengths m₂) load (callsIn turns₁) (callsIn turns₂)
+      ∙ plain-alike (lengths m₁) (lengths m₂) depth₁ depth₂ format bytes (callsIn turns₁) (callsIn turns₂)
       (ap (acceptedCalls (callsIn turns₁)) (sym e₁) ∙ same ∙ ap (acceptedCalls (callsIn turns₂)) e₂)
       ∙ ap quotes (sym e₂)
+
+  pub earlier : RunsAsEarlier Does left tells Loads lengths
+  earlier m format bytes loaded turns loads run =
+      answers m (loadOf 0 format bytes) loaded turns loads run
+      ∙ as-earlier (loadedPlain (lengths m) (loadOf 0 format bytes)) refl (callsIn turns)

@@ -2,7 +2,7 @@
 -- Assumes nothing.
 use mathlib.Core.Path.{_≡_, refl, sym, subst, _∙_}
 use mathlib.Core.Bool.{Bool, true, false}
-use mathlib.Core.List.{List, _++_, map}
+use mathlib.Core.List.{List, [], _++_, map}
 use Prim.Native.Nat.{ℕ, zero, suc, _+_, _-_, _^_, _≤_, _<_}
 use native.Mathlib.Omega.{arith}
 use lib.ListN.{length, take, drop, set, replicate, length-set, length-map, length-append, length-replicate, length-take, length-drop}
@@ -28,6 +28,7 @@ use Rattle.views.proofs.Laid.{padded-length}
 use Rattle.views.proofs.SlotLists.{least-up-to}
 use Rattle.slots.specs.Slots.{opened, closedAt}
 use Rattle.snapshot.specs.Fresh.{freshHead}
+use Rattle.snapshot.proofs.ImagesAccepted.{fresh-passed}
 use Rattle.exports.specs.Export.{stateBytes}
 use Rattle.restarts.specs.Restart.{restartImage}
 use Rattle.commits.specs.Commit.{usedOf, withStep}
@@ -42,12 +43,12 @@ use Rattle.head_words.specs.HeadWords.{limit, markLimit, belowB, Fits}
 use Rattle.head_words.proofs.BelowParts.{below-set, below-take, below-drop, below-append, below-zeros, below-less}
 
 module _ (head : Head) (f : Fits head) where
-  -- a head with other fields that fit; a field that calls carry along unread fits as it did
+  -- a head with other fields that fit; the depth fits as it did
   fits-with : (used oldest checkpoint tip : ℕ) (taken : List Bool) (issued ends : List ℕ)
       → oldest < limit → checkpoint < limit → tip < limit
       → length taken ≡ 8 → length issued ≡ 8 → belowB limit issued ≡ true → length ends ≡ 64
       → belowB markLimit ends ≡ true
-      → Fits (headWith head used oldest checkpoint tip taken issued ends)
+      → Fits (headWith head used oldest checkpoint tip taken issued ends (head .depth))
   fits-with used oldest checkpoint tip taken issued ends o c t lt li b le m = record {
     oldest-low = o;
     checkpoint-low = c;
@@ -57,6 +58,7 @@ module _ (head : Head) (f : Fits head) where
     issued-low = b;
     all-ends = le;
     ends-low = m;
+    depth-low = f .depth-low;
   }
 
   fits-steps : (tip : ℕ) (ends : List ℕ) → tip < limit → length ends ≡ 64 → belowB markLimit ends ≡ true
@@ -131,9 +133,9 @@ module _ (head : Head) (f : Fits head) where
       (moved-short (goneSteps head) (heldOf head) (goneWords head)))
       (moved-low (goneSteps head) (heldOf head) (goneWords head))
 
-fits-fresh : (used number : ℕ) → number < limit → Fits (freshHead used number)
+fits-fresh : (used number depth : ℕ) → number < limit → depth < limit → Fits (freshHead used number depth)
 unfolding freshHead belowB
-fits-fresh used number h = record {
+fits-fresh used number depth h d = record {
   oldest-low = h;
   checkpoint-low = h;
   tip-low = h;
@@ -142,6 +144,7 @@ fits-fresh used number h = record {
   issued-low = refl;
   all-ends = refl;
   ends-low = refl;
+  depth-low = d;
 }
 
 -- the state number in bytes
@@ -172,14 +175,16 @@ by-check l (Refused ground) made f g = f
 
 module _ (l : Lent) (f : Fits (l .head)) (bytes : All Byte (l .bytes)) where
   accepted-fits : (call : Call) → checkOf (meaning l call) ≡ Passed → Fits (meaning l call .accepted .lent .head)
-  accepted-fits (Reset Clear) e = fits-fresh 0 0 (omega arith)
-  accepted-fits (Reset (Load format)) e =
-      fits-fresh (length (mapIn format (l .bytes))) (numberIn (l .bytes)) (number-low (l .bytes) bytes)
+  accepted-fits (Reset (Clear depth)) e =
+      fits-fresh 0 0 depth (omega arith) (omega (arith, fresh-passed (length (l .table)) (length (l .journal)) depth [] e .0 .1))
+  accepted-fits (Reset (Load depth format)) e =
+      fits-fresh (length (mapIn format (l .bytes))) (numberIn (l .bytes)) depth (number-low (l .bytes) bytes)
+      (omega (arith, fresh-passed (length (l .table)) (length (l .journal)) depth _ e .0 .1))
   accepted-fits (Reset Restart) e =
       let image = restartImage (l .table) (l .journal) (l .head) in
-      fits-fresh (countIn image) (numberIn image)
+      fits-fresh (countIn image) (numberIn image) (l .head .depth)
       (subst (λ (n : ℕ). n < limit) (sym (number-is (l .table) (l .journal) (l .head) (f .checkpoint-low)))
-      (f .checkpoint-low))
+      (f .checkpoint-low)) (f .depth-low)
   accepted-fits (Step Commit) e =
       let ok = commit-ok (l .table) (l .journal) (l .head) (l .words) e in
       fits-step (l .head) f (heldOf (l .head)) (usedOf (l .head) + length (l .words)) (ok .not-last)

@@ -8,6 +8,7 @@ pub mod Carrying
 pub mod Condition1
 pub mod Condition2
 pub mod Condition3
+pub mod Depths
 pub mod FlushToAnchor
 pub mod Followed
 pub mod HeadsFit

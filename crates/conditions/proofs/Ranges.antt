@@ -1,18 +1,20 @@
 -- The ends of the ranges, proved.
 -- Assumes nothing.
 use mathlib.Core.Path.{_≡_, refl, _∙_}
-use mathlib.Core.Bool.{Bool, true, false}
-use mathlib.Core.List.{List}
-use Prim.Native.Nat.{ℕ, _-_, _^_, _≤_, _<_}
+use mathlib.Core.Bool.{Bool, true, false, not, _&&_}
+use mathlib.Core.List.{List, [], _∷_}
+use Prim.Native.Nat.{ℕ, _+_, _-_, _^_, _≤_, _<_}
 use native.Mathlib.Omega.{arith}
 use borrow.Author.Tests.{le-leb, lt-leb, lt-ltb, le-ltb, ne-eqb, eq-eqb}
-use lib.Dec.{ltb}
+use lib.Dec.{eqb, ltb}
 use lib.ListN.{length}
 use Rattle.changes.specs.Lists.{listB}
 use Rattle.changes.proofs.Laws.{changes-test}
 use Rattle.changes.proofs.ListTest.{list-facts}
 use Rattle.answers.specs.declared.call.Caller.the-variants.{Desk, Foyer}
 use Rattle.answers.specs.declared.call.Reader.{Reader}
+use Rattle.answers.specs.declared.ground.Ground.the-variants.{TooDeep}
+use Rattle.answers.specs.First.{met}
 use Rattle.layout.specs.declared.head.Head.{Head}
 use Rattle.layout.specs.Clauses.{lengthsB, numbersB}
 use Rattle.layout.proofs.HeadTests.{numbers-facts, facts-numbers, lengths-facts}
@@ -22,7 +24,8 @@ use Rattle.commits.specs.Commit.{stepGrounds}
 use Rattle.lookups.specs.LookUp.{offerGrounds}
 use Rattle.slots.specs.Callers.{readerOf, longGrounds}
 use Rattle.slots.specs.Slots.{slotGrounds}
-use Rattle.soundness.specs.Checks.{stateGrounds}
+use Rattle.snapshot.specs.Snapshots.{freshGrounds}
+use Rattle.soundness.specs.Checks.{stateGrounds, targetGrounds}
 use Rattle.conditions.specs.Grounds.{firstNumber}
 use Rattle.conditions.specs.Ranges.{Ranges}
 
@@ -115,6 +118,41 @@ module _ (offer : ℕ) where
   unfolding firstNumber
   offer-high h = rw (le-leb (2 ^ 31) offer h) refl
 
+module _ (table journal depth : ℕ) (l : lengthsB table journal ≡ true) where
+  depth-low : depth ≤ 63 → firstNumber (freshGrounds table journal depth) ≡ 0
+  unfolding firstNumber
+  depth-low h = rw l (rw (le-leb depth 63 h) refl)
+
+  depth-high : 64 ≤ depth → firstNumber (freshGrounds table journal depth) ≡ 20
+  unfolding firstNumber
+  depth-high h = rw l (rw (lt-leb depth 63 h) refl)
+
+to-anchor : (head : Head) → head .checkpoint ≤ head .tip → firstNumber (targetGrounds head (head .checkpoint)) ≡ 0
+unfolding firstNumber
+to-anchor head h =
+    rw (le-ltb (head .checkpoint) (head .checkpoint) (omega arith))
+    (rw (le-ltb (head .tip) (head .checkpoint) h) (rw (eq-eqb (head .checkpoint) (head .checkpoint) refl) refl))
+
+module _ (head : Head) (state : ℕ) where
+  low-enough : head .checkpoint ≤ state → state + head .depth ≤ head .tip → firstNumber (targetGrounds head state) ≡ 0
+  unfolding firstNumber
+  low-enough h i =
+      rw (le-ltb state (head .checkpoint) h)
+      (rw (le-ltb (head .tip) state (omega arith))
+      (rw (le-ltb (head .tip) (state + head .depth) i) (go (eqb state (head .checkpoint)))))
+    where
+      go : (b : Bool) → firstNumber (met (not b && false) TooDeep ∷ []) ≡ 0
+      go true = refl
+      go false = refl
+
+  too-high : head .checkpoint < state → state ≤ head .tip → head .tip < state + head .depth
+      → firstNumber (targetGrounds head state) ≡ 20
+  unfolding firstNumber
+  too-high h i j =
+      rw (le-ltb state (head .checkpoint) (omega arith))
+      (rw (le-ltb (head .tip) state i)
+      (rw (ne-eqb state (head .checkpoint) (λ e. omega (arith, h, e))) (rw (lt-ltb (head .tip) (state + head .depth) j) refl)))
+
 pub ranges : Ranges
 ranges = record {
   lengths-in-range = in-lengths;
@@ -145,5 +183,10 @@ ranges = record {
   state-too-high = state-high;
   offer-in-range = offer-low;
   offer-too-high = offer-high;
+  depth-in-range = depth-low;
+  depth-too-high = depth-high;
+  flush-to-anchor = to-anchor;
+  flush-low-enough = low-enough;
+  flush-too-high = too-high;
   largest-count = refl;
 }

@@ -20,7 +20,7 @@ use Rattle.answers.specs.declared.ground.Ground.{Ground}
 use Rattle.answers.specs.declared.ground.Ground.the-variants.{Lengths, Unsound, SlotRange, SlotTaken, SlotClosed, BadList}
 use Rattle.answers.specs.declared.ground.Ground.the-variants.{BadOrder, OfferNotRead, OrderNoPrice, PriceRange, StateRange}
 use Rattle.answers.specs.declared.ground.Ground.the-variants.{LastState, StepsFull, JournalFull, BadImage, TableFull, OutputShort}
-use Rattle.answers.specs.declared.ground.Ground.the-variants.{LongList, OthersSlot}
+use Rattle.answers.specs.declared.ground.Ground.the-variants.{LongList, OthersSlot, TooDeep}
 use Rattle.answers.specs.Answers.{saidBy, groundIn, whenIn, acceptedB, answered}
 use Rattle.answers.specs.First.{Test, met, first}
 use Rattle.answers.specs.Numbers.{numberOf}
@@ -63,6 +63,7 @@ number-range TableFull = (omega arith, omega arith)
 number-range OutputShort = (omega arith, omega arith)
 number-range LongList = (omega arith, omega arith)
 number-range OthersSlot = (omega arith, omega arith)
+number-range TooDeep = (omega arith, omega arith)
 
 one-number : (answer : Answer) → acceptedB answer ≡ false → OneNumber (saidBy answer)
 one-number Done e = absurd (let z : _≡_ {A = ℕ} 0 1 = cc in omega arith)
@@ -93,8 +94,8 @@ by-table : (l : Lent) (call : Call)
     × Begins l (testsStore call) (meaning l call .grounds)
     × (checkOf (meaning l call) ≡ Passed → Within (l .head .tip) (whenIn (saidBy (meaning l call .accepted .answer))))
 unfolding once numbers
-by-table l (Reset Clear) = (refl, refl, record { rest = _; is = refl }, λ e. tt)
-by-table l (Reset (Load format)) = (refl, refl, record { rest = _; is = refl }, λ e. tt)
+by-table l (Reset (Clear depth)) = (refl, refl, record { rest = _; is = refl }, λ e. tt)
+by-table l (Reset (Load depth format)) = (refl, refl, record { rest = _; is = refl }, λ e. tt)
 by-table l (Reset Restart) = (refl, refl, record { rest = _; is = refl }, λ e. tt)
 by-table l (Step Commit) = (refl, refl, record { rest = _; is = refl }, λ e. tt)
 by-table l (Step (RollBack state)) = (refl, refl, record { rest = _; is = refl }, λ e. tt)

@@ -63,7 +63,7 @@ module _ (k : Carried) (words out : List ℕ) (s : Seen) (serves : CallOfServe k
     pub restart-as-written : ((words′ : List ℕ) (w : Seen) → CallOfServe k (writing Image (state (k .head .checkpoint)) words′ out) w
         → (acceptedB (w .reply .answer) ≡ true) × (s .bytes ≡ w .bytes))
         × (s .words ≡ words)
-        × IsLoaded k (handed s) (mapIn k) (k .head .checkpoint)
+        × IsLoaded k (handed s) (mapIn k) (k .head .checkpoint) (k .head .depth)
     restart-as-written =
         let back = words-back (k .table) (k .journal) (k .head) (length out) restart-check small in
         let number = number-back (k .table) (k .journal) (k .head) (length out) restart-check small in
@@ -73,7 +73,7 @@ module _ (k : Carried) (words out : List ℕ) (s : Seen) (serves : CallOfServe k
           record {
             table = restarted .table ∙ ap (padded (length (k .table))) back;
             journal = restarted .journal;
-            head = restarted .head ∙ ap₂ freshHead count number;
+            head = restarted .head ∙ ap₂ (λ (used n : ℕ). freshHead used n (k .head .depth)) count number;
           },
         )
 

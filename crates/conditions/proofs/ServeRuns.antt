@@ -68,7 +68,7 @@ store-steps k p f sets o a s w on = steps (withTally k (on .tally)) p f sets o a
 
 -- an accepted load
 module _ (k : Carried) (load : Load) (s : Seen) (loads : Loads k load s) where
-  check : loadCheck (k .table) (k .journal) (load .format) (load .bytes) ≡ Passed
+  check : loadCheck (k .table) (k .journal) (load .depth) (load .format) (load .bytes) ≡ Passed
   check = passed k (loading (loads .words) load) s (loads .serves) (loads .accepted)
 
   range : lengthsB (length (k .table)) (length (k .journal)) ≡ true
@@ -77,7 +77,8 @@ module _ (k : Carried) (load : Load) (s : Seen) (loads : Loads k load s) where
   loaded : storeCarried (handed s) ≡ storeIn (loadedBy Passed (storeCarried k) load .lent)
   loaded =
       (λ i. record { table = loads .serves .2 i; journal = loads .serves .3 i; head = loads .serves .0 .0 i .head })
-      ∙ ap (λ (c : Check). storeIn (settledBy c (resetOf (lentTo k (loading (loads .words) load)) (LoadCall (load .format)) .accepted)
+      ∙ ap (λ (c : Check). storeIn (settledBy c
+      (resetOf (lentTo k (loading (loads .words) load)) (LoadCall (load .depth) (load .format)) .accepted)
       (lentTo k (loading (loads .words) load)) .lent)) check
 
   pub starts : Started (loadedPlain (lengthsIn k) load) × Follows (handed s) (loadedPlain (lengthsIn k) load)
@@ -96,5 +97,5 @@ pub loads-as-plain : (k : Carried) (words : List ℕ) (load : Load) (s : Seen)
     → saidBy (s .reply .answer) ≡ saidOf (loadChecked (lengthsIn k) load)
 loads-as-plain k words load s range serves =
     serves .0 .1
-    ∙ said-by-check (loadCheck (k .table) (k .journal) (load .format) (load .bytes))
+    ∙ said-by-check (loadCheck (k .table) (k .journal) (load .depth) (load .format) (load .bytes))
     ∙ ap saidOf (load-checks (storeCarried k) load range)

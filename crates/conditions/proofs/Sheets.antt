@@ -24,7 +24,7 @@ use Rattle.sheet.proofs.Theorems.{rows-of-map, price-in-rows, one-sheet}
 use Rattle.formats.specs.Formats.{formatB, mapIn, bytesFor}
 use Rattle.formats.proofs.Laws.{written-reads-back}
 use Rattle.layout.specs.declared.head.Head.{Head}
-use Rattle.soundness.specs.Checks.{lengthGrounds}
+use Rattle.snapshot.specs.Snapshots.{freshGrounds}
 use Rattle.views.specs.Laid.{padded}
 use Rattle.snapshot.specs.Fresh.{freshHead}
 use Rattle.answers.specs.Counts.{tallyAfter}
@@ -40,20 +40,20 @@ use Rattle.conditions.specs.Serving.{Seen, CallOfServe, handed, loading}
 use Rattle.conditions.specs.Sheets.{Sheets}
 
 -- a load by its check, of a map and a number, in bytes that it leaves as they are
-module _ (T J W : List ℕ) (H : Head) where
+module _ (T J W : List ℕ) (H : Head) (depth : ℕ) where
   abbrev checkBy : Bool → List ℕ → Check
   checkBy t map =
-      first (lengthGrounds (length T) (length J) ++ (met (not t) BadImage ∷ met (ltb (length T) (length map)) TableFull ∷ []))
+      first (freshGrounds (length T) (length J) depth ++ (met (not t) BadImage ∷ met (ltb (length T) (length map)) TableFull ∷ []))
 
   abbrev leftBy : Check → List ℕ → ℕ → List ℕ → Left
   leftBy c map n b =
       let l = lent T J W b H in
       settledBy c
-      (record { answer = Done; lent = withStore l (padded (length T) map) (replicate (length J) 0) (freshHead (length map) n) }) l
+      (record { answer = Done; lent = withStore l (padded (length T) map) (replicate (length J) 0) (freshHead (length map) n depth) }) l
 
   -- the format matters no more than by the test, the map and the number
   load-by : (f : Format) (n : ℕ) (m : List ℕ) → n < 2 ^ 32 → length m < 2 ^ 16 → Map m
-      → performed (lent T J W (bytesFor f n m) H) (Reset (Load f)) ≡ leftBy (checkBy true m) m n (bytesFor f n m)
+      → performed (lent T J W (bytesFor f n m) H) (Reset (Load depth f)) ≡ leftBy (checkBy true m) m n (bytesFor f n m)
   load-by f n m small short h =
       let b = bytesFor f n m in
       let back = written-reads-back f n m small short h in
@@ -74,10 +74,10 @@ module _ (T J W : List ℕ) (H : Head) where
 
   module _ (n : ℕ) (m : List ℕ) (small : n < 2 ^ 32) (short : length m < 2 ^ 16) (h : Map m) where
     abbrev sheet : Left
-    sheet = performed (lent T J W (sheetOf n m) H) (Reset (Load Sheet))
+    sheet = performed (lent T J W (sheetOf n m) H) (Reset (Load depth Sheet))
 
     abbrev image : Left
-    image = performed (lent T J W (imageOf n m) H) (Reset (Load Image))
+    image = performed (lent T J W (imageOf n m) H) (Reset (Load depth Image))
 
     pub answers-alike : sheet .answer ≡ image .answer
     answers-alike =
@@ -102,44 +102,46 @@ module _ (T J W : List ℕ) (H : Head) where
         ∙ journal-by (checkBy true m) m n (sheetOf n m) (imageOf n m)
         ∙ sym (ap (λ (l : Left). l .lent .journal) (load-by Image n m small short h))
 
-module _ (k : Carried) (words : List ℕ) (n : ℕ) (m : List ℕ) (s t : Seen) (small : n < 2 ^ 32) (short : length m < 2 ^ 16) (h : Map m)
-    (f : CallOfServe k (loading words (loadOf Sheet (sheetOf n m))) s)
-    (g : CallOfServe k (loading words (loadOf Image (imageOf n m))) t) where
+module _ (k : Carried) (depth : ℕ) (words : List ℕ) (n : ℕ) (m : List ℕ) (s t : Seen) (small : n < 2 ^ 32)
+    (short : length m < 2 ^ 16) (h : Map m)
+    (f : CallOfServe k (loading words (loadOf depth Sheet (sheetOf n m))) s)
+    (g : CallOfServe k (loading words (loadOf depth Image (imageOf n m))) t) where
   pub serves-alike : (s .reply ≡ t .reply) × (handed s ≡ handed t)
   serves-alike =
-      let answer = answers-alike (k .table) (k .journal) words (k .head) n m small short h in
-      let head = heads-alike (k .table) (k .journal) words (k .head) n m small short h in
-      let table = tables-alike (k .table) (k .journal) words (k .head) n m small short h in
-      let journal = journals-alike (k .table) (k .journal) words (k .head) n m small short h in
+      let answer = answers-alike (k .table) (k .journal) words (k .head) depth n m small short h in
+      let head = heads-alike (k .table) (k .journal) words (k .head) depth n m small short h in
+      let table = tables-alike (k .table) (k .journal) words (k .head) depth n m small short h in
+      let journal = journals-alike (k .table) (k .journal) words (k .head) depth n m small short h in
       let reply : s .reply ≡ t .reply = f .0 .0 ∙ (λ i. record { answer = answer i; head = head i }) ∙ sym (g .0 .0) in
       let tally : s .tally ≡ t .tally =
       f .1
-      ∙ ap (tallyAfter (k .tally) (k .head .checkpoint) (k .head .tip) (Reset (Load Image))) answer
+      ∙ ap (tallyAfter (k .tally) (k .head .checkpoint) (k .head .tip) (Reset (Load depth Image))) answer
       ∙ sym (g .1)
       in
       let tables : s .table ≡ t .table = f .2 ∙ table ∙ sym (g .2) in
       let journals : s .journal ≡ t .journal = f .3 ∙ journal ∙ sym (g .3) in
       (reply, λ i. record { tally = tally i; table = tables i; journal = journals i; head = reply i .head })
 
-module _ (m : Memory) (words : List ℕ) (n : ℕ) (map : List ℕ) (r q : Result) (small : n < 2 ^ 32) (short : length map < 2 ^ 16)
-    (h : Map map) (c : CallOfC m (loading words (loadOf Sheet (sheetOf n map))) r)
-    (d : CallOfC m (loading words (loadOf Image (imageOf n map))) q) where
+module _ (m : Memory) (depth : ℕ) (words : List ℕ) (n : ℕ) (map : List ℕ) (r q : Result) (small : n < 2 ^ 32) (short : length map < 2 ^ 16)
+    (h : Map map) (c : CallOfC m (loading words (loadOf depth Sheet (sheetOf n map))) r)
+    (d : CallOfC m (loading words (loadOf depth Image (imageOf n map))) q) where
   pub c-alike : (r .code ≡ q .code) × (r .memory ≡ q .memory)
   c-alike =
       let before = headOf (m .head) in
-      let answer = answers-alike (m .table) (m .journal) words before n map small short h in
-      let head = heads-alike (m .table) (m .journal) words before n map small short h in
+      let answer = answers-alike (m .table) (m .journal) words before depth n map small short h in
+      let head = heads-alike (m .table) (m .journal) words before depth n map small short h in
       let f = c .promise .0 in
       let g = d .promise .0 in
       let tables : r .memory .table ≡ q .memory .table =
-      f .1 ∙ tables-alike (m .table) (m .journal) words before n map small short h ∙ sym (g .1) in
+      f .1 ∙ tables-alike (m .table) (m .journal) words before depth n map small short h ∙ sym (g .1) in
       let journals : r .memory .journal ≡ q .memory .journal =
-      f .2 ∙ journals-alike (m .table) (m .journal) words before n map small short h ∙ sym (g .2) in
+      f .2 ∙ journals-alike (m .table) (m .journal) words before depth n map small short h ∙ sym (g .2) in
       let heads : r .memory .head ≡ q .memory .head =
       f .3 ∙ (λ i. cond (acceptedB (answer i)) (wordsOf (head i)) (m .head)) ∙ sym (g .3) in
       let tallies : r .memory .tally ≡ q .memory .tally =
       f .4
-      ∙ ap (λ (a : Answer). tallyWords (tallyAfter (tallyOf (m .tally)) (before .checkpoint) (before .tip) (Reset (Load Image)) a)) answer
+      ∙ ap (λ (a : Answer). tallyWords
+      (tallyAfter (tallyOf (m .tally)) (before .checkpoint) (before .tip) (Reset (Load depth Image)) a)) answer
       ∙ sym (g .4)
       in
       (f .0 ∙ ap (λ (a : Answer). codeOf (saidBy a)) answer ∙ sym (g .0), λ i. memoryIn (tables i) (journals i) (heads i) (tallies i))

@@ -182,51 +182,54 @@ module _ (format : Format) where
         ap₂ (λ (a : Answer) (b : List ℕ). take (valueIn (saidBy a)) b) (w .answer) (w .bytes)
         ∙ take-at file (drop (sizeFor format (mapAt k n)) out) (sizeFor format (mapAt k n)) (bytes-length format n (mapAt k n))
 
-    module _ (k′ : Carried) (words′ : List ℕ) (s′ : Seen) (loads : CallOfServe k′ (loading words′ (loadOf format (bytesLeft s))) s′) where
-      same : CallOfServe k′ (loading words′ (loadOf format file)) s′
-      same = subst (λ (b : List ℕ). CallOfServe k′ (loading words′ (loadOf format b)) s′) bytes-written loads
+    module _ (k′ : Carried) (depth : ℕ) (words′ : List ℕ) (s′ : Seen) (deep : depth ≤ 63)
+        (loads : CallOfServe k′ (loading words′ (loadOf depth format (bytesLeft s))) s′) where
+      same : CallOfServe k′ (loading words′ (loadOf depth format file)) s′
+      same = subst (λ (b : List ℕ). CallOfServe k′ (loading words′ (loadOf depth format b)) s′) bytes-written loads
 
       pub too-large : TooSmall k′ (mapAt k n) → saidBy (s′ .reply .answer) ≡ refused 16
       too-large small′ =
-          let e = written-too-large format (k .table) (k .journal) (k .head) n p held small (length (k′ .table)) (length (k′ .journal))
-          (small′ .range) (small′ .short) in
+          let e = written-too-large format (k .table) (k .journal) (k .head) n p held small (length (k′ .table))
+          (length (k′ .journal)) depth
+          (small′ .range) deep (small′ .short) in
           ap saidBy (ap (λ (r : Reply). r .answer) (same .0 .0) ∙ ap (λ (c : Check). answered c Accepted) e)
 
       module _ (h : Holds k′ (mapAt k n)) where
-        loads-check : loadCheck (k′ .table) (k′ .journal) format file ≡ Passed
+        loads-check : loadCheck (k′ .table) (k′ .journal) depth format file ≡ Passed
         loads-check =
-            written-loads format (k .table) (k .journal) (k .head) n p held small (length (k′ .table)) (length (k′ .journal)) (h .range)
-            (h .room)
+            written-loads format (k .table) (k .journal) (k .head) n p held small (length (k′ .table)) (length (k′ .journal)) depth
+            (h .range) deep (h .room)
 
-        loaded : Done (meant k′ (loading words′ (loadOf format file)) .accepted) s′
-        loaded = done k′ (loading words′ (loadOf format file)) s′ same loads-check
+        loaded : Done (meant k′ (loading words′ (loadOf depth format file)) .accepted) s′
+        loaded = done k′ (loading words′ (loadOf depth format file)) s′ same loads-check
 
-        pub as-written : (acceptedB (s′ .reply .answer) ≡ true) × IsLoaded k′ (handed s′) (mapAt k n) n
+        pub as-written : (acceptedB (s′ .reply .answer) ≡ true) × IsLoaded k′ (handed s′) (mapAt k n) n depth
         as-written =
             let back = reads-back format p held small in (
               ap acceptedB (loaded .answer),
               record {
                 table = loaded .table ∙ ap (padded (length (k′ .table))) (back .2);
                 journal = loaded .journal;
-                head = loaded .head ∙ ap₂ freshHead (ap length (back .2)) (back .1);
+                head = loaded .head ∙ ap₂ (λ (used number : ℕ). freshHead used number depth) (ap length (back .2)) (back .1);
               },
             )
 
-  module _ (k : Carried) (bytes : List ℕ) (s : Seen) (small : All Byte bytes) (loads : Loads k (loadOf format bytes) s) where
-    load-check : loadCheck (k .table) (k .journal) format bytes ≡ Passed
-    load-check = passed k (loading (loads .words) (loadOf format bytes)) s (loads .serves) (loads .accepted)
+  module _ (k : Carried) (depth : ℕ) (bytes : List ℕ) (s : Seen) (small : All Byte bytes)
+      (loads : Loads k (loadOf depth format bytes) s) where
+    load-check : loadCheck (k .table) (k .journal) depth format bytes ≡ Passed
+    load-check = passed k (loading (loads .words) (loadOf depth format bytes)) s (loads .serves) (loads .accepted)
 
     abbrev T : List ℕ
-    T = loadTable (k .table) (k .journal) format bytes
+    T = loadTable (k .table) (k .journal) depth format bytes
 
     abbrev J : List ℕ
-    J = loadJournal (k .table) (k .journal) format bytes
+    J = loadJournal (k .table) (k .journal) depth format bytes
 
     abbrev H : Head
-    H = loadHead (k .table) (k .journal) format bytes (k .head)
+    H = loadHead (k .table) (k .journal) depth format bytes (k .head)
 
-    left : Done (meant k (loading (loads .words) (loadOf format bytes)) .accepted) s
-    left = done k (loading (loads .words) (loadOf format bytes)) s (loads .serves) load-check
+    left : Done (meant k (loading (loads .words) (loadOf depth format bytes)) .accepted) s
+    left = done k (loading (loads .words) (loadOf depth format bytes)) s (loads .serves) load-check
 
     table-is : s .table ≡ T
     table-is = left .table ∙ sym (new-is load-check (padded (length (k .table)) (formatMap format bytes)) (k .table))
@@ -235,24 +238,24 @@ module _ (format : Format) where
     journal-is = left .journal ∙ sym (new-is load-check (replicate (length (k .journal)) 0) (k .journal))
 
     head-is : s .reply .head ≡ H
-    head-is = left .head ∙ sym (new-is load-check (freshHead (length (formatMap format bytes)) (numberIn bytes)) (k .head))
+    head-is = left .head ∙ sym (new-is load-check (freshHead (length (formatMap format bytes)) (numberIn bytes) depth) (k .head))
 
     module _ (words out : List ℕ) (s′ : Seen) (room : length bytes ≤ length out)
         (serves : CallOfServe (handed s) (writing format noState words out) s′) where
       write-check : checkAt (handed s) (s .reply .head .tip) (length out) ≡ Passed
       write-check =
           (λ i. writeCheck format (table-is i) (journal-is i) (head-is i) (head-is i .tip) (length out))
-          ∙ load-then-write format (k .table) (k .journal) bytes out (k .head) small load-check room
+          ∙ load-then-write format (k .table) (k .journal) bytes out depth (k .head) small load-check room
 
       pub written-back : (saidBy (s′ .reply .answer) ≡ accepted (length bytes)) × (s′ .bytes ≡ bytes ++ drop (length bytes) out)
       written-back = (
         ap saidBy
             (answer-by (handed s) noState words out s′ serves
             ∙ (λ i. writeAnswer format (table-is i) (journal-is i) (head-is i) (head-is i .tip) (length out))
-            ∙ load-then-write-count format (k .table) (k .journal) bytes out (k .head) small load-check room),
+            ∙ load-then-write-count format (k .table) (k .journal) bytes out depth (k .head) small load-check room),
         wrote (handed s) noState words out s′ serves write-check .bytes
             ∙ (λ i. stateOver format (table-is i) (journal-is i) (head-is i) (head-is i .tip) out)
-            ∙ load-then-write-bytes format (k .table) (k .journal) bytes out (k .head) small load-check room,
+            ∙ load-then-write-bytes format (k .table) (k .journal) bytes out depth (k .head) small load-check room,
       )
 
   -- The same of the C functions.
@@ -298,66 +301,66 @@ module _ (format : Format) where
     bytes-c : take (r .value) (r .bytes) ≡ bytesLeft s
     bytes-c = ap₂ (λ (n : ℕ) (b : List ℕ). take n b) count-c (bytes-asked m words out r (queryFor format naming) (c .promise) fit)
 
-    module _ (m′ : Memory) (words′ : List ℕ) (r′ : Result)
-        (loads : CallOfC m′ (loading words′ (loadOf format (take (r .value) (r .bytes)))) r′) where
+    module _ (m′ : Memory) (depth : ℕ) (words′ : List ℕ) (r′ : Result) (deep : depth ≤ 63)
+        (loads : CallOfC m′ (loading words′ (loadOf depth format (take (r .value) (r .bytes)))) r′) where
       abbrev s′ : Seen
-      s′ = seenOf (carriedIn m′) (loading words′ (loadOf format (bytesLeft s)))
+      s′ = seenOf (carriedIn m′) (loading words′ (loadOf depth format (bytesLeft s)))
 
-      same-c : CallOfC m′ (loading words′ (loadOf format (bytesLeft s))) r′
-      same-c = subst (λ (b : List ℕ). CallOfC m′ (loading words′ (loadOf format b)) r′) bytes-c loads
+      same-c : CallOfC m′ (loading words′ (loadOf depth format (bytesLeft s))) r′
+      same-c = subst (λ (b : List ℕ). CallOfC m′ (loading words′ (loadOf depth format b)) r′) bytes-c loads
 
       code-s : r′ .code ≡ codeOf (saidBy (s′ .reply .answer))
-      code-s = code-is m′ words′ (bytesLeft s) r′ (Reset (Load format)) (same-c .promise) refl
+      code-s = code-is m′ words′ (bytesLeft s) r′ (Reset (Load depth format)) (same-c .promise) refl
 
       pub too-large-c : TooSmall (carriedIn m′) (mapAt k (namedAt k naming)) → r′ .code ≡ 16
       too-large-c t =
           code-s
           ∙ ap codeOf
           (too-large k naming words out s (serves-seen k (writing format naming words out)) accepted-c shape small-c
-          (carriedIn m′) words′ s′
-          (serves-seen (carriedIn m′) (loading words′ (loadOf format (bytesLeft s)))) t)
+          (carriedIn m′) depth words′ s′ deep
+          (serves-seen (carriedIn m′) (loading words′ (loadOf depth format (bytesLeft s)))) t)
 
       module _ (h : Holds (carriedIn m′) (mapAt k (namedAt k naming))) where
         loaded-c : (acceptedB (s′ .reply .answer) ≡ true)
-            × IsLoaded (carriedIn m′) (handed s′) (mapAt k (namedAt k naming)) (namedAt k naming)
+            × IsLoaded (carriedIn m′) (handed s′) (mapAt k (namedAt k naming)) (namedAt k naming) depth
         loaded-c =
             as-written k naming words out s (serves-seen k (writing format naming words out)) accepted-c shape small-c
-            (carriedIn m′) words′ s′
-            (serves-seen (carriedIn m′) (loading words′ (loadOf format (bytesLeft s)))) h
+            (carriedIn m′) depth words′ s′ deep
+            (serves-seen (carriedIn m′) (loading words′ (loadOf depth format (bytesLeft s)))) h
 
         code-c : r′ .code ≡ 0
         code-c =
-            let a = loading words′ (loadOf format (bytesLeft s)) in
+            let a = loading words′ (loadOf depth format (bytesLeft s)) in
             let d = done (carriedIn m′) a s′ (serves-seen (carriedIn m′) a)
             (passed (carriedIn m′) a s′ (serves-seen (carriedIn m′) a) (loaded-c .0)) in
             code-s ∙ ap (λ (x : Answer). codeOf (saidBy x)) (d .answer)
 
         pub as-written-c : (r′ .code ≡ 0)
-            × IsLoaded (carriedIn m′) (carriedIn (r′ .memory)) (mapAt k (namedAt k naming)) (namedAt k naming)
+            × IsLoaded (carriedIn m′) (carriedIn (r′ .memory)) (mapAt k (namedAt k naming)) (namedAt k naming) depth
         as-written-c =
-            let stands = stands-anew m′ (Load format) words′ (bytesLeft s) r′ same-c code-c in (
+            let stands = stands-anew m′ (Load depth format) words′ (bytesLeft s) r′ same-c code-c in (
               code-c,
-              subst (λ (x : Carried). IsLoaded (carriedIn m′) x (mapAt k (namedAt k naming)) (namedAt k naming))
-                  (next-is (carriedIn m′) (loading words′ (loadOf format (bytesLeft s)))
+              subst (λ (x : Carried). IsLoaded (carriedIn m′) x (mapAt k (namedAt k naming)) (namedAt k naming) depth)
+                  (next-is (carriedIn m′) (loading words′ (loadOf depth format (bytesLeft s)))
                   ∙ sym (carried-is (r′ .memory) _ stands)) (loaded-c .1),
             )
 
-  module _ (m : Memory) (bytes : List ℕ) (r : Result) (l : CLoads m (loadOf format bytes) r) where
+  module _ (m : Memory) (depth : ℕ) (bytes : List ℕ) (r : Result) (l : CLoads m (loadOf depth format bytes) r) where
     abbrev start : Carried
     start = carriedIn m
 
     abbrev loaded-seen : Seen
-    loaded-seen = seenOf start (loading (l .words) (loadOf format bytes))
+    loaded-seen = seenOf start (loading (l .words) (loadOf depth format bytes))
 
-    loads-c : Loads start (loadOf format bytes) loaded-seen
+    loads-c : Loads start (loadOf depth format bytes) loaded-seen
     loads-c = record {
       words = l .words;
-      serves = serves-seen start (loading (l .words) (loadOf format bytes));
-      accepted = accepted-anew m (Load format) (l .words) bytes r (l .serves) (l .accepted);
+      serves = serves-seen start (loading (l .words) (loadOf depth format bytes));
+      accepted = accepted-anew m (Load depth format) (l .words) bytes r (l .serves) (l .accepted);
     }
 
-    stands-c : StandsFor (r .memory) (next start (loading (l .words) (loadOf format bytes)))
-    stands-c = stands-anew m (Load format) (l .words) bytes r (l .serves) (l .accepted)
+    stands-c : StandsFor (r .memory) (next start (loading (l .words) (loadOf depth format bytes)))
+    stands-c = stands-anew m (Load depth format) (l .words) bytes r (l .serves) (l .accepted)
 
     module _ (words out : List ℕ) (r′ : Result) (room : length bytes ≤ length out)
         (c : CallOfC (r .memory) (writing format noState words out) r′) where
@@ -365,15 +368,15 @@ module _ (format : Format) where
       next-seen x = seenOf x (writing format noState words out)
 
       fit-back : headB (r .memory .head) ≡ true
-      fit-back = head-fits (r .memory) (next start (loading (l .words) (loadOf format bytes))) stands-c
+      fit-back = head-fits (r .memory) (next start (loading (l .words) (loadOf depth format bytes))) stands-c
 
       same-store : carriedIn (r .memory) ≡ handed loaded-seen
-      same-store = carried-is (r .memory) _ stands-c ∙ sym (next-is start (loading (l .words) (loadOf format bytes)))
+      same-store = carried-is (r .memory) _ stands-c ∙ sym (next-is start (loading (l .words) (loadOf depth format bytes)))
 
       said-back : (saidBy (next-seen (handed loaded-seen) .reply .answer) ≡ accepted (length bytes))
           × (next-seen (handed loaded-seen) .bytes ≡ bytes ++ drop (length bytes) out)
       said-back =
-          written-back start bytes loaded-seen (l .serves .all-bytes) loads-c words out (next-seen (handed loaded-seen)) room
+          written-back start depth bytes loaded-seen (l .serves .all-bytes) loads-c words out (next-seen (handed loaded-seen)) room
           (serves-seen (handed loaded-seen) (writing format noState words out))
 
       pub written-back-c : (r′ .code ≡ 0) × (r′ .value ≡ length bytes) × (r′ .bytes ≡ bytes ++ drop (length bytes) out)
@@ -393,12 +396,14 @@ module _ (format : Format) where
     refuses-other-states = λ k n words out s sound other serves. refuses-other k n words out s sound serves other;
     refuses-short-bytes = λ k n words out s sound low high short serves. refuses-short k n words out s sound serves low high short;
     no-state-is-the-tip = unnamed;
-    written-loads = λ k naming words out s serves y p small k′ words′ s′ h loads.
-        as-written k naming words out s serves y p small k′ words′ s′ loads h;
-    written-too-large = λ k naming words out s serves y p small k′ words′ s′ t loads.
-        too-large k naming words out s serves y p small k′ words′ s′ loads t;
+    written-loads = λ k naming words out s serves y p small k′ depth words′ s′ h deep loads.
+        as-written k naming words out s serves y p small k′ depth words′ s′ deep loads h;
+    written-too-large = λ k naming words out s serves y p small k′ depth words′ s′ t deep loads.
+        too-large k naming words out s serves y p small k′ depth words′ s′ deep loads t;
     loaded-writes-back = written-back;
-    c-written-loads = λ m naming words out r c e m′ words′ r′ h loads. as-written-c m naming words out r c e m′ words′ r′ loads h;
-    c-written-too-large = λ m naming words out r c e m′ words′ r′ t loads. too-large-c m naming words out r c e m′ words′ r′ loads t;
+    c-written-loads = λ m naming words out r c e m′ depth words′ r′ h deep loads.
+        as-written-c m naming words out r c e m′ depth words′ r′ deep loads h;
+    c-written-too-large = λ m naming words out r c e m′ depth words′ r′ t deep loads.
+        too-large-c m naming words out r c e m′ depth words′ r′ deep loads t;
     c-loaded-writes-back = written-back-c;
   }

@@ -88,7 +88,7 @@ module _ (m : Memory) (words bytes : List ℕ) (r : Result) where
   Promise (Read call) = ChangesStore (Read call)
   Promise (Ask query) = AnswersQuery query
 
--- A call of a C function: what the types of its parameters say, a head of 84 words, a tally of 3 words of 64 bits, bytes that are bytes;
+-- A call of a C function: what the types of its parameters say, a head of 85 words, a tally of 3 words of 64 bits, bytes that are bytes;
 -- and its promise.
 pub record CallOfC (m : Memory) (a : Asked) (r : Result) : Type 0 where
   pub head-words : length (m .head) ≡ headSize
@@ -124,7 +124,7 @@ lengthsC m = record { table = length (m .table); journal = length (m .journal) }
 -- the store is "just loaded from" the image, or the sheet
 pub record CLoads (m : Memory) (load : Load) (r : Result) : Type 0 where
   pub words : List ℕ
-  pub serves : CallOfC m (lending (Reset (LoadCall (load .format))) words (load .bytes)) r
+  pub serves : CallOfC m (lending (Reset (LoadCall (load .depth) (load .format))) words (load .bytes)) r
   pub accepted : r .code ≡ 0
 
 -- A C function on a store does what `serve` does on the head and the tally that its words hold: code, value and since when say the answer,

@@ -15,7 +15,7 @@ use Rattle.lent.specs.Codes.{codeOf, valueOf, sinceOf}
 use Rattle.lent.specs.Lent.{tallyWords}
 
 pub record CLayout : Type 0 where
-  -- the head: numbers in words 0 to 3, eight flags from 4 on, eight numbers from 12 on, 64 marks from 20 on
+  -- the head: numbers in words 0 to 3, eight flags from 4 on, eight numbers from 12 on, 64 marks from 20 on, the depth in word 84
   pub used : (head : Head) → getD (wordsOf head) 0 0 ≡ head .used
   pub oldest : (head : Head) → getD (wordsOf head) 1 0 ≡ head .oldest
   pub checkpoint : (head : Head) → getD (wordsOf head) 2 0 ≡ head .checkpoint
@@ -23,7 +23,8 @@ pub record CLayout : Type 0 where
   pub taken : (head : Head) → Fits head → from 4 8 (wordsOf head) ≡ map wordOf (head .taken)
   pub issued : (head : Head) → Fits head → from 12 8 (wordsOf head) ≡ head .issued
   pub ends : (head : Head) → Fits head → from 20 64 (wordsOf head) ≡ head .ends
-  pub size : (head : Head) → Fits head → length (wordsOf head) ≡ 84
+  pub depth : (head : Head) → Fits head → getD (wordsOf head) 84 0 ≡ head .depth
+  pub size : (head : Head) → Fits head → length (wordsOf head) ≡ 85
   -- the tally
   pub tally : (t : Tally) → tallyWords t ≡ t .committed ∷ t .«rolled_back» ∷ t .flushed ∷ []
   -- the callers: 0 is the desk, any other number the foyer

@@ -19,6 +19,7 @@ use Rattle.unit.specs.Carried.{Carried, Asked}
 use Rattle.lent.specs.Lent.{fitB}
 use Rattle.moments.specs.Batches.{batches as batchTable}
 use Rattle.moments.specs.Callers.{deskAndFoyer}
+use Rattle.moments.specs.Depths.{depths as depthTable}
 use Rattle.moments.specs.Images.{imagesOfStates}
 use Rattle.moments.specs.Moments.{computed, expected}
 use Rattle.moments.specs.Sheets.{sheetsOfStates}
@@ -27,6 +28,7 @@ use Rattle.moments.specs.Table.{twelve}
 use Rattle.conditions.specs.Batches.{Batches}
 use Rattle.conditions.specs.CCalls.{Memory, carriedIn, Result, CallOfC, AsServed}
 use Rattle.conditions.specs.CLayout.{CLayout}
+use Rattle.conditions.specs.Depths.{Depths}
 use Rattle.conditions.specs.Laws.{Laws}
 use Rattle.conditions.specs.Lookups.{Lookups}
 use Rattle.conditions.specs.Restarts.{Restarts}
@@ -53,6 +55,8 @@ pub record Condition2 : Type 0 where
   pub restarts : Restarts
   -- lookups: the price at the state named, or none, and since when
   pub lookups : Lookups
+  -- the depth that must stay
+  pub depths : Depths
   -- "A flush to the anchor changes nothing.", of a head whose arrays have their lengths and a tally of 64 bits, as their types have them
   pub flush-to-the-anchor : (k : Carried) (words bytes : List ℕ) (s : Seen) → Shaped (k .head) → Of64Bits (k .tally)
       → let flush = lending (Step (Flush (k .head .checkpoint))) words bytes in
@@ -68,9 +72,10 @@ pub record Condition2 : Type 0 where
   -- document 01's "Twelve moments at the counter", moment 10 as document 02 has it, by the definitions and by the table
   pub moments : map computed twelve ≡ map expected twelve
   -- and tables of what document 02 brought, desk and foyer and the images of states, of batches, sixteenths to the nearest unit first, of
-  -- lookups with since when, and of row sheets
+  -- lookups with since when, of row sheets, and of depths
   pub desk-and-foyer : map computed deskAndFoyer ≡ map expected deskAndFoyer
   pub images-of-states : map computed imagesOfStates ≡ map expected imagesOfStates
   pub batch-table : map computed batchTable ≡ map expected batchTable
   pub since-when : map computed sinceWhen ≡ map expected sinceWhen
   pub sheets-of-states : map computed sheetsOfStates ≡ map expected sheetsOfStates
+  pub depth-table : map computed depthTable ≡ map expected depthTable

@@ -8,8 +8,8 @@
 -- apart, their lookups' prices and forwarded reads are equal, one by one."
 --
 -- A run (Runs.antt) is of calls that keep the promise of the function that is called, from a load of an image or a sheet (document 02,
--- Q-5). The plain list (history/specs/Plain.antt) is given the lengths, the load and the calls' arguments, except a forward's read set,
--- and nothing of the unit's memory or head.
+-- Q-5) with a depth (Q-6). The plain list (history/specs/Plain.antt) is given the lengths, the load with its depth, and the calls'
+-- arguments, except a forward's read set, and nothing of the unit's memory or head.
 -- Assumes nothing.
 use mathlib.Core.Path.{_≡_}
 use mathlib.Core.List.{List, [], _∷_, _++_}
@@ -17,6 +17,7 @@ use Prim.Native.Nat.{ℕ}
 use lib.ListN.{length}
 use mathlib.Core.Bool.{true, cond}
 use Rattle.answers.specs.Answers.{When, priced as pricedBy, without, saidBy}
+use Rattle.answers.specs.declared.call.Format.{Format}
 use Rattle.answers.specs.declared.call.LookUp.{LookUp as Lookup}
 use Rattle.answers.specs.declared.call.Query.the-variants.{LookUp}
 use Rattle.layout.specs.Clauses.{lengthsB}
@@ -27,7 +28,8 @@ use Rattle.answers.specs.declared.call.Caller.{Caller}
 use Rattle.history.specs.Named.{Named, ask, Call, Response, Quote, priced, unpriced, quote, dated, responseTo}
 use Rattle.history.specs.Named.{calling, lookUp, issue, forward, release, flush}
 use Rattle.history.specs.Named.{compared, acceptedB, acceptedCalls, quoteIn, quotes}
-use Rattle.history.specs.Plain.{Load, loadChecked, loadedPlain}
+use Rattle.history.specs.Earlier.{earlierLoad, earlierResponses}
+use Rattle.history.specs.Plain.{Load, loadOf, loadChecked, loadedPlain}
 use Rattle.history.specs.Traces.{Asked as AskedIn3, plainResponses}
 use Rattle.conditions.specs.CCalls.{Memory, Result, CallOfC, CallOnStoreC, memoryAfter, tellsC, CLoads, lengthsC}
 use Rattle.conditions.specs.Runs.{Turn, Run3, responsesIn, callsIn}
@@ -45,14 +47,22 @@ module _ {M S : Type 0} (Does : M → Asked → S → Type 0) (left : S → M) (
       → responsesIn tells turns ≡ plainResponses (loadedPlain (lengths m) load) (callsIn turns)
 
   -- "where both stores accept the same calls in the same order, flushes apart, their lookups' prices and forwarded reads are equal, one
-  -- by one"
+  -- by one": each store has a depth of its own, which bars flushes alone
   abbrev pub QuotesAlike : Type 0
   QuotesAlike =
-      (m₁ m₂ : M) (load : Load) (loaded₁ loaded₂ : S) (turns₁ turns₂ : List (Turn AskedIn3 S))
-      → Loads m₁ load loaded₁ → Run3 Does left tells (left loaded₁) turns₁
-      → Loads m₂ load loaded₂ → Run3 Does left tells (left loaded₂) turns₂
+      (m₁ m₂ : M) (depth₁ depth₂ : ℕ) (format : Format) (bytes : List ℕ) (loaded₁ loaded₂ : S) (turns₁ turns₂ : List (Turn AskedIn3 S))
+      → Loads m₁ (loadOf depth₁ format bytes) loaded₁ → Run3 Does left tells (left loaded₁) turns₁
+      → Loads m₂ (loadOf depth₂ format bytes) loaded₂ → Run3 Does left tells (left loaded₂) turns₂
       → acceptedCalls (callsIn turns₁) (responsesIn tells turns₁) ≡ acceptedCalls (callsIn turns₂) (responsesIn tells turns₂)
       → quotes (responsesIn tells turns₁) ≡ quotes (responsesIn tells turns₂)
+
+  -- document 02, Q-6: "With depth 0 all earlier histories run as they did": after a load with depth 0 the answers are those of the plain
+  -- list without depth (history/specs/Earlier.antt)
+  abbrev pub RunsAsEarlier : Type 0
+  RunsAsEarlier =
+      (m : M) (format : Format) (bytes : List ℕ) (loaded : S) (turns : List (Turn AskedIn3 S))
+      → Loads m (loadOf 0 format bytes) loaded → Run3 Does left tells (left loaded) turns
+      → responsesIn tells turns ≡ earlierResponses (loadedPlain (lengths m) (loadOf 0 format bytes)) (callsIn turns)
 
 pub record Condition3 : Type 0 where
   -- "the same calls": "an image's bytes aren't compared", nor is who calls, and "flushes apart"
@@ -84,9 +94,14 @@ pub record Condition3 : Type 0 where
   pub c-loads-as-plain : (m : Memory) (words : List ℕ) (load : Load) (r : Result)
       → lengthsB (length (m .table)) (length (m .journal)) ≡ true → CallOfC m (loading words load) r
       → r .code ≡ codeOf (saidOf (loadChecked (lengthsC m) load))
+  -- with depth 0 that is the load as it was
+  pub depth-0-loads : (limits : Limits) (format : Format) (bytes : List ℕ)
+      → loadChecked limits (loadOf 0 format bytes) ≡ earlierLoad limits format bytes
   -- over runs of `serve`
   pub serve-answers-as-plain : AnswersAsPlain CallOnStore handed tells Loads lengthsIn
   pub serve-quotes-alike : QuotesAlike CallOnStore handed tells Loads lengthsIn
+  pub serve-runs-as-earlier : RunsAsEarlier CallOnStore handed tells Loads lengthsIn
   -- over runs of the C functions
   pub c-answers-as-plain : AnswersAsPlain CallOnStoreC memoryAfter tellsC CLoads lengthsC
   pub c-quotes-alike : QuotesAlike CallOnStoreC memoryAfter tellsC CLoads lengthsC
+  pub c-runs-as-earlier : RunsAsEarlier CallOnStoreC memoryAfter tellsC CLoads lengthsC

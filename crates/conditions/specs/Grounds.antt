@@ -21,18 +21,18 @@ use Rattle.answers.specs.Numbers.{numberOf}
 
 -- the highest number of a ground
 abbrev pub highest : ℕ
-highest = 19
+highest = 20
 
 abbrev pub ofReset : ResetCall → List ℕ
-ofReset Clear = 1 ∷ []
-ofReset (Load format) = 1 ∷ 15 ∷ 16 ∷ []
--- the image that it writes and loads is the checkpoint's, of a map that the table holds: 11, 15 and 16 cannot arise
+ofReset (Clear depth) = 1 ∷ 20 ∷ []
+ofReset (Load depth format) = 1 ∷ 20 ∷ 15 ∷ 16 ∷ []
+-- the image that it writes and loads is the checkpoint's, of a map that the table holds: 11, 15, 16 and 20 cannot arise
 ofReset Restart = 1 ∷ 2 ∷ 17 ∷ []
 
 abbrev pub ofStep : StepCall → List ℕ
 ofStep Commit = 1 ∷ 2 ∷ 6 ∷ 12 ∷ 13 ∷ 14 ∷ []
 ofStep (RollBack state) = 1 ∷ 2 ∷ 11 ∷ []
-ofStep (Flush state) = 1 ∷ 2 ∷ 11 ∷ 16 ∷ []
+ofStep (Flush state) = 1 ∷ 2 ∷ 11 ∷ 20 ∷ 16 ∷ []
 
 abbrev pub ofRead : ReadCall → List ℕ
 ofRead (Issue reader) = 1 ∷ 2 ∷ 3 ∷ 19 ∷ 4 ∷ 6 ∷ 18 ∷ []

@@ -4,6 +4,7 @@ pub mod CLayout
 pub mod Condition1
 pub mod Condition2
 pub mod Condition3
+pub mod Depths
 pub mod Grounds
 pub mod Laws
 pub mod Lookups

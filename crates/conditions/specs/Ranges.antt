@@ -1,5 +1,5 @@
--- The ends of the ranges at both sides: of lengths, lists, held steps, state numbers, places, what a caller has, states and looked-up
--- offers; and the largest count.
+-- The ends of the ranges at both sides: of lengths, lists, held steps, state numbers, places, what a caller has, states, looked-up offers,
+-- depths and what they bar; and the largest count.
 -- Assumes nothing.
 use mathlib.Core.Path.{_≡_}
 use mathlib.Core.Bool.{true, false}
@@ -17,7 +17,8 @@ use Rattle.commits.specs.Commit.{stepGrounds}
 use Rattle.lookups.specs.LookUp.{offerGrounds}
 use Rattle.slots.specs.Callers.{readerOf, longGrounds}
 use Rattle.slots.specs.Slots.{slotGrounds}
-use Rattle.soundness.specs.Checks.{stateGrounds}
+use Rattle.snapshot.specs.Snapshots.{freshGrounds}
+use Rattle.soundness.specs.Checks.{stateGrounds, targetGrounds}
 use Rattle.conditions.specs.Grounds.{firstNumber}
 
 pub record Ranges : Type 0 where
@@ -58,5 +59,16 @@ pub record Ranges : Type 0 where
   -- "a looked-up offer is 2^31 or more"
   pub offer-in-range : (offer : ℕ) → offer < 2 ^ 31 → firstNumber (offerGrounds offer) ≡ 0
   pub offer-too-high : (offer : ℕ) → 2 ^ 31 ≤ offer → firstNumber (offerGrounds offer) ≡ 6
+  -- "a depth from 0 to 63", and 20 is "a depth above 63"
+  pub depth-in-range : (table journal depth : ℕ) → lengthsB table journal ≡ true → depth ≤ 63
+      → firstNumber (freshGrounds table journal depth) ≡ 0
+  pub depth-too-high : (table journal depth : ℕ) → lengthsB table journal ≡ true → 64 ≤ depth
+      → firstNumber (freshGrounds table journal depth) ≡ 20
+  -- "A flush to a state other than the anchor may go no higher than tip − depth", of a kept state
+  pub flush-to-anchor : (head : Head) → head .checkpoint ≤ head .tip → firstNumber (targetGrounds head (head .checkpoint)) ≡ 0
+  pub flush-low-enough : (head : Head) (state : ℕ) → head .checkpoint ≤ state → state + head .depth ≤ head .tip
+      → firstNumber (targetGrounds head state) ≡ 0
+  pub flush-too-high : (head : Head) (state : ℕ) → head .checkpoint < state → state ≤ head .tip → head .tip < state + head .depth
+      → firstNumber (targetGrounds head state) ≡ 20
   -- "counts of 64 bits"
   pub largest-count : largest ≡ 2 ^ 64 - 1

@@ -21,10 +21,10 @@ pub record Restarts : Type 0 where
       → CallOfServe k (lending (Reset Restart) words out) s → CallOfServe k (writing Image (state (k .head .checkpoint)) words′ out) w
       → groundIn (saidBy (s .reply .answer)) ≡ groundIn (saidBy (w .reply .answer))
   -- and where it is accepted, the bytes are those that this writing leaves, and the store is the one that a load of the image leaves:
-  -- the table's own map, under the checkpoint's number
+  -- the table's own map, under the checkpoint's number, with the depth that it had (document 02, Q-6: "restart keeps it")
   pub restart-writes-and-loads : (k : Carried) (words out : List ℕ) (s : Seen)
       → CallOfServe k (lending (Reset Restart) words out) s → acceptedB (s .reply .answer) ≡ true → k .head .checkpoint < 2 ^ 32
       → ((words′ : List ℕ) (w : Seen) → CallOfServe k (writing Image (state (k .head .checkpoint)) words′ out) w
       → (acceptedB (w .reply .answer) ≡ true) × (s .bytes ≡ w .bytes))
       × (s .words ≡ words)
-      × IsLoaded k (handed s) (mapIn k) (k .head .checkpoint)
+      × IsLoaded k (handed s) (mapIn k) (k .head .checkpoint) (k .head .depth)

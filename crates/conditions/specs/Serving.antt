@@ -53,7 +53,7 @@ lengthsIn k = record { table = length (k .table); journal = length (k .journal) 
 
 -- an image or a sheet that is loaded into memory that holds anything; words are lent to every call, and a load has no use for them
 abbrev pub loading : List ℕ → Load → Asked
-loading words load = lending (Reset (LoadCall (load .format))) words (load .bytes)
+loading words load = lending (Reset (LoadCall (load .depth) (load .format))) words (load .bytes)
 
 -- what the plain list says of a load
 abbrev pub saidOf : Verdict → Said

@@ -42,10 +42,12 @@ pub record Sheets : Type 0 where
   -- "Each map with its number has exactly one sheet": it is one, and any bytes that are a sheet of that number and map are it
   pub one-sheet : (n : ℕ) (m : List ℕ) → n < 2 ^ 32 → Map m
       → Reads (sheetOf n m) n m × ((b : List ℕ) → Reads b n m → b ≡ sheetOf n m)
-  -- "sheet and image of a state load alike": into any memory, in answer, head, tally and all memory, accepted or refused
-  pub load-alike : (k : Carried) (words : List ℕ) (n : ℕ) (m : List ℕ) (s t : Seen) → n < 2 ^ 32 → length m < 2 ^ 16 → Map m
-      → CallOfServe k (loading words (loadOf Sheet (sheetOf n m))) s → CallOfServe k (loading words (loadOf Image (imageOf n m))) t
+  -- "sheet and image of a state load alike": into any memory with any depth, in answer, head, tally and all memory, accepted or refused
+  pub load-alike : (k : Carried) (depth : ℕ) (words : List ℕ) (n : ℕ) (m : List ℕ) (s t : Seen) → n < 2 ^ 32 → length m < 2 ^ 16 → Map m
+      → CallOfServe k (loading words (loadOf depth Sheet (sheetOf n m))) s
+      → CallOfServe k (loading words (loadOf depth Image (imageOf n m))) t
       → (s .reply ≡ t .reply) × (handed s ≡ handed t)
-  pub c-load-alike : (m : Memory) (words : List ℕ) (n : ℕ) (map : List ℕ) (r q : Result) → n < 2 ^ 32 → length map < 2 ^ 16 → Map map
-      → CallOfC m (loading words (loadOf Sheet (sheetOf n map))) r → CallOfC m (loading words (loadOf Image (imageOf n map))) q
+  pub c-load-alike : (m : Memory) (depth : ℕ) (words : List ℕ) (n : ℕ) (map : List ℕ) (r q : Result) → n < 2 ^ 32
+      → length map < 2 ^ 16 → Map map
+      → CallOfC m (loading words (loadOf depth Sheet (sheetOf n map))) r → CallOfC m (loading words (loadOf depth Image (imageOf n map))) q
       → (r .code ≡ q .code) × (r .memory ≡ q .memory)

@@ -72,11 +72,11 @@ pub record TooSmall (k : Carried) (map : List ℕ) : Type 0 where
   pub range : lengthsB (length (k .table)) (length (k .journal)) ≡ true
   pub short : length (k .table) < length map
 
--- the store that a load of this map and number leaves in memory of these lengths
-pub record IsLoaded (before after : Carried) (map : List ℕ) (number : ℕ) : Type 0 where
+-- the store that a load of this map and number with this depth leaves in memory of these lengths
+pub record IsLoaded (before after : Carried) (map : List ℕ) (number depth : ℕ) : Type 0 where
   pub table : after .table ≡ padded (length (before .table)) map
   pub journal : after .journal ≡ replicate (length (before .journal)) 0
-  pub head : after .head ≡ freshHead (length map) number
+  pub head : after .head ≡ freshHead (length map) number depth
 
 pub record Written (format : Format) : Type 0 where
   -- "Writing an image may now name any state from anchor to tip.", and "A state may hold more offers than the book; its image is still
@@ -98,39 +98,41 @@ pub record Written (format : Format) : Type 0 where
   -- "With no state named, the tip is now written": the answer and all that is left are those of the tip named
   pub no-state-is-the-tip : (k : Carried) (words out : List ℕ) (s t : Seen)
       → CallOfServe k (writing format noState words out) s → CallOfServe k (writing format (state (k .head .tip)) words out) t → s ≡ t
-  -- what an accepted call writes loads, "as the same map and state number": "An image that names a state loads as that state's map."
+  -- what an accepted call writes loads, with a depth from 0 to 63, "as the same map and state number": "An image that
+  -- names a state loads as that state's map."
   pub written-loads : (k : Carried) (naming : Naming) (words out : List ℕ) (s : Seen)
       → CallOfServe k (writing format naming words out) s → acceptedB (s .reply .answer) ≡ true
       → Shaped (k .head) → namedAt k naming < 2 ^ 32
-      → (k′ : Carried) (words′ : List ℕ) (s′ : Seen)
-      → Holds k′ (mapAt k (namedAt k naming)) → CallOfServe k′ (loading words′ (loadOf format (bytesLeft s))) s′
-      → (acceptedB (s′ .reply .answer) ≡ true) × IsLoaded k′ (handed s′) (mapAt k (namedAt k naming)) (namedAt k naming)
+      → (k′ : Carried) (depth : ℕ) (words′ : List ℕ) (s′ : Seen)
+      → Holds k′ (mapAt k (namedAt k naming)) → depth ≤ 63 → CallOfServe k′ (loading words′ (loadOf depth format (bytesLeft s))) s′
+      → (acceptedB (s′ .reply .answer) ≡ true) × IsLoaded k′ (handed s′) (mapAt k (namedAt k naming)) (namedAt k naming) depth
   -- "loading it elsewhere follows 16"
   pub written-too-large : (k : Carried) (naming : Naming) (words out : List ℕ) (s : Seen)
       → CallOfServe k (writing format naming words out) s → acceptedB (s .reply .answer) ≡ true
       → Shaped (k .head) → namedAt k naming < 2 ^ 32
-      → (k′ : Carried) (words′ : List ℕ) (s′ : Seen)
-      → TooSmall k′ (mapAt k (namedAt k naming)) → CallOfServe k′ (loading words′ (loadOf format (bytesLeft s))) s′
+      → (k′ : Carried) (depth : ℕ) (words′ : List ℕ) (s′ : Seen)
+      → TooSmall k′ (mapAt k (namedAt k naming)) → depth ≤ 63 → CallOfServe k′ (loading words′ (loadOf depth format (bytesLeft s))) s′
       → saidBy (s′ .reply .answer) ≡ refused 16
   -- what was loaded, from bytes below 256, is written back "byte for byte" into bytes that have room for it, and "bytes past it are
   -- unchanged"
-  pub loaded-writes-back : (k : Carried) (bytes : List ℕ) (s : Seen) → All Byte bytes → Loads k (loadOf format bytes) s
+  pub loaded-writes-back : (k : Carried) (depth : ℕ) (bytes : List ℕ) (s : Seen) → All Byte bytes → Loads k (loadOf depth format bytes) s
       → (words out : List ℕ) (s′ : Seen) → length bytes ≤ length out → CallOfServe (handed s) (writing format noState words out) s′
       → (saidBy (s′ .reply .answer) ≡ accepted (length bytes)) × (s′ .bytes ≡ bytes ++ drop (length bytes) out)
   -- those on loading and writing back of the C functions, of the bytes that the one leaves and the other is lent; the others are as
   -- `serve` has them
   pub c-written-loads : (m : Memory) (naming : Naming) (words out : List ℕ) (r : Result)
       → CallOfC m (writing format naming words out) r → r .code ≡ 0
-      → (m′ : Memory) (words′ : List ℕ) (r′ : Result)
-      → Holds (carriedIn m′) (mapAt (carriedIn m) (namedAt (carriedIn m) naming))
-      → CallOfC m′ (loading words′ (loadOf format (take (r .value) (r .bytes)))) r′
+      → (m′ : Memory) (depth : ℕ) (words′ : List ℕ) (r′ : Result)
+      → Holds (carriedIn m′) (mapAt (carriedIn m) (namedAt (carriedIn m) naming)) → depth ≤ 63
+      → CallOfC m′ (loading words′ (loadOf depth format (take (r .value) (r .bytes)))) r′
       → (r′ .code ≡ 0)
-      × IsLoaded (carriedIn m′) (carriedIn (r′ .memory)) (mapAt (carriedIn m) (namedAt (carriedIn m) naming)) (namedAt (carriedIn m) naming)
+      × IsLoaded (carriedIn m′) (carriedIn (r′ .memory)) (mapAt (carriedIn m) (namedAt (carriedIn m) naming))
+      (namedAt (carriedIn m) naming) depth
   pub c-written-too-large : (m : Memory) (naming : Naming) (words out : List ℕ) (r : Result)
       → CallOfC m (writing format naming words out) r → r .code ≡ 0
-      → (m′ : Memory) (words′ : List ℕ) (r′ : Result)
-      → TooSmall (carriedIn m′) (mapAt (carriedIn m) (namedAt (carriedIn m) naming))
-      → CallOfC m′ (loading words′ (loadOf format (take (r .value) (r .bytes)))) r′ → r′ .code ≡ 16
-  pub c-loaded-writes-back : (m : Memory) (bytes : List ℕ) (r : Result) → CLoads m (loadOf format bytes) r
+      → (m′ : Memory) (depth : ℕ) (words′ : List ℕ) (r′ : Result)
+      → TooSmall (carriedIn m′) (mapAt (carriedIn m) (namedAt (carriedIn m) naming)) → depth ≤ 63
+      → CallOfC m′ (loading words′ (loadOf depth format (take (r .value) (r .bytes)))) r′ → r′ .code ≡ 16
+  pub c-loaded-writes-back : (m : Memory) (depth : ℕ) (bytes : List ℕ) (r : Result) → CLoads m (loadOf depth format bytes) r
       → (words out : List ℕ) (r′ : Result) → length bytes ≤ length out → CallOfC (r .memory) (writing format noState words out) r′
       → (r′ .code ≡ 0) × (r′ .value ≡ length bytes) × (r′ .bytes ≡ bytes ++ drop (length bytes) out)

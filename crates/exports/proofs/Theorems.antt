@@ -4,11 +4,11 @@
 -- contracts of load and write cite.
 -- Assumes nothing.
 use mathlib.Core.Path.{_≡_, refl, sym, ap, ap₂, subst, _∙_}
-use mathlib.Core.Bool.{true}
+use mathlib.Core.Bool.{true, not}
 use mathlib.Core.List.{List, _++_}
 use Prim.Native.Nat.{ℕ, _-_, _^_, _≤_, _<_}
 use native.Mathlib.Omega.{arith}
-use borrow.Author.Tests.{lt-ltb, le-ltb, not-false}
+use borrow.Author.Tests.{lt-ltb, le-ltb, le-leb, not-false}
 use lib.ListN.{length, take, drop, replicate, length-replicate}
 use lib.Seq.{take-at}
 use Rattle.changes.specs.Lists.{All}
@@ -50,50 +50,55 @@ module _ (format : Format) (table journal : List ℕ) (head : Head) (state : ℕ
   abbrev bytes : List ℕ
   bytes = stateBytes format table journal head state
 
-  pub written-loads : (table′ journal′ : ℕ) → lengthsB table′ journal′ ≡ true → length (mapHere table journal head state) ≤ table′
-      → first (loadGrounds table′ journal′ format bytes) ≡ Passed
-  written-loads table′ journal′ l room =
+  pub written-loads : (table′ journal′ depth : ℕ) → lengthsB table′ journal′ ≡ true → depth ≤ 63
+      → length (mapHere table journal head state) ≤ table′
+      → first (loadGrounds table′ journal′ depth format bytes) ≡ Passed
+  written-loads table′ journal′ depth l deep room =
       first-not _ _ _ (rw l)
+      ∙ first-not _ _ _ (ap not (le-leb depth 63 deep))
       ∙ first-not _ _ _ (rw (reads-back format p h small .0))
       ∙ first-not _ _ _ (le-ltb table′ (length (mapIn format bytes)) (omega (arith, ap length (reads-back format p h small .2))))
       ∙ none-met
 
   -- and where the table is too small it is turned away by 16
-  pub written-too-large : (table′ journal′ : ℕ) → lengthsB table′ journal′ ≡ true → table′ < length (mapHere table journal head state)
-      → first (loadGrounds table′ journal′ format bytes) ≡ Refused TableFull
-  written-too-large table′ journal′ l short =
+  pub written-too-large : (table′ journal′ depth : ℕ) → lengthsB table′ journal′ ≡ true → depth ≤ 63 → table′
+      < length (mapHere table journal head state)
+      → first (loadGrounds table′ journal′ depth format bytes) ≡ Refused TableFull
+  written-too-large table′ journal′ depth l deep short =
       first-not _ _ _ (rw l)
+      ∙ first-not _ _ _ (ap not (le-leb depth 63 deep))
       ∙ first-not _ _ _ (rw (reads-back format p h small .0))
       ∙ first-met _ _ _ (lt-ltb table′ (length (mapIn format bytes)) (omega (arith, ap length (reads-back format p h small .2))))
 
 -- bytes that were accepted are written back byte for byte
-pub loaded-writes-back : (format : Format) (table journal bytes : List ℕ) → All Byte bytes → loadCheck table journal format bytes ≡ Passed
+pub loaded-writes-back : (format : Format) (table journal bytes : List ℕ) (depth : ℕ) → All Byte bytes
+    → loadCheck table journal depth format bytes ≡ Passed
     → bytesFor format (numberIn bytes) (mapIn format bytes) ≡ bytes
-loaded-writes-back format table journal bytes b e =
-    accepted-writes-back format bytes b (load-ok (length table) (length journal) format bytes e .is)
+loaded-writes-back format table journal bytes depth b e =
+    accepted-writes-back format bytes b (load-ok (length table) (length journal) depth format bytes e .is)
 
 -- The same through the calls. After an accepted load the loaded state is checkpoint and tip. Writing it in the same format
 -- into bytes that hold it is accepted, gives the length of what was loaded, and leaves the same bytes at their start.
-module _ (format : Format) (table journal bytes out : List ℕ) (head : Head) (small : All Byte bytes)
-    (e : loadCheck table journal format bytes ≡ Passed)
+module _ (format : Format) (table journal bytes out : List ℕ) (depth : ℕ) (head : Head) (small : All Byte bytes)
+    (e : loadCheck table journal depth format bytes ≡ Passed)
     (room : length bytes ≤ length out) where
   abbrev T : List ℕ
-  T = loadTable table journal format bytes
+  T = loadTable table journal depth format bytes
 
   abbrev J : List ℕ
-  J = loadJournal table journal format bytes
+  J = loadJournal table journal depth format bytes
 
   abbrev H : Head
-  H = loadHead table journal format bytes head
+  H = loadHead table journal depth format bytes head
 
-  ok : LoadOk (length table) (length journal) format bytes
-  ok = load-ok (length table) (length journal) format bytes e
+  ok : LoadOk (length table) (length journal) depth format bytes
+  ok = load-ok (length table) (length journal) depth format bytes e
 
   abbrev made : Store
   made = record {
     table = padded (length table) (mapIn format bytes);
     journal = replicate (length journal) 0;
-    head = freshHead (length (mapIn format bytes)) (numberIn bytes);
+    head = freshHead (length (mapIn format bytes)) (numberIn bytes) depth;
   }
 
   left-is : record { table = T; journal = J; head = H } ≡ made
@@ -104,7 +109,7 @@ module _ (format : Format) (table journal bytes out : List ℕ) (head : Head) (s
         head = new-is e (made .head) head i;
       }
 
-  head-is : H ≡ freshHead (length (mapIn format bytes)) (numberIn bytes)
+  head-is : H ≡ freshHead (length (mapIn format bytes)) (numberIn bytes) depth
   head-is = ap (λ (s : Store). s .head) left-is
 
   used-is : H .used ≡ length (mapIn format bytes)
@@ -121,7 +126,7 @@ module _ (format : Format) (table journal bytes out : List ℕ) (head : Head) (s
 
   shape : Shaped H
   unfolding freshHead
-  shape = subst Shaped (sym head-is) (shaped (freshHead (length (mapIn format bytes)) (numberIn bytes)) refl refl refl)
+  shape = subst Shaped (sym head-is) (shaped (freshHead (length (mapIn format bytes)) (numberIn bytes) depth) refl refl refl)
 
   lengths : lengthsB (length T) (length J) ≡ true
   lengths =
@@ -134,7 +139,7 @@ module _ (format : Format) (table journal bytes out : List ℕ) (head : Head) (s
   sound =
       facts-sound _ _ _
       (subst (λ (s : Store). Sound (s .table) (s .journal) (s .head)) (sym left-is)
-      (encodes-sound (load-leaves table journal format bytes e)))
+      (encodes-sound (load-leaves table journal depth format bytes e)))
 
   held : HeldState T J H (H .tip)
   held = record { lengths = lengths; sound = sound; low = omega (arith, checkpoint-is); high = omega arith }
@@ -147,14 +152,14 @@ module _ (format : Format) (table journal bytes out : List ℕ) (head : Head) (s
 
   bytes-are : stateBytes format T J H (H .tip) ≡ bytes
   unfolding stateBytes
-  bytes-are = ap₂ (bytesFor format) tip-is map-back ∙ loaded-writes-back format table journal bytes small e
+  bytes-are = ap₂ (bytesFor format) tip-is map-back ∙ loaded-writes-back format table journal bytes depth small e
 
   size-is : stateSize format T J H (H .tip) ≡ length bytes
   unfolding stateSize
   size-is =
       ap (sizeFor format) map-back
       ∙ sym (bytes-length format (numberIn bytes) (mapIn format bytes))
-      ∙ ap length (loaded-writes-back format table journal bytes small e)
+      ∙ ap length (loaded-writes-back format table journal bytes depth small e)
 
   pub load-then-write : writeCheck format T J H (H .tip) (length out) ≡ Passed
   load-then-write = held-passes format T J H (H .tip) out held (length out) (omega (arith, size-is))

@@ -1,7 +1,7 @@
 -- What a flush knows of its memory when the map is worked out and when it is accepted, and what it leaves.
 -- Assumes nothing.
 use mathlib.Core.Path.{_≡_, refl, sym, ap, _∙_}
-use mathlib.Core.Bool.{Bool, true, cond}
+use mathlib.Core.Bool.{Bool, true, false, cond}
 use mathlib.Core.List.{List, [], _∷_, _++_, append-assoc}
 use Prim.Native.Nat.{ℕ, _+_, _-_, _≤_, _<_, max}
 use native.Mathlib.Decide.{decLt}
@@ -19,7 +19,7 @@ use Rattle.answers.specs.declared.ground.Ground.{Ground}
 use Rattle.answers.specs.declared.ground.Ground.the-variants.{TableFull}
 use Rattle.answers.specs.First.{met, first}
 use Rattle.answers.specs.Answers.{Gives, answered}
-use Rattle.answers.proofs.Firsts.{passed-not, first-met, first-not, none-met, first-stops}
+use Rattle.answers.proofs.Firsts.{passed-not, passed-parts, first-met, first-not, none-met, first-stops}
 use Rattle.answers.proofs.Counted.{TurnedAway}
 use Rattle.answers.proofs.Firsts.{gives, gives-passed, if-refused, if-passed}
 use Rattle.layout.specs.declared.head.Head.{Head}
@@ -31,13 +31,14 @@ use Rattle.views.specs.Trim.{Trimmable, trimmedHead, trimmedJournal}
 use Rattle.views.specs.View.{padded, Shaped}
 use Rattle.views.proofs.SlotLists.{least-up-to, least-later}
 use Rattle.views.proofs.SoundFacts.{used-long, sound-marked}
-use Rattle.soundness.specs.Checks.{storeGrounds, stateGrounds}
+use Rattle.soundness.specs.Checks.{storeGrounds, stateGrounds, barredB, targetGrounds}
 use Rattle.soundness.proofs.Passed.{store-passed, state-passed}
 use Rattle.soundness.proofs.Sounds.{Sound}
 use Rattle.state_maps.specs.Held.{HeldState, wordsTo}
-use Rattle.state_maps.proofs.MapSizes.{past-held, map-here, size-here}
+use Rattle.state_maps.proofs.MapSizes.{held-known, past-held, map-here, size-here}
 use Rattle.state_maps.proofs.Working.{StateFacts}
-use Rattle.flushes.specs.Flush.{flushCheck, flushSize, tableAt, flushHead, flushTable, flushJournal, flushedHead}
+use Rattle.flushes.specs.Flush.{flushCheck, flushSize, tableAt, flushHead, flushTable}
+use Rattle.flushes.specs.Flush.{flushJournal, flushedHead}
 
 module _ (table journal : List ℕ) (head : Head) (state : ℕ) where
   -- the map at the state has no room in the table, or has it
@@ -56,17 +57,27 @@ module _ (table journal : List ℕ) (head : Head) (state : ℕ) where
   turned-away : {g : Ground} → flushCheck table journal head state ≡ Refused g → Moves (Away g) table
   turned-away e = (sym (ap (λ (o : Check). answered o (Count (length (mapHere table journal head state)))) e), if-refused e _ _)
 
+  -- the store holds the state, and a flush to it is not barred
+  pub record Target : Type 0 where
+    pub held : HeldState table journal head state
+    pub free : barredB head state ≡ false
+
   -- the check of the store and the state: what is done where it finds a ground, and what is known where it finds none
-  module _ {check : Check} (e : check ≡ first (storeGrounds table journal head ++ stateGrounds head state)) where
-    pub held-not : {g : Ground} → check ≡ Refused g → Moves (Away g) table
-    held-not d = turned-away (first-stops (storeGrounds table journal head ++ stateGrounds head state) _ (sym e ∙ d))
+  module _ {check : Check} (e : check ≡ first (storeGrounds table journal head ++ targetGrounds head state)) where
+    pub target-not : {g : Ground} → check ≡ Refused g → Moves (Away g) table
+    target-not d = turned-away (first-stops (storeGrounds table journal head ++ targetGrounds head state) _ (sym e ∙ d))
+
+    pub target-known : check ≡ Passed → Target
+    target-known d =
+        let parts = passed-parts (storeGrounds table journal head ++ stateGrounds head state) _ (sym e ∙ d) in
+        record { held = held-known table journal head state (sym (parts .0)) refl; free = passed-not _ _ _ (parts .1) .0 }
 
   -- and where none is met but perhaps ground 16
-  module _ (h : HeldState table journal head state) {size : ℕ} {made : List ℕ} (es : size ≡ length (mapHere table journal head state))
+  module _ (h : Target) {size : ℕ} {made : List ℕ} (es : size ≡ length (mapHere table journal head state))
       (em : made ≡ tableAt table journal head state) where
     but-room : flushCheck table journal head state
         ≡ first (met (ltb (length table) (length (mapHere table journal head state))) TableFull ∷ [])
-    but-room = past-held h _
+    but-room = past-held (h .held) _ ∙ first-not _ _ _ (h .free)
 
     pub no-room : length table < size → Moves (Away TableFull) made
     no-room l =
@@ -118,6 +129,7 @@ pub record FlushOk (table journal : List ℕ) (head : Head) (state : ℕ) : Type
   pub sound : Sound table journal head
   pub low : head .checkpoint ≤ state
   pub high : state ≤ head .tip
+  pub free : barredB head state ≡ false
   pub fits : length (mapHere table journal head state) ≤ length table
 
 pub flush-ok : (table journal : List ℕ) (head : Head) (state : ℕ) → flushCheck table journal head state ≡ Passed
@@ -125,12 +137,14 @@ pub flush-ok : (table journal : List ℕ) (head : Head) (state : ℕ) → flushC
 flush-ok table journal head state e =
     let a = store-passed table journal head _ e in
     let b = state-passed head state _ (a .1) in
-    let c = passed-not _ _ _ (b .1) in
+    let d = passed-not _ _ _ (b .1) in
+    let c = passed-not _ _ _ (d .1) in
     record {
       range = a .0 .range;
       sound = a .0 .sound;
       low = b .0 .0;
       high = b .0 .1;
+      free = d .0;
       fits = ltb-false (length table) (length (mapHere table journal head state)) (c .0);
     }
 

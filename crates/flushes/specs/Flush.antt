@@ -15,16 +15,16 @@ use Rattle.answers.specs.First.{Test, met, first, ifPassed}
 use Rattle.layout.specs.declared.head.Head.{Head}
 use Rattle.layout.specs.Heads.{withTable}
 use Rattle.layout.specs.States.{mapHere}
-use Rattle.soundness.specs.Checks.{storeGrounds, stateGrounds}
+use Rattle.soundness.specs.Checks.{storeGrounds, targetGrounds}
 use Rattle.views.specs.Trim.{trimmedHead, trimmedJournal}
 use Rattle.views.specs.View.{padded}
 
--- grounds 1, 2, 11 ("below the anchor or above the tip"), 16 ("The map to be flushed or loaded has more offers than the book has
+-- grounds 1, 2, 11 ("below the anchor or above the tip"), 20, 16 ("The map to be flushed or loaded has more offers than the book has
 -- words"): only the map at the state named counts, not those on the way to it
 abbrev pub flushGrounds : List ℕ → List ℕ → Head → ℕ → List Test
 flushGrounds table journal head state =
     storeGrounds table journal head
-    ++ stateGrounds head state
+    ++ targetGrounds head state
     ++ (met (ltb (length table) (length (mapHere table journal head state))) TableFull ∷ [])
 
 abbrev pub flushCheck : List ℕ → List ℕ → Head → ℕ → Check

@@ -7,8 +7,8 @@ use layout::head::Head;
 use layout::head::JOURNAL_WORDS;
 use layout::head::MAP_WORDS;
 use layout::head::Reply;
-use soundness::state_check;
 use soundness::store_check;
+use soundness::target_check;
 use state_maps::map_at;
 use state_maps::sizes::FEW_USED;
 use state_maps::sizes::FEW_WORDS;
@@ -93,8 +93,8 @@ fn flush_table(table: &mut [u64], journal: &[u64], head: Head, state: u32) -> An
     if let Check::Refused(ground) = store {
         return Answer::Refused(ground);
     }
-    let range = state_check(head, state);
-    if let Check::Refused(ground) = range {
+    let target = target_check(head, state);
+    if let Check::Refused(ground) = target {
         return Answer::Refused(ground);
     }
     if head.tip == head.checkpoint {

@@ -6,8 +6,10 @@ use mathlib.Core.List.{List, [], _∷_, _++_, map, append-assoc, append-nil}
 use Prim.Native.Nat.{ℕ, zero, suc, _+_, _%_, _≤_, _<_}
 use native.Mathlib.Omega.{arith}
 use native.Mathlib.Nat.{mod-eq-of-lt, mod-lt}
+use borrow.Author.Tests.{ltb-true, lt-ltb}
+use lib.Dec.{ltb}
 use lib.ListN.{length, length-map, length-append, length-drop, getD, take, drop, take-append-drop, drop-of-length-le}
-use lib.Seq.{take-at, drop-at, drop-drop, length-take-le}
+use lib.Seq.{take-at, drop-at, drop-drop, getD-drop, length-take-le}
 use Rattle.layout.specs.declared.head.Head.{Head}
 use Rattle.layout.specs.Heads.{headWith}
 use Rattle.layout.proofs.Holds.{all-first, all-rest, first-holds, last-test}
@@ -74,6 +76,12 @@ module _ (w : List ℕ) (long : length w ≡ headSize) (e : headB w ≡ true) wh
       all-first (belowB markLimit (from 20 64 w)) _
       (all-rest (belowB limit (from 12 8 w)) _ (all-rest (belowB 2 (from 4 8 w)) _ (all-rest (belowB limit (from 1 3 w)) _ e)))
 
+  depth-fits : ltb (getD w 84 0) limit ≡ true
+  depth-fits =
+      all-first (ltb (getD w 84 0) limit) _
+      (all-rest (belowB markLimit (from 20 64 w)) _
+      (all-rest (belowB limit (from 12 8 w)) _ (all-rest (belowB 2 (from 4 8 w)) _ (all-rest (belowB limit (from 1 3 w)) _ e))))
+
   three : drop 1 w ≡ getD w 1 0 ∷ getD w 2 0 ∷ getD w 3 0 ∷ drop 4 w
   three =
       next w 1 (omega (arith, long))
@@ -102,32 +110,40 @@ module _ (w : List ℕ) (long : length w ≡ headSize) (e : headB w ≡ true) wh
   marks-back : map markIn (from 20 64 w) ≡ from 20 64 w
   marks-back = cut-back markLimit (from 20 64 w) marks-fit
 
-  arrays : map wordOf (map flagOf (from 4 8 w)) ++ (map numberIn (from 12 8 w) ++ (map markIn (from 20 64 w) ++ drop 84 w)) ≡ drop 4 w
+  depth-back : numberIn (getD w 84 0) ∷ drop 85 w ≡ drop 84 w
+  depth-back =
+      ap (λ (n : ℕ). n ∷ drop 85 w) (number-back (getD w 84 0) (ltb-true (getD w 84 0) limit depth-fits))
+      ∙ sym (next w 84 (omega (arith, long)))
+
+  arrays : map wordOf (map flagOf (from 4 8 w))
+      ++ (map numberIn (from 12 8 w) ++ (map markIn (from 20 64 w) ++ (numberIn (getD w 84 0) ∷ drop 85 w))) ≡ drop 4 w
   arrays =
       ap₂ _++_ (flag-words (from 4 8 w) flags-fit)
       (ap₂ _++_ (cut-back limit (from 12 8 w) issued-fit)
-      (ap₂ _++_ marks-back (sym (drop-drop 64 20 w)) ∙ take-append-drop 64 (drop 20 w) ∙ sym (drop-drop 8 12 w))
+      (ap₂ _++_ marks-back (depth-back ∙ sym (drop-drop 64 20 w)) ∙ take-append-drop 64 (drop 20 w) ∙ sym (drop-drop 8 12 w))
       ∙ take-append-drop 8 (drop 12 w)
       ∙ sym (drop-drop 8 4 w))
       ∙ take-append-drop 8 (drop 4 w)
 
   -- the fields that tell what a store holds, with the words behind
-  told-back : told (headOf w) ++ drop 84 w ≡ w
+  told-back : told (headOf w) ++ drop 85 w ≡ w
   told-back =
       let first = getD w 0 0 ∷ numberIn (getD w 1 0) ∷ numberIn (getD w 2 0) ∷ numberIn (getD w 3 0) ∷ [] in
       let flags = map wordOf (map flagOf (from 4 8 w)) in
       let issued = map numberIn (from 12 8 w) in
       let ends = map markIn (from 20 64 w) in
-      append-assoc (first ++ flags ++ issued) ends (drop 84 w)
-      ∙ append-assoc (first ++ flags) issued (ends ++ drop 84 w)
-      ∙ append-assoc first flags (issued ++ (ends ++ drop 84 w))
+      let end = numberIn (getD w 84 0) ∷ drop 85 w in
+      append-assoc (first ++ flags ++ issued ++ ends) (numberIn (getD w 84 0) ∷ []) (drop 85 w)
+      ∙ append-assoc (first ++ flags ++ issued) ends end
+      ∙ append-assoc (first ++ flags) issued (ends ++ end)
+      ∙ append-assoc first flags (issued ++ (ends ++ end))
       ∙ ap (λ (r : List ℕ). first ++ r) arrays
       ∙ numbers
 
   pub words-back : wordsOf (headOf w) ≡ w
   words-back =
       sym (append-nil (told (headOf w)))
-      ∙ ap (λ (r : List ℕ). told (headOf w) ++ r) (sym (drop-of-length-le w {i = 84} (omega (arith, long))))
+      ∙ ap (λ (r : List ℕ). told (headOf w) ++ r) (sym (drop-of-length-le w {i = 85} (omega (arith, long))))
       ∙ told-back
 
 -- a head whose fields fit comes back: the fields that tell what a store holds, read from their words, whatever comes behind
@@ -135,37 +151,47 @@ module _ (head : Head) (f : Fits head) (behind : List ℕ) where
   abbrev words : List ℕ
   words = told head ++ behind
 
+  abbrev end : List ℕ
+  end = head .depth ∷ behind
+
   flags-long : length (map wordOf (head .taken)) ≡ 8
   flags-long = length-map (head .taken) wordOf ∙ f .eight-taken
 
-  behind-four : drop 4 words ≡ map wordOf (head .taken) ++ (head .issued ++ (head .ends ++ behind))
+  behind-four : drop 4 words ≡ map wordOf (head .taken) ++ (head .issued ++ (head .ends ++ end))
   behind-four =
-      append-assoc (map wordOf (head .taken) ++ head .issued) (head .ends) behind
-      ∙ append-assoc (map wordOf (head .taken)) (head .issued) (head .ends ++ behind)
+      append-assoc (map wordOf (head .taken) ++ head .issued ++ head .ends) (head .depth ∷ []) behind
+      ∙ append-assoc (map wordOf (head .taken) ++ head .issued) (head .ends) end
+      ∙ append-assoc (map wordOf (head .taken)) (head .issued) (head .ends ++ end)
 
   taken-part : from 4 8 words ≡ map wordOf (head .taken)
-  taken-part = ap (take 8) behind-four ∙ take-at (map wordOf (head .taken)) (head .issued ++ (head .ends ++ behind)) 8 flags-long
+  taken-part = ap (take 8) behind-four ∙ take-at (map wordOf (head .taken)) (head .issued ++ (head .ends ++ end)) 8 flags-long
 
-  behind-twelve : drop 12 words ≡ head .issued ++ (head .ends ++ behind)
+  behind-twelve : drop 12 words ≡ head .issued ++ (head .ends ++ end)
   behind-twelve =
       sym (drop-drop 8 4 words) ∙ ap (drop 8) behind-four
-      ∙ drop-at (map wordOf (head .taken)) (head .issued ++ (head .ends ++ behind)) 8 flags-long
+      ∙ drop-at (map wordOf (head .taken)) (head .issued ++ (head .ends ++ end)) 8 flags-long
 
   issued-part : from 12 8 words ≡ head .issued
-  issued-part = ap (take 8) behind-twelve ∙ take-at (head .issued) (head .ends ++ behind) 8 (f .eight-issued)
+  issued-part = ap (take 8) behind-twelve ∙ take-at (head .issued) (head .ends ++ end) 8 (f .eight-issued)
 
-  behind-twenty : drop 20 words ≡ head .ends ++ behind
-  behind-twenty = sym (drop-drop 8 12 words) ∙ ap (drop 8) behind-twelve ∙ drop-at (head .issued) (head .ends ++ behind) 8 (f .eight-issued)
+  behind-twenty : drop 20 words ≡ head .ends ++ end
+  behind-twenty = sym (drop-drop 8 12 words) ∙ ap (drop 8) behind-twelve ∙ drop-at (head .issued) (head .ends ++ end) 8 (f .eight-issued)
 
   ends-part : from 20 64 words ≡ head .ends
-  ends-part = ap (take 64) behind-twenty ∙ take-at (head .ends) behind 64 (f .all-ends)
+  ends-part = ap (take 64) behind-twenty ∙ take-at (head .ends) end 64 (f .all-ends)
+
+  behind-ends : drop 84 words ≡ end
+  behind-ends = sym (drop-drop 64 20 words) ∙ ap (drop 64) behind-twenty ∙ drop-at (head .ends) end 64 (f .all-ends)
+
+  depth-part : getD words 84 0 ≡ head .depth
+  depth-part = sym (getD-drop 84 words 0 0) ∙ ap (λ (r : List ℕ). getD r 0 0) behind-ends
 
   -- the words of a field that stands behind these are found there
-  pub behind-told : drop 84 words ≡ behind
-  behind-told = sym (drop-drop 64 20 words) ∙ ap (drop 64) behind-twenty ∙ drop-at (head .ends) behind 64 (f .all-ends)
+  pub behind-told : drop 85 words ≡ behind
+  behind-told = sym (drop-drop 1 84 words) ∙ ap (drop 1) behind-ends
 
   pub told-read : headOf words ≡ headWith (headOf words) (head .used) (head .oldest) (head .checkpoint) (head .tip)
-      (head .taken) (head .issued) (head .ends)
+      (head .taken) (head .issued) (head .ends) (head .depth)
   told-read i =
       headWith (headOf words)
       (head .used)
@@ -175,6 +201,7 @@ module _ (head : Head) (f : Fits head) (behind : List ℕ) where
       ((ap (map flagOf) taken-part ∙ word-flags (head .taken)) i)
       ((ap (map numberIn) issued-part ∙ cut-back limit (head .issued) (f .issued-low)) i)
       ((ap (map markIn) ends-part ∙ cut-back markLimit (head .ends) (f .ends-low)) i)
+      ((ap numberIn depth-part ∙ number-back (head .depth) (f .depth-low)) i)
 
 pub head-back : (head : Head) → Fits head → headOf (wordsOf head) ≡ head
 head-back head f = ap headOf (sym (append-nil (wordsOf head))) ∙ told-read head f []
@@ -201,7 +228,10 @@ words-issued head f = ap (from 12 8) (sym (append-nil (wordsOf head))) ∙ issue
 pub words-ends : (head : Head) → Fits head → from 20 64 (wordsOf head) ≡ head .ends
 words-ends head f = ap (from 20 64) (sym (append-nil (wordsOf head))) ∙ ends-part head f []
 
--- a head whose fields fit has 84 words, which fit
+pub word-depth : (head : Head) → Fits head → getD (wordsOf head) 84 0 ≡ head .depth
+word-depth head f = ap (λ (r : List ℕ). getD r 84 0) (sym (append-nil (wordsOf head))) ∙ depth-part head f []
+
+-- a head whose fields fit has 85 words, which fit
 pub words-long : (head : Head) → Fits head → length (wordsOf head) ≡ headSize
 words-long head f =
     let first = head .used ∷ head .oldest ∷ head .checkpoint ∷ head .tip ∷ [] in
@@ -212,6 +242,7 @@ words-long head f =
       length-append (first ++ flags) (head .issued),
       length-append
           (first ++ flags ++ head .issued) (head .ends),
+      length-append (first ++ flags ++ head .issued ++ head .ends) (head .depth ∷ []),
       length-map (head .taken) wordOf,
       f .eight-taken,
       f .eight-issued,
@@ -232,11 +263,12 @@ head-words-fit head f =
     ∙ below-none limit)
     ∙ first-holds (belowB 2 (from 4 8 (wordsOf head))) _ (ap (belowB 2) (words-taken head f) ∙ flags-below (head .taken))
     ∙ first-holds (belowB limit (from 12 8 (wordsOf head))) _ (ap (belowB limit) (words-issued head f) ∙ f .issued-low)
-    ∙ last-test (belowB markLimit (from 20 64 (wordsOf head)))
-    ∙ ap (belowB markLimit) (words-ends head f)
-    ∙ f .ends-low
+    ∙ first-holds (belowB markLimit (from 20 64 (wordsOf head))) _ (ap (belowB markLimit) (words-ends head f) ∙ f .ends-low)
+    ∙ last-test (ltb (getD (wordsOf head) 84 0) limit)
+    ∙ ap (λ (n : ℕ). ltb n limit) (word-depth head f)
+    ∙ lt-ltb (head .depth) limit (f .depth-low)
 
--- whatever 84 words hold, the fields of the head that is read from them fit
+-- whatever 85 words hold, the fields of the head that is read from them fit
 cut-low : (bound : ℕ) → 0 < bound → (l : List ℕ) → belowB bound (map (λ w. w % bound) l) ≡ true
 cut-low bound h [] = below-none bound
 cut-low bound h (w ∷ l) = below-both bound (w % bound) (map (λ w. w % bound) l) (mod-lt w h) (cut-low bound h l)
@@ -254,4 +286,5 @@ words-fits w long = record {
   issued-low = cut-low limit (omega arith) (from 12 8 w);
   all-ends = length-map (from 20 64 w) markIn ∙ part-long w 20 64 (omega (arith, long));
   ends-low = cut-low markLimit (omega arith) (from 20 64 w);
+  depth-low = mod-lt (getD w 84 0) (omega arith);
 }

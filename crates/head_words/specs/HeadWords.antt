@@ -1,4 +1,4 @@
--- The head as a C program lends it: 84 words, which are used, oldest, checkpoint, tip, taken (8), issued (8) and ends (64).
+-- The head as a C program lends it: 85 words, which are used, oldest, checkpoint, tip, taken (8), issued (8), ends (64) and depth.
 -- Assumes nothing.
 use mathlib.Core.Path.{_≡_}
 use mathlib.Core.Bool.{Bool, true, cond, _&&_}
@@ -11,7 +11,7 @@ use Rattle.layout.specs.Tests.{allOf}
 
 -- how many words a head has
 abbrev pub headSize : ℕ
-headSize = 84
+headSize = 85
 
 -- 2^32
 abbrev pub limit : ℕ
@@ -51,6 +51,7 @@ headOf words =
       taken = map flagOf (from 4 8 words);
       issued = map numberIn (from 12 8 words);
       ends = map markIn (from 20 64 words);
+      depth = numberIn (getD words 84 0);
     }
 
 -- the words of a head
@@ -60,13 +61,15 @@ wordsOf head =
     ++ map wordOf (head .taken)
     ++ head .issued
     ++ head .ends
+    ++ (head .depth ∷ [])
 
 -- each word is below a number
 unfoldable pub belowB : ℕ → List ℕ → Bool
 belowB bound [] = true
 belowB bound (w ∷ words) = ltb w bound && belowB bound words
 
--- the words fit their fields: state numbers of 32 bits, flags of one, marks of 16 (that they are 84 is a fact of their type)
+-- the words fit their fields: state numbers and depth of 32 bits, flags of one, marks of 16 (that they are 85 is a fact of
+-- their type)
 abbrev pub headB : List ℕ → Bool
 headB words =
     allOf
@@ -74,6 +77,7 @@ headB words =
     ∷ belowB 2 (from 4 8 words)
     ∷ belowB limit (from 12 8 words)
     ∷ belowB markLimit (from 20 64 words)
+    ∷ ltb (getD words 84 0) limit
     ∷ [])
 
 -- a head whose fields fit their words
@@ -86,3 +90,4 @@ pub record Fits (head : Head) : Type 0 where
   pub issued-low : belowB limit (head .issued) ≡ true
   pub all-ends : length (head .ends) ≡ 64
   pub ends-low : belowB markLimit (head .ends) ≡ true
+  pub depth-low : head .depth < limit

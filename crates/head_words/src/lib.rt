@@ -1,4 +1,4 @@
-// The head of a store as 84 words, which a C program lends: whether words fit a head, the head that they hold, and a head put into them.
+// The head of a store as 85 words, which a C program lends: whether words fit a head, the head that they hold, and a head put into them.
 use layout::head::Head;
 ghost use mathlib.Core.Path.{_≡_};
 ghost use mathlib.Core.List.{map, _++_};
@@ -8,7 +8,7 @@ ghost use lib.ListN.{length, take, drop, set};
 ghost use Rattle.head_words.specs.HeadWords.{flagOf, wordOf, numberIn, markIn, headOf, wordsOf, belowB, headB};
 
 // How many words a head has.
-pub const HEAD_WORDS: usize = 84;
+pub const HEAD_WORDS: usize = 85;
 
 // 2^32
 const LIMIT: u64 = 4294967296;
@@ -43,7 +43,10 @@ pub fn is_head(words: &[u64; HEAD_WORDS]) -> bool
     if LIMIT <= joined(&all[12..20]) {
         return false;
     }
-    joined(&all[20..84]) < MARK_LIMIT
+    if MARK_LIMIT <= joined(&all[20..84]) {
+        return false;
+    }
+    words[84] < LIMIT
 }
 
 fn flags_of(words: &[u64]) -> [bool; 8]
@@ -98,6 +101,7 @@ pub fn unpack(words: &[u64; HEAD_WORDS]) -> Head
         taken: flags_of(&all[4..12]),
         issued: numbers_of(&all[12..20]),
         ends: ends_of(&all[20..84]),
+        depth: (words[84] % LIMIT) as u32,
     }
 }
 
@@ -142,10 +146,18 @@ fn put_ends(ends: &[u16], words: &mut [u64], at: usize)
     }
 }
 
-// Puts the numbers of a head into the first four words.
-fn put_first(used: usize, oldest: u32, checkpoint: u32, tip: u32, words: &mut [u64; HEAD_WORDS])
-    ensures { λ r. ⌜ now (words .exit) ≡ set (set (set (set (now (words .entry)) 0 used) 1 oldest) 2 checkpoint) 3 tip ⌝ }
+// Puts the numbers of a head into the first four words and the last.
+fn put_single(
+    used: usize,
+    oldest: u32,
+    checkpoint: u32,
+    tip: u32,
+    depth: u32,
+    words: &mut [u64; HEAD_WORDS],
+)
+    ensures { λ r. ⌜ now (words .exit) ≡ set (set (set (set (set (now (words .entry)) 84 depth) 0 used) 1 oldest) 2 checkpoint) 3 tip ⌝ }
 {
+    words[84] = depth as u64;
     words[0] = used as u64;
     words[1] = oldest as u64;
     words[2] = checkpoint as u64;
@@ -156,7 +168,14 @@ fn put_first(used: usize, oldest: u32, checkpoint: u32, tip: u32, words: &mut [u
 pub fn pack(head: Head, words: &mut [u64; HEAD_WORDS])
     ensures { λ r. ⌜ now (words .exit) ≡ wordsOf head ⌝ }
 {
-    put_first(head.used, head.oldest, head.checkpoint, head.tip, words);
+    put_single(
+        head.used,
+        head.oldest,
+        head.checkpoint,
+        head.tip,
+        head.depth,
+        words,
+    );
     put_flags(&head.taken, words, 4);
     put_numbers(&head.issued, words, 12);
     put_ends(&head.ends, words, 20);

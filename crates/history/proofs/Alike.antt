@@ -14,12 +14,13 @@ use Rattle.answers.specs.Answers.{When}
 use Rattle.answers.specs.declared.call.LookUp.{LookUp as Asked}
 use Rattle.answers.specs.declared.call.Query.the-variants.{LookUp, Write, WriteState}
 use Rattle.answers.specs.declared.call.Read.the-variants.{Issue, Forward, Release}
+use Rattle.answers.specs.declared.call.Format.{Format}
 use Rattle.answers.specs.declared.call.Step.the-variants.{Commit, RollBack, Flush}
 use Rattle.history.specs.Named.{Named, step, read, ask, Call, calling, priced, unpriced, brought, Response}
 use Rattle.history.specs.Named.{done, forwarded, acceptedCalls, quotes}
 use Rattle.history.specs.Plain.{Verdict, accept, refuse, responseBy, leftBy, Line, Place, closed, reading, Plain, mapAt}
 use Rattle.history.specs.Plain.{shown, quoted, sinceAt, offersIn, grown, cutAbove, withPlace, checked, stepped, answerTo, givenBy}
-use Rattle.history.specs.Plain.{given, changedBy, changed, Load, loadedPlain}
+use Rattle.history.specs.Plain.{given, changedBy, changed, loadOf, loadedPlain}
 use Rattle.history.specs.Traces.{plainResponses}
 
 -- what quotes are read from: the whole maps, and the offers of each place (none at a closed one)
@@ -27,13 +28,13 @@ record Sketch : Type 0 where
   line : Line
   offers : List (List ℕ)
 
--- a plain list without its checkpoint, its places' numbers and its lengths
+-- a plain list without its checkpoint, its places' numbers, its lengths and its depth
 abbrev sketchOf : Plain → Sketch
 sketchOf p = record { line = p .line; offers = map offersIn (p .places) }
 
 -- a plain list with the maps of a sketch; a query quotes from these alone
 abbrev drawn : Sketch → Plain
-drawn s = record { line = s .line; checkpoint = 0; places = []; limits = record { table = 0; journal = 0 } }
+drawn s = record { line = s .line; checkpoint = 0; places = []; limits = record { table = 0; journal = 0 }; depth = 0 }
 
 -- the offers of one place changed
 abbrev withOffers : Sketch → ℕ → List ℕ → Sketch
@@ -125,12 +126,16 @@ unfolding plainResponses quotes acceptedCalls again
 told-by-names p [] = refl
 told-by-names p (c ∷ calls) = transition calls (λ q. told-by-names q calls) p c (checked p c)
 
--- The traces start from the same sketch, whatever the lengths, so they quote the same where the names are.
-pub plain-alike : (limits₁ limits₂ : Limits) (load : Load) (calls₁ calls₂ : List Call)
-    → acceptedCalls calls₁ (plainResponses (loadedPlain limits₁ load) calls₁)
-    ≡ acceptedCalls calls₂ (plainResponses (loadedPlain limits₂ load) calls₂)
-    → quotes (plainResponses (loadedPlain limits₁ load) calls₁) ≡ quotes (plainResponses (loadedPlain limits₂ load) calls₂)
-plain-alike limits₁ limits₂ load calls₁ calls₂ same =
-    told-by-names (loadedPlain limits₁ load) calls₁
-    ∙ ap (λ (names : List Call). quotes (again (sketchOf (loadedPlain limits₁ load)) names)) same
-    ∙ sym (told-by-names (loadedPlain limits₂ load) calls₂)
+-- The traces start from the same sketch, whatever the lengths and the depths, so they quote the same where the names are.
+pub plain-alike : (limits₁ limits₂ : Limits) (depth₁ depth₂ : ℕ) (format : Format) (bytes : List ℕ) (calls₁ calls₂ : List Call)
+    → let load₁ = loadOf depth₁ format bytes in
+    let load₂ = loadOf depth₂ format bytes in
+    acceptedCalls calls₁ (plainResponses (loadedPlain limits₁ load₁) calls₁)
+    ≡ acceptedCalls calls₂ (plainResponses (loadedPlain limits₂ load₂) calls₂)
+    → quotes (plainResponses (loadedPlain limits₁ load₁) calls₁) ≡ quotes (plainResponses (loadedPlain limits₂ load₂) calls₂)
+plain-alike limits₁ limits₂ depth₁ depth₂ format bytes calls₁ calls₂ same =
+    let load₁ = loadOf depth₁ format bytes in
+    let load₂ = loadOf depth₂ format bytes in
+    told-by-names (loadedPlain limits₁ load₁) calls₁
+    ∙ ap (λ (names : List Call). quotes (again (sketchOf (loadedPlain limits₁ load₁)) names)) same
+    ∙ sym (told-by-names (loadedPlain limits₂ load₂) calls₂)

@@ -16,11 +16,11 @@ use Rattle.step_views.specs.StepViews.{flushedView}
 use Rattle.flushes.proofs.Flushing.{FlushOk, flush-ok}
 use Rattle.step_views.proofs.OnViews.{flush-leaves}
 use Rattle.history.specs.Named.{step, calling, done}
-use Rattle.history.specs.Plain.{Test, met, accept, firstOf, Plain, tipOf, checked, withCheckpoint, stateTests, stepTests}
+use Rattle.history.specs.Plain.{Test, met, accept, firstOf, Plain, tipOf, checked, withCheckpoint, stateTests, barredTests, stepTests}
 use Rattle.history.specs.Traces.{storeTransition}
 use Rattle.history.proofs.Stored.{storeOf, stored, verdictOf, verdict-of, accepted-done, transitionBy}
 use Rattle.history.proofs.Stored.{settle, view-back}
-use Rattle.history.proofs.Stored.{store-shaped, table-long, past-two, checkpoint-is, tip-is, state-same}
+use Rattle.history.proofs.Stored.{store-shaped, table-long, past-two, checkpoint-is, tip-is, state-same, barred-same}
 use Rattle.history.proofs.NamedStates.{only-last, within, map-same}
 use Rattle.history.proofs.Views.{viewOf, Fit, flush-view, floor-later}
 
@@ -38,10 +38,11 @@ module _ (p : Plain) (f : Fit p) (state : ℕ) where
   flush-checks =
       ap verdictOf (past-two p f _)
       ∙ verdict-of _
-      ∙ ap (λ (gs : List Test). firstOf (gs ++ (met (ltb (length T) (length (mapHere T J (s .head) state))) 16 ∷ [])))
-      (state-same p f state)
-      ∙ only-last (stateTests p state) _ _ 16
-      (λ a. let w = within p state a in ap₂ (λ (n : ℕ) (m : List ℕ). ltb n (length m)) (table-long p f) (map-same p f state (w .0) (w .1)))
+      ∙ ap₂ (λ (gs hs : List Test). firstOf (gs ++ hs ++ (met (ltb (length T) (length (mapHere T J (s .head) state))) 16 ∷ [])))
+      (state-same p f state) (barred-same p f state)
+      ∙ only-last (stateTests p state ++ barredTests p state) _ _ 16
+      (λ a. let w = within p state (barredTests p state) a in ap₂ (λ (n : ℕ) (m : List ℕ). ltb n (length m))
+      (table-long p f) (map-same p f state (w .0) (w .1)))
 
   abbrev flushed : Plain
   flushed = withCheckpoint p state

@@ -10,3 +10,4 @@ pub mod Following
 pub mod Outstanding
 pub mod Views
 pub mod WriteCall
+pub mod AsEarlier

@@ -24,8 +24,9 @@ only-last (met true m ∷ before) c d n h = refl
 only-last (met false m ∷ before) c d n h = only-last before c d n h
 
 -- a state that passed ground 11
-pub within : (p : Plain) (state : ℕ) → firstOf (stateTests p state) ≡ accept → (p .checkpoint ≤ state) × (state ≤ tipOf (p .line))
-within p state e =
+pub within : (p : Plain) (state : ℕ) (rest : List Test) → firstOf (stateTests p state ++ rest) ≡ accept
+    → (p .checkpoint ≤ state) × (state ≤ tipOf (p .line))
+within p state rest e =
     let a = accepted-not _ _ _ e in
     let b = accepted-not _ _ _ (a .1) in
     (ltb-false state (p .checkpoint) (a .0), ltb-false (tipOf (p .line)) state (b .0))
@@ -34,7 +35,7 @@ within p state e =
 pub map-same : (p : Plain) (f : Fit p) (state : ℕ) → p .checkpoint ≤ state → state ≤ tipOf (p .line)
     → mapHere (storeOf p .table) (storeOf p .journal) (storeOf p .head) state ≡ mapAt (p .line) state
 map-same p f state low high =
-    map-is (storeOf p .table) (storeOf p .journal) (storeOf p .head) (encoded-sound (freshHead 0 0) (viewOf p) (f .good)) state
+    map-is (storeOf p .table) (storeOf p .journal) (storeOf p .head) (encoded-sound (freshHead 0 0 0) (viewOf p) (f .good)) state
     (omega (arith, checkpoint-is p f)) (omega (arith, tip-is p f))
     ∙ ap (λ (v : View). viewMapAt v state) (view-back p f)
     ∙ view-map p f state low high

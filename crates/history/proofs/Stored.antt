@@ -1,11 +1,11 @@
 -- A store that follows a plain list: its memory is sound, and its numbers are those of the plain list.
 -- Assumes nothing.
 use mathlib.Core.Path.{_≡_, refl, sym, ap, ap₂, _∙_}
-use mathlib.Core.Bool.{Bool, true, false, not}
+use mathlib.Core.Bool.{Bool, true, false, not, _&&_}
 use mathlib.Core.List.{List, [], _∷_, map}
-use Prim.Native.Nat.{ℕ, _-_, _≤_}
+use Prim.Native.Nat.{ℕ, _+_, _-_, _≤_}
 use native.Mathlib.Omega.{arith}
-use lib.Dec.{ltb}
+use lib.Dec.{eqb, ltb}
 use lib.ListN.{length, getD}
 use Rattle.answers.specs.declared.answer.Check.{Check}
 use Rattle.answers.specs.declared.answer.Check.the-variants.{Passed, Refused}
@@ -26,25 +26,25 @@ use Rattle.calls.specs.Lent.{Left, Meaning, checkOf, settledBy}
 use Rattle.calls.specs.Meaning.{meaning}
 use Rattle.history.specs.Named.{unitCall, Call, Transition}
 use Rattle.history.specs.Plain.{Test as PlainTest, met as asked, Verdict, accept, refuse, firstOf, responseBy, leftBy}
-use Rattle.history.specs.Plain.{Plain, tipOf, heldLists, openAt, stateTests, checked, given, changed}
+use Rattle.history.specs.Plain.{Plain, tipOf, heldLists, openAt, stateTests, barredTests, checked, given, changed}
 use Rattle.history.specs.Traces.{lentWith, transitionOf, storeTransition}
 use Rattle.history.proofs.Lines.{between-length}
 use Rattle.history.proofs.Views.{viewOf, Fit, floor-most, open-at, held-lists}
 
 -- the memory of the store that does what the plain list does
 abbrev pub storeOf : Plain → Store
-storeOf p = encode (freshHead 0 0) (viewOf p)
+storeOf p = encode (freshHead 0 0 0) (viewOf p)
 
 module _ (p : Plain) (f : Fit p) where
   pub view-back : decode (storeOf p) ≡ viewOf p
-  view-back = decoded (freshHead 0 0) (viewOf p) (f .good)
+  view-back = decoded (freshHead 0 0 0) (viewOf p) (f .good)
 
   pub store-shaped : Shaped (storeOf p .head)
-  store-shaped = encoded-shaped (freshHead 0 0) (viewOf p) (f .good)
+  store-shaped = encoded-shaped (freshHead 0 0 0) (viewOf p) (f .good)
 
   -- what a call leaves of its memory, if it is the encoding of the view of a plain list
   pub stored : {t : Store} {v : View} (q : Plain) → t ≡ encode (storeOf p .head) v → v ≡ viewOf q → t ≡ storeOf q
-  stored q is same = is ∙ ap (encode (storeOf p .head)) same ∙ reframed (freshHead 0 0) (viewOf p) (viewOf q)
+  stored q is same = is ∙ ap (encode (storeOf p .head)) same ∙ reframed (freshHead 0 0 0) (viewOf p) (viewOf q)
 
   pub table-long : length (storeOf p .table) ≡ p .limits .table
   unfolding decode viewOf
@@ -58,7 +58,7 @@ module _ (p : Plain) (f : Fit p) where
   in-range = ap₂ lengthsB table-long journal-long ∙ f .range
 
   sound : soundB (storeOf p .table) (storeOf p .journal) (storeOf p .head) ≡ true
-  sound = facts-sound (storeOf p .table) (storeOf p .journal) (storeOf p .head) (encoded-sound (freshHead 0 0) (viewOf p) (f .good))
+  sound = facts-sound (storeOf p .table) (storeOf p .journal) (storeOf p .head) (encoded-sound (freshHead 0 0 0) (viewOf p) (f .good))
 
   -- "In the named calls 1 and 2 don't arise"
   pub past-two : (gs : List Test)
@@ -77,16 +77,27 @@ module _ (p : Plain) (f : Fit p) where
       let held = between-length (p .line) (p .checkpoint) (tipOf (p .line)) from (f .high) (omega arith) in
       omega (arith, held, f .high)
 
+  pub depth-is : storeOf p .head .depth ≡ p .depth
+  unfolding encode viewOf
+  depth-is = refl
+
   -- ground 11 by the numbers of the head
   pub state-same : (state : ℕ)
       → (asked (ltb state (storeOf p .head .checkpoint)) 11 ∷ asked (ltb (storeOf p .head .tip) state) 11 ∷ []) ≡ stateTests p state
   state-same state = ap₂ (λ (a b : ℕ). asked (ltb state a) 11 ∷ asked (ltb b state) 11 ∷ []) checkpoint-is tip-is
 
+  -- and ground 20
+  pub barred-same : (state : ℕ)
+      → (asked (not (eqb state (storeOf p .head .checkpoint)) && ltb (storeOf p .head .tip) (state + storeOf p .head .depth)) 20 ∷ [])
+      ≡ barredTests p state
+  barred-same state i =
+      asked (not (eqb state (checkpoint-is i)) && ltb (tip-is i) (state + depth-is i)) 20 ∷ []
+
   pub held-same : heldOf (storeOf p .head) ≡ length (heldLists p)
-  held-same = held-is (freshHead 0 0) (viewOf p) (f .good) ∙ ap length (held-lists p f)
+  held-same = held-is (freshHead 0 0 0) (viewOf p) (f .good) ∙ ap length (held-lists p f)
 
   pub used-same : usedOf (storeOf p .head) ≡ length (flat (heldLists p))
-  used-same = used-is (freshHead 0 0) (viewOf p) (f .good) ∙ ap (λ (ds : List (List ℕ)). length (flat ds)) (held-lists p f)
+  used-same = used-is (freshHead 0 0 0) (viewOf p) (f .good) ∙ ap (λ (ds : List (List ℕ)). length (flat ds)) (held-lists p f)
 
   pub open-same : (slot : ℕ) → getD (storeOf p .head .taken) slot false ≡ openAt p slot
   unfolding encode viewOf

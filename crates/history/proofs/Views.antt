@@ -36,6 +36,7 @@ viewOf p = record {
   checkpoint = p .checkpoint;
   slots = map slotOf (p .places);
   limits = p .limits;
+  depth = p .depth;
 }
 
 -- a plain list that a store can follow

@@ -46,7 +46,7 @@ module _ (p : Plain) (f : Fit p) (format : Format) where
         ∙ ap (λ (gs : List Test). firstOf (gs ++ (met (ltb (length out) (stateSize format T J (s .head) state)) 17 ∷ [])))
         (state-same p f state)
         ∙ only-last (stateTests p state) _ _ 17
-        (λ a. let w = within p state a in
+        (λ a. let w = within p state [] a in
         ap (λ (m : List ℕ). ltb (length out) (sizeFor format m)) (map-same p f state (w .0) (w .1)) ∙ ap (ltb (length out)) long)
 
     -- of a state that is accepted the map in memory is the plain list's, and so are the bytes

@@ -1,3 +1,4 @@
 pub mod Named
 pub mod Plain
 pub mod Traces
+pub mod Earlier

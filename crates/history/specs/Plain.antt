@@ -3,7 +3,7 @@
 -- these is in changes/proofs/Laws.antt, image/proofs/Theorems.antt and sheet/proofs/Theorems.antt. It shares what a caller has, which
 -- stands in one place (slots/specs/Callers.antt). The numbers of the grounds are its own.
 -- Assumes nothing.
-use mathlib.Core.Bool.{Bool, true, false, not}
+use mathlib.Core.Bool.{Bool, true, false, not, _&&_}
 use mathlib.Core.List.{List, [], _∷_, _++_, map}
 use Prim.Native.Nat.{ℕ, suc, _+_, _-_, _^_, min}
 use lib.Dec.{eqb, ltb, leb}
@@ -77,6 +77,8 @@ pub record Plain : Type 0 where
   pub places : List Place
   -- "the lengths lent"
   pub limits : Limits
+  -- the depth, "fed to the plain list with the load's image" (document 02, Q-6)
+  pub depth : ℕ
 
 -- "Its tip is its last map's number": a list stands beside each map but the first
 abbrev pub tipOf : Line → ℕ
@@ -165,6 +167,10 @@ longTests reader list = met (ltb (mostWords (reader .caller)) (length list)) 18 
 abbrev pub stateTests : Plain → ℕ → List Test
 stateTests p state = met (ltb state (p .checkpoint)) 11 ∷ met (ltb (tipOf (p .line)) state) 11 ∷ []
 
+-- ground 20: "A flush to a state other than the anchor may go no higher than tip − depth", a difference of whole numbers
+abbrev pub barredTests : Plain → ℕ → List Test
+barredTests p state = met (not (eqb state (p .checkpoint)) && ltb (tipOf (p .line)) (state + p .depth)) 20 ∷ []
+
 -- "It tests grounds 3 to 17, and those that later lots bring, in their order with these values." "In the named calls 1 and 2 don't
 -- arise, nor 6 at a forward."
 module _ (p : Plain) where
@@ -177,7 +183,8 @@ module _ (p : Plain) where
       ∷ met (ltb (p .limits .journal - length (flat (heldLists p))) (length list)) 14
       ∷ []
   stepTests (RollBack state) list = stateTests p state
-  stepTests (Flush state) list = stateTests p state ++ (met (ltb (p .limits .table) (length (mapAt (p .line) state))) 16 ∷ [])
+  stepTests (Flush state) list =
+      stateTests p state ++ barredTests p state ++ (met (ltb (p .limits .table) (length (mapAt (p .line) state))) 16 ∷ [])
 
   abbrev pub readTests : ReadCall → List ℕ → List Test
   readTests (Issue reader) list =
@@ -259,13 +266,14 @@ cutAbove line state = record {
 }
 
 abbrev pub withLine : Plain → Line → Plain
-withLine p line = record { line = line; checkpoint = p .checkpoint; places = p .places; limits = p .limits }
+withLine p line = record { line = line; checkpoint = p .checkpoint; places = p .places; limits = p .limits; depth = p .depth }
 
 abbrev pub withPlace : Plain → ℕ → Place → Plain
-withPlace p slot place = record { line = p .line; checkpoint = p .checkpoint; places = set (p .places) slot place; limits = p .limits }
+withPlace p slot place =
+    record { line = p .line; checkpoint = p .checkpoint; places = set (p .places) slot place; limits = p .limits; depth = p .depth }
 
 abbrev pub withCheckpoint : Plain → ℕ → Plain
-withCheckpoint p state = record { line = p .line; checkpoint = state; places = p .places; limits = p .limits }
+withCheckpoint p state = record { line = p .line; checkpoint = state; places = p .places; limits = p .limits; depth = p .depth }
 
 -- what an accepted call leaves
 module _ (p : Plain) where
@@ -295,20 +303,22 @@ changed p call = changedBy p (call .named) (call .list)
 abbrev pub plainTransition : Plain → Call → Transition Plain
 plainTransition p call = record { response = responseBy (checked p call) (given p call); next = leftBy (checked p call) (changed p call) p }
 
--- the load that begins a run: an image's bytes or a sheet's
+-- the load that begins a run: a depth, and an image's bytes or a sheet's
 pub record Load : Type 0 where
+  pub depth : ℕ
   pub format : Format
   pub bytes : List ℕ
 
-abbrev pub loadOf : Format → List ℕ → Load
-loadOf format bytes = record { format = format; bytes = bytes }
+abbrev pub loadOf : ℕ → Format → List ℕ → Load
+loadOf depth format bytes = record { depth = depth; format = format; bytes = bytes }
 
--- The load: grounds 15 and 16. "The load gives the image's map under its number, that number as anchor, all places closed."; "sheet and
--- image of a state load alike".
+-- The load: grounds 20 ("a depth above 63"), 15 and 16. "The load gives the image's map under its number, that number as anchor, all
+-- places closed."; "sheet and image of a state load alike".
 abbrev pub loadChecked : Limits → Load → Verdict
 loadChecked limits load =
     firstOf
-    (met (not (formatB (load .format) (load .bytes))) 15
+    (met (ltb 63 (load .depth)) 20
+    ∷ met (not (formatB (load .format) (load .bytes))) 15
     ∷ met (ltb (limits .table) (length (mapIn (load .format) (load .bytes)))) 16
     ∷ [])
 
@@ -318,4 +328,5 @@ loadedPlain limits load = record {
   checkpoint = numberIn (load .bytes);
   places = replicate 8 closed;
   limits = limits;
+  depth = load .depth;
 }

@@ -102,7 +102,7 @@ afterLoad (without since) responses = record { load = noPrice since; responses =
 
 -- a load into lent memory that holds anything, and then the calls
 abbrev pub loaded : Store → Load → Left
-loaded s load = performed (lentWith s [] (load .bytes)) (Reset (LoadCall (load .format)))
+loaded s load = performed (lentWith s [] (load .bytes)) (Reset (LoadCall (load .depth) (load .format)))
 
 abbrev pub storeTrace : Store → Load → List Asked → Answers
 storeTrace s load asked =

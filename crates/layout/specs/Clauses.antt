@@ -1,4 +1,4 @@
--- The clauses of soundness (document 01, "What the unit holds" and "Sound means"), one by one.
+-- The clauses of soundness (document 01, "What the unit holds" and "Sound means"; document 02, Q-6), one by one.
 -- Assumes nothing.
 use mathlib.Core.Bool.{Bool, false, cond}
 use mathlib.Core.List.{List, [], _∷_}
@@ -40,3 +40,7 @@ slotB checkpoint taken issued k = cond (getD taken k false) (leb (getD issued k 
 
 abbrev pub slotsB : ℕ → List Bool → List ℕ → Bool
 slotsB checkpoint taken issued = allB 8 (slotB checkpoint taken issued)
+
+-- document 02, Q-6: "a depth from 0 to 63", and "A sound head has such a depth."
+abbrev pub depthB : ℕ → Bool
+depthB depth = leb depth 63

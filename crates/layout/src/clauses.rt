@@ -1,5 +1,6 @@
 // The clauses of soundness, each by one pass over the lent words that it speaks of.
 use crate::head::JOURNAL_WORDS;
+use crate::head::MOST_DEPTH;
 use crate::head::SLOTS;
 use crate::head::STEPS;
 use crate::head::TABLE_WORDS;
@@ -13,7 +14,7 @@ ghost use Prim.Native.Nat.{_-_, _≤_, min};
 ghost use lib.Dec.{leb, eqb};
 ghost use lib.ListN.{length, take, drop};
 ghost use Rattle.changes.specs.Lists.{listB};
-ghost use Rattle.layout.specs.Clauses.{lengthsB, tableB, numbersB, stepB, journalB, slotsB};
+ghost use Rattle.layout.specs.Clauses.{lengthsB, tableB, numbersB, stepB, journalB, slotsB, depthB};
 ghost use Rattle.layout.specs.Tests.{allB, allOf, zerosB, least};
 
 // Whether the lengths lent are in their ranges.
@@ -160,6 +161,13 @@ pub fn least_of(checkpoint: u32, taken: [bool; SLOTS], issued: [u32; SLOTS]) -> 
         k -= 1;
     }
     found
+}
+
+// Whether a store can have this depth.
+pub fn depth_fits(depth: u32) -> bool
+    ensures { λ r. ⌜ r ≡ depthB depth ⌝ }
+{
+    depth <= MOST_DEPTH
 }
 
 // Whether the journal holds the first n steps of the marks and zeros behind, and no other mark is in use.

@@ -6,6 +6,9 @@ pub const STEPS: usize = 64;
 
 pub const MARKS: usize = 64;
 
+// The greatest depth that a store can have: how many steps a flush must leave above the state that it goes to.
+pub const MOST_DEPTH: u32 = 63;
+
 // The number of slots.
 pub const SLOTS: usize = 8;
 
@@ -31,6 +34,8 @@ pub struct Head {
     pub issued: [u32; SLOTS],
     // Where each held step ends in the journal (marks), of at most 4,096 words; marks not in use are 0.
     pub ends: [u16; MARKS],
+    // How many steps a flush must leave above the state that it goes to (the depth that must stay).
+    pub depth: u32,
 }
 
 // What a call answers, and the head after it.

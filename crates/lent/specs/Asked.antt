@@ -12,17 +12,17 @@ use Rattle.answers.specs.declared.call.Reset.the-variants.{Clear, Load, Restart
 use Rattle.answers.specs.declared.call.Step.the-variants.{Commit, RollBack, Flush}
 use Rattle.lent.specs.Callers.{callerOf}
 
-abbrev pub clear : Call
-clear = Reset Clear
+abbrev pub clear : ℕ → Call
+clear depth = Reset (Clear depth)
 
-abbrev pub loadAs : Format → Call
-loadAs format = Reset (Load format)
+abbrev pub loadAs : Format → ℕ → Call
+loadAs format depth = Reset (Load depth format)
 
-abbrev pub load : Call
-load = loadAs Image
+abbrev pub load : ℕ → Call
+load depth = loadAs Image depth
 
-abbrev pub loadSheet : Call
-loadSheet = loadAs Sheet
+abbrev pub loadSheet : ℕ → Call
+loadSheet depth = loadAs Sheet depth
 
 abbrev pub restart : Call
 restart = Reset Restart

@@ -25,8 +25,8 @@ use Rattle.lent.specs.Codes.{codeOf, valueOf, sinceOf}
 
 -- "The store isn't sound (clear and load don't test this)."
 abbrev pub resetTests : ResetCall → Bool
-resetTests Clear = false
-resetTests (Load format) = false
+resetTests (Clear depth) = false
+resetTests (Load depth format) = false
 resetTests Restart = true
 
 abbrev pub testsStore : Call → Bool

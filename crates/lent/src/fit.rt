@@ -15,8 +15,8 @@ fn reset_tests(reset: Reset) -> bool
     ensures { λ r. ⌜ r ≡ resetTests reset ⌝ }
 {
     match reset {
-        Reset::Clear => false,
-        Reset::Load(_) => false,
+        Reset::Clear(_) => false,
+        Reset::Load(_, _) => false,
         Reset::Restart => true,
     }
 }

@@ -46,7 +46,7 @@ pub report-long : (image : List ℕ) → 64006 < length image → reportOf image
 unfolding reportOf
 report-long image h = rw (lt-ltb 64006 (length image) h)
 
-report-by : (image : List ℕ) → length image ≤ 64006 → reportOf image ≡ byCheck (first (loadGrounds 8000 1 Image image)) image
+report-by : (image : List ℕ) → length image ≤ 64006 → reportOf image ≡ byCheck (first (loadGrounds 8000 1 0 Image image)) image
 unfolding reportOf
 report-by image h = rw (le-ltb 64006 (length image) h)
 
@@ -58,24 +58,24 @@ pub record Listed (image : List ℕ) (head : Head) (table : List ℕ) : Type 0 w
 
 -- an image that is short enough, loaded into a table and a journal of these lengths
 module _ (table journal image : List ℕ) (lt : length table ≡ 8000) (lj : length journal ≡ 1) (short : length image ≤ 64006)
-    {answer : Answer} (ea : answer ≡ answered (loadCheck table journal Image image) Done) where
-  here : {check : Check} → loadCheck table journal Image image ≡ check → reportOf image ≡ byCheck check image
+    {answer : Answer} (ea : answer ≡ answered (loadCheck table journal 0 Image image) Done) where
+  here : {check : Check} → loadCheck table journal 0 Image image ≡ check → reportOf image ≡ byCheck check image
   here e =
       report-by image short
-      ∙ ap₂ (λ (t j : ℕ). byCheck (first (loadGrounds t j Image image)) image) (sym lt) (sym lj)
+      ∙ ap₂ (λ (t j : ℕ). byCheck (first (loadGrounds t j 0 Image image)) image) (sym lt) (sym lj)
       ∙ ap (λ (check : Check). byCheck check image) e
 
   pub report-refused : {g : Ground} → answer ≡ Away g → refusalText (numberOf g) ≡ reportOf image
-  report-refused e = sym (here (refused-of (loadCheck table journal Image image) (sym e ∙ ea)))
+  report-refused e = sym (here (refused-of (loadCheck table journal 0 Image image) (sym e ∙ ea)))
 
-  module _ (e : loadCheck table journal Image image ≡ Passed) {h : Head} (before : Head)
-      (eh : h ≡ loadHead table journal Image image before)
-      {last : List ℕ} (el : last ≡ loadTable table journal Image image) where
-    ok : LoadOk (length table) (length journal) Image image
-    ok = load-ok (length table) (length journal) Image image e
+  module _ (e : loadCheck table journal 0 Image image ≡ Passed) {h : Head} (before : Head)
+      (eh : h ≡ loadHead table journal 0 Image image before)
+      {last : List ℕ} (el : last ≡ loadTable table journal 0 Image image) where
+    ok : LoadOk (length table) (length journal) 0 Image image
+    ok = load-ok (length table) (length journal) 0 Image image e
 
-    head-is : h ≡ freshHead (length (wordsIn image)) (numberIn image)
-    head-is = eh ∙ new-is e (freshHead (length (wordsIn image)) (numberIn image)) before
+    head-is : h ≡ freshHead (length (wordsIn image)) (numberIn image) 0
+    head-is = eh ∙ new-is e (freshHead (length (wordsIn image)) (numberIn image) 0) before
 
     table-is : last ≡ padded (length table) (wordsIn image)
     table-is = el ∙ new-is e (padded (length table) (wordsIn image)) table
@@ -103,9 +103,9 @@ module _ (table journal image : List ℕ) (lt : length table ≡ 8000) (lj : len
         }
 
   -- the same from the answer
-  pub report-loaded : NoGround answer → {h : Head} (before : Head) → h ≡ loadHead table journal Image image before → {last : List ℕ}
-      → last ≡ loadTable table journal Image image → Listed image h last
-  report-loaded n before eh el = loaded (passed-of (loadCheck table journal Image image) ea n) before eh el
+  pub report-loaded : NoGround answer → {h : Head} (before : Head) → h ≡ loadHead table journal 0 Image image before → {last : List ℕ}
+      → last ≡ loadTable table journal 0 Image image → Listed image h last
+  report-loaded n before eh el = loaded (passed-of (loadCheck table journal 0 Image image) ea n) before eh el
 
 -- a text that was rendered lies within its bytes
 pub rendered-in : {text bytes last : List ℕ} {n : ℕ} → Rendered text bytes last n → n ≤ length last

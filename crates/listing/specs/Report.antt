@@ -20,16 +20,17 @@ abbrev pub byCheck : Check → List ℕ → List ℕ
 byCheck Passed image = textOf (numberIn image) (wordsIn image)
 byCheck (Refused r) image = refusalText (numberOf r)
 
--- "reads one image on standard input into a book of 8,000 words and prints"; "Input above 64,006 bytes is number 15."
+-- "reads one image on standard input into a book of 8,000 words and prints"; "Input above 64,006 bytes is number 15." It loads with
+-- depth 0.
 unfoldable pub reportOf : List ℕ → List ℕ
-reportOf image = cond (ltb 64006 (length image)) (refusalText 15) (byCheck (first (loadGrounds 8000 1 Image image)) image)
+reportOf image = cond (ltb 64006 (length image)) (refusalText 15) (byCheck (first (loadGrounds 8000 1 0 Image image)) image)
 
 -- the memory lent to it: loaded, unless the input is too long to be read
 abbrev pub tableAfter : List ℕ → List ℕ → List ℕ → List ℕ
-tableAfter table journal image = cond (ltb 64006 (length image)) table (loadTable table journal Image image)
+tableAfter table journal image = cond (ltb 64006 (length image)) table (loadTable table journal 0 Image image)
 
 abbrev pub journalAfter : List ℕ → List ℕ → List ℕ → List ℕ
-journalAfter table journal image = cond (ltb 64006 (length image)) journal (loadJournal table journal Image image)
+journalAfter table journal image = cond (ltb 64006 (length image)) journal (loadJournal table journal 0 Image image)
 
 -- a text at the start of bytes, whose other bytes are as they were
 pub record Rendered (text bytes last : List ℕ) (n : ℕ) : Type 0 where

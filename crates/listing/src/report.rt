@@ -25,7 +25,7 @@ pub fn report(image: &[u8], table: &mut [u64], journal: &mut [u64], text: &mut [
     if IMAGE_BYTES < image.len() {
         return render_refusal(15, text);
     }
-    let reply = load(table, journal, fresh_head(0, 0), Format::Image, image);
+    let reply = load(table, journal, fresh_head(0, 0, 0), 0, Format::Image, image);
     let answer = reply.answer;
     let head = reply.head;
     let used = head.used;

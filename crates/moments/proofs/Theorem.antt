@@ -31,6 +31,7 @@ use Rattle.last_changes.specs.Last.{lastIn}
 use Rattle.history.specs.Traces.{storeResponses}
 use Rattle.moments.specs.Batches.{batches}
 use Rattle.moments.specs.Callers.{asking, putting, deskAndFoyer}
+use Rattle.moments.specs.Depths.{depths}
 use Rattle.moments.specs.Images.{imagesOfStates}
 use Rattle.moments.specs.Moments.{computed, expected}
 use Rattle.moments.specs.Sheets.{sheetsOfStates}
@@ -78,3 +79,11 @@ unfolding find compose puts apply composeAll risingB mapB noPutB readOf over run
     numbersIn rowsIn rowB rowsB bytesB sheetB sheetWords soundB allB allOf zerosB least trimmedHead trimmedJournal freshHead withStep
     flushedHead opened closedAt stateBytes stateSize storeResponses lastIn sheetsOfStates
 sheets-follow = refl
+
+-- and of the depth that must stay
+pub depths-follow : map computed depths ≡ map expected depths
+unfolding find compose puts apply composeAll risingB mapB noPutB readOf over runOf first bytesOf valueOf wordBytes imageOf wordsOf
+    numberIn countIn wordsIn imageB onesIn setBits rowsOf seatWords wordsOfRows numberBytes rowBytes rowsBytes sheetOf sheetSize rowCountIn
+    numbersIn rowsIn rowB rowsB bytesB sheetB sheetWords soundB allB allOf zerosB least trimmedHead trimmedJournal freshHead withStep
+    flushedHead cutTo opened closedAt stateBytes stateSize storeResponses lastIn depths
+depths-follow = refl

@@ -5,3 +5,4 @@ pub mod Images
 pub mod Batches
 pub mod Since
 pub mod Sheets
+pub mod Depths

@@ -1,11 +1,11 @@
 -- What a restart knows of the image that it wrote, and what it leaves.
 -- Assumes nothing.
-use mathlib.Core.Path.{_≡_, refl, sym, ap, _∙_}
+use mathlib.Core.Path.{_≡_, refl, sym, ap, ap₂, _∙_}
 use mathlib.Core.Bool.{true}
-use mathlib.Core.List.{List}
-use Prim.Native.Nat.{ℕ, _-_, _/_, _^_, _≤_, _<_}
+use mathlib.Core.List.{List, _++_}
+use Prim.Native.Nat.{ℕ, _^_, _≤_, _<_}
 use native.Mathlib.Omega.{arith}
-use lib.ListN.{length, take, replicate, length-append}
+use lib.ListN.{length, take, drop, replicate, length-append}
 use lib.Seq.{take-at}
 use Rattle.changes.specs.Lists.{Map}
 use Rattle.answers.specs.declared.answer.Answer.{Answer}
@@ -27,6 +27,7 @@ use Rattle.views.specs.Laid.{padded}
 use Rattle.views.proofs.SoundFacts.{used-long}
 use Rattle.state_maps.proofs.MapSizes.{map-at-checkpoint}
 use Rattle.snapshot.specs.Fresh.{freshHead}
+use Rattle.snapshot.proofs.Filled.{read-kept}
 use Rattle.exports.proofs.Writing.{own-check}
 use Rattle.exports.specs.Export.{stateBytes, stateSize, stateOver, writeCheck, writeBytes}
 use Rattle.restarts.specs.Restart.{restartCheck, restartImage, restartHead, restartTable, restartJournal, restartBytes}
@@ -47,6 +48,9 @@ module _ (table journal : List ℕ) (head : Head) where
 
     pub map-is : Map (take (head .used) table)
     map-is = ok .sound .map
+
+    pub still-deep : head .depth ≤ 63
+    still-deep = ok .sound .deep
 
     pub map-room : length (take (head .used) table) ≤ length table
     map-room = omega (arith, used-long (ok .sound), ok .sound .used-in)
@@ -111,29 +115,36 @@ module _ (table journal : List ℕ) (head : Head) where
       image-part : take n left ≡ restartImage table journal head
       image-part = ap (take n) left-is ∙ take-at (restartImage table journal head) _ n image-long
 
-      pub long-enough : 6 ≤ n
-      unfolding stateSize
-      long-enough = omega (arith, en)
-
-      pub load-room : head .checkpoint < 2 ^ 32
-          → (imageB (take n left) ≡ true)
-          × ((n - 6) / 8 ≡ length (wordsIn (take n left)))
-          × ((n - 6) / 8 ≤ length table)
-      unfolding stateSize
+      pub load-room : head .checkpoint < 2 ^ 32 → (imageB (take n left) ≡ true) × (length (wordsIn (take n left)) ≤ length table)
       load-room small =
           let b = back (length bytes) accepted small in
-          let map = ap length (map-at-checkpoint table journal head (ok (length bytes) accepted .sound)) in
-          rw image-part
-          (b .0, omega (arith, en, map, ap length (b .2)), omega (arith, en, map, map-room (length bytes) accepted))
+          rw image-part (b .0, omega (arith, ap length (b .2), map-room (length bytes) accepted))
 
-      pub restart-done : {next : Head} {t j : List ℕ} → next ≡ freshHead (length (wordsIn (take n left))) (numberIn (take n left))
-          → t ≡ padded (length table) (wordsIn (take n left)) → j ≡ replicate (length journal) 0 → Restarts Done next t j left
-      restart-done h t j = (
-        gives-passed accepted refl,
-        if-passed accepted _ _ (h
-            ∙ ap (λ (k : ℕ). freshHead k (numberIn (take n left))) (words-in-length (take n left))
-            ∙ ap (λ (b : List ℕ). freshHead (countIn b) (numberIn b)) image-part),
-        if-passed accepted _ _ (t ∙ ap (λ (b : List ℕ). padded (length table) (wordsIn b)) image-part),
-        if-passed accepted _ _ j,
-        if-passed accepted _ _ left-is,
-      )
+      -- the words that are read are the table's own, and stand at its start again
+      words-used : head .checkpoint < 2 ^ 32 → head .used ≡ length (wordsIn (take n left))
+      words-used small =
+          sym (used-long (ok (length bytes) accepted .sound))
+          ∙ ap length (sym (words-back (length bytes) accepted small))
+          ∙ ap (λ (b : List ℕ). length (wordsIn b)) (sym image-part)
+
+      module _ (small : head .checkpoint < 2 ^ 32) {read : List ℕ}
+          (er : read ≡ wordsIn (take n left) ++ drop (length (wordsIn (take n left))) table) where
+        kept : (length read ≡ length table)
+            × (padded (length read) (take (head .used) read) ≡ padded (length table) (wordsIn (take n left)))
+        kept = read-kept table (wordsIn (take n left)) er (words-used small) (ok (length bytes) accepted .sound .used-in)
+
+        pub used-room : head .used ≤ length read
+        used-room = omega (arith, kept .0, ok (length bytes) accepted .sound .used-in)
+
+        pub restart-done : {next : Head} {t j : List ℕ} → next ≡ freshHead (head .used) (head .checkpoint) (head .depth)
+            → t ≡ padded (length read) (take (head .used) read) → j ≡ replicate (length journal) 0 → Restarts Done next t j left
+        restart-done h t j = (
+          gives-passed accepted refl,
+          if-passed accepted _ _ (h
+              ∙ ap₂ (λ (used number : ℕ). freshHead used number (head .depth))
+              (sym (used-long (ok (length bytes) accepted .sound)) ∙ sym (count-back (length bytes) accepted small))
+              (sym (number-back (length bytes) accepted small))),
+          if-passed accepted _ _ (t ∙ kept .1 ∙ ap (λ (b : List ℕ). padded (length table) (wordsIn b)) image-part),
+          if-passed accepted _ _ j,
+          if-passed accepted _ _ left-is,
+        )

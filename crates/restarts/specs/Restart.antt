@@ -1,5 +1,6 @@
 -- Restart, on memory and head: "Restart writes the image into lent bytes and loads it back: tip becomes anchor and all places close."
--- The image is the checkpoint's: "Restart relied on the old default and must now name the anchor." (document 02, Q-2).
+-- The image is the checkpoint's: "Restart relied on the old default and must now name the anchor." (document 02, Q-2). A store has a depth,
+-- and "restart keeps it" (Q-6).
 -- "everything lent and the head keep their values" where a call is turned away.
 -- Assumes nothing.
 use mathlib.Core.List.{List}
@@ -28,7 +29,7 @@ restartImage table journal head = stateBytes Image table journal head (head .che
 abbrev pub restartHead : List ℕ → List ℕ → Head → ℕ → Head
 restartHead table journal head room =
     ifPassed (restartCheck table journal head room)
-    (freshHead (countIn (restartImage table journal head)) (numberIn (restartImage table journal head)))
+    (freshHead (countIn (restartImage table journal head)) (numberIn (restartImage table journal head)) (head .depth))
     head
 
 abbrev pub restartTable : List ℕ → List ℕ → Head → ℕ → List ℕ

@@ -1,13 +1,12 @@
 // Restart: the checkpoint's image is written into lent bytes and loaded back, so that the tip becomes the checkpoint and
-// all slots close.
+// all slots close. The depth stays.
 use answers::answer::Answer;
 use answers::call::Format;
 use exports::write::write_state;
-use image::HEADER_BYTES;
-use image::WORD_BYTES;
+use formats::reading::read;
 use layout::head::Head;
 use layout::head::Reply;
-use snapshot::fresh::fill;
+use snapshot::fresh::fresh_store;
 ghost use mathlib.Core.Path.{_≡_};
 ghost use lib.ListN.{length};
 ghost use Rattle.answers.specs.declared.answer.Answer.the-variants.{Done};
@@ -26,8 +25,8 @@ pub fn restart(table: &mut [u64], journal: &mut [u64], head: Head, bytes: &mut [
     let Answer::Count(written) = answer else {
         return Reply { answer, head };
     };
-    let count = (written - HEADER_BYTES) / WORD_BYTES;
-    let next = fill(table, journal, Format::Image, &bytes[..written], count);
+    read(Format::Image, &bytes[..written], table);
+    let next = fresh_store(table, journal, head.used, head.checkpoint, head.depth);
     Reply {
         answer: Answer::Done,
         head: next,

@@ -1,3 +1,3 @@
 pub mod ImagesAccepted
-mod Filled
+pub mod Filled
 pub mod OnViews

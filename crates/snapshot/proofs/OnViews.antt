@@ -22,27 +22,27 @@ use Rattle.snapshot.specs.FreshView.{freshView}
 use Rattle.snapshot.proofs.ImagesAccepted.{LoadOk, load-ok}
 
 -- the memory of a store with one state
-abbrev pub freshStore : List ℕ → ℕ → Limits → Store
-freshStore words number limits = record {
+abbrev pub freshStore : List ℕ → ℕ → ℕ → Limits → Store
+freshStore words number depth limits = record {
   table = padded (limits .table) words;
   journal = replicate (limits .journal) 0;
-  head = freshHead (length words) number;
+  head = freshHead (length words) number depth;
 }
 
-module _ (words : List ℕ) (number : ℕ) (limits : Limits) where
-  pub fresh-encoded : encode (freshHead 0 0) (freshView words number limits) ≡ freshStore words number limits
+module _ (words : List ℕ) (number depth : ℕ) (limits : Limits) where
+  pub fresh-encoded : encode (freshHead 0 0 0) (freshView words number depth limits) ≡ freshStore words number depth limits
   unfolding encode freshView freshHead flat marksFrom
   fresh-encoded i =
-      let fresh = freshHead (length words) number in
+      let fresh = freshHead (length words) number depth in
       record {
         table = padded (limits .table) words;
         journal = replicate (sub-zero (limits .journal) i) 0;
         head = withSteps (withFloor fresh (sub-zero number i) (fresh .ends)) (add-zero number i) (fresh .ends);
       }
 
-  pub fresh-good : Map words → length words ≤ limits .table → Good (freshView words number limits)
+  pub fresh-good : Map words → length words ≤ limits .table → depth ≤ 63 → Good (freshView words number depth limits)
   unfolding freshView flat All leastSlot
-  fresh-good m h =
+  fresh-good m h d =
       record {
         map = m;
         room = h;
@@ -51,52 +51,53 @@ module _ (words : List ℕ) (number : ℕ) (limits : Limits) where
         below = (tt, (tt, (tt, (tt, (tt, (tt, (tt, (tt, tt))))))));
         since = omega arith;
         floor = sub-zero number;
+        deep = d;
       }
 
 -- a store with one state is sound, and its view is what was put in
-module _ (words : List ℕ) (number : ℕ) (limits : Limits) (m : Map words) (h : length words ≤ limits .table) where
-  pub fresh-sound : Sound (freshStore words number limits .table) (freshStore words number limits .journal)
-      (freshStore words number limits .head)
+module _ (words : List ℕ) (number depth : ℕ) (limits : Limits) (m : Map words) (h : length words ≤ limits .table) (d : depth ≤ 63) where
+  pub fresh-sound : Sound (freshStore words number depth limits .table) (freshStore words number depth limits .journal)
+      (freshStore words number depth limits .head)
   fresh-sound =
-      subst (λ (s : Store). Sound (s .table) (s .journal) (s .head)) (fresh-encoded words number limits)
-      (encoded-sound (freshHead 0 0) (freshView words number limits) (fresh-good words number limits m h))
+      subst (λ (s : Store). Sound (s .table) (s .journal) (s .head)) (fresh-encoded words number depth limits)
+      (encoded-sound (freshHead 0 0 0) (freshView words number depth limits) (fresh-good words number depth limits m h d))
 
-  pub fresh-decoded : decode (freshStore words number limits) ≡ freshView words number limits
+  pub fresh-decoded : decode (freshStore words number depth limits) ≡ freshView words number depth limits
   fresh-decoded =
-      ap decode (sym (fresh-encoded words number limits))
-      ∙ decoded (freshHead 0 0) (freshView words number limits) (fresh-good words number limits m h)
+      ap decode (sym (fresh-encoded words number depth limits))
+      ∙ decoded (freshHead 0 0 0) (freshView words number depth limits) (fresh-good words number depth limits m h d)
 
 -- what lies in memory after each accepted call, and that it is sound
 abbrev pub limitsOf : List ℕ → List ℕ → Limits
 limitsOf table journal = record { table = length table; journal = length journal }
 
-module _ (table journal : List ℕ) where
-  pub clear-leaves :
-      Encodes (record { table = replicate (length table) 0; journal = replicate (length journal) 0; head = freshHead 0 0 })
-      (freshHead 0 0)
-      (freshView [] 0 (limitsOf table journal))
+module _ (table journal : List ℕ) (depth : ℕ) where
+  pub clear-leaves : depth ≤ 63 →
+      Encodes (record { table = replicate (length table) 0; journal = replicate (length journal) 0; head = freshHead 0 0 depth })
+      (freshHead 0 0 0)
+      (freshView [] 0 depth (limitsOf table journal))
   unfolding From All
-  clear-leaves =
+  clear-leaves d =
       record {
-        is = (λ i. record { table = zeros i; journal = replicate (length journal) 0; head = freshHead 0 0 })
-            ∙ sym (fresh-encoded [] 0 (limitsOf table journal));
-        good = fresh-good [] 0 (limitsOf table journal) (record { rises = tt; puts = tt }) (omega arith);
+        is = (λ i. record { table = zeros i; journal = replicate (length journal) 0; head = freshHead 0 0 depth })
+            ∙ sym (fresh-encoded [] 0 depth (limitsOf table journal));
+        good = fresh-good [] 0 depth (limitsOf table journal) (record { rises = tt; puts = tt }) (omega arith) d;
       }
     where
       zeros : replicate (length table) 0 ≡ padded (length table) []
       zeros = ap (λ (n : ℕ). replicate n 0) (sym (sub-zero (length table)))
 
-  module _ (format : Format) (bytes : List ℕ) (e : loadCheck table journal format bytes ≡ Passed) where
+  module _ (format : Format) (bytes : List ℕ) (e : loadCheck table journal depth format bytes ≡ Passed) where
     abbrev loaded : Store
-    loaded = freshStore (mapIn format bytes) (numberIn bytes) (limitsOf table journal)
+    loaded = freshStore (mapIn format bytes) (numberIn bytes) depth (limitsOf table journal)
 
-    ok : LoadOk (length table) (length journal) format bytes
-    ok = load-ok (length table) (length journal) format bytes e
+    ok : LoadOk (length table) (length journal) depth format bytes
+    ok = load-ok (length table) (length journal) depth format bytes e
 
     -- "Loading gives floor, anchor and tip that number and no open place", and the map
-    pub load-leaves : Encodes loaded (freshHead 0 0) (freshView (mapIn format bytes) (numberIn bytes) (limitsOf table journal))
+    pub load-leaves : Encodes loaded (freshHead 0 0 0) (freshView (mapIn format bytes) (numberIn bytes) depth (limitsOf table journal))
     load-leaves =
         record {
-          is = sym (fresh-encoded (mapIn format bytes) (numberIn bytes) (limitsOf table journal));
-          good = fresh-good (mapIn format bytes) (numberIn bytes) (limitsOf table journal) (ok .map) (ok .room);
+          is = sym (fresh-encoded (mapIn format bytes) (numberIn bytes) depth (limitsOf table journal));
+          good = fresh-good (mapIn format bytes) (numberIn bytes) depth (limitsOf table journal) (ok .map) (ok .room) (ok .deep);
         }

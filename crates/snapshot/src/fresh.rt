@@ -1,23 +1,37 @@
 // A store with one state and no step.
-use answers::call::Format;
-use formats::reading::read;
-use formats::reading::state_of;
+use answers::answer::Check;
+use answers::ground::Ground;
+use layout::clauses::depth_fits;
+use layout::clauses::lengths_fit;
 use layout::head::Head;
 use layout::head::MARKS;
 use layout::head::SLOTS;
 use words::clear;
 ghost use mathlib.Core.Path.{_≡_};
-ghost use mathlib.Core.Bool.{true};
 ghost use Prim.Native.Nat.{_≤_};
-ghost use lib.ListN.{length, replicate};
-ghost use Rattle.image.specs.Image.{numberIn};
-ghost use Rattle.formats.specs.Formats.{formatB, mapIn};
+ghost use lib.ListN.{length, take, replicate};
+ghost use Rattle.answers.specs.Answers.{Checks};
+ghost use Rattle.answers.specs.First.{first};
 ghost use Rattle.views.specs.View.{padded};
 ghost use Rattle.snapshot.specs.Fresh.{freshHead};
+ghost use Rattle.snapshot.specs.Snapshots.{freshGrounds};
 
-// The head of a store that has one state, no step and no open slot.
-pub fn fresh_head(used: usize, state: u32) -> Head
-    ensures { λ r. ⌜ r ≡ freshHead used state ⌝ }
+// Whether a store can be made in memory of these lengths, with this depth.
+pub fn fresh_check(table: usize, journal: usize, depth: u32) -> Check
+    ensures { λ r. ⌜ Checks r (first (freshGrounds table journal depth)) ⌝ }
+{
+    if !lengths_fit(table, journal) {
+        return Check::Refused(Ground::Lengths);
+    }
+    if !depth_fits(depth) {
+        return Check::Refused(Ground::TooDeep);
+    }
+    Check::Passed
+}
+
+// The head of a store that has one state, no step, no open slot and this depth.
+pub fn fresh_head(used: usize, state: u32, depth: u32) -> Head
+    ensures { λ r. ⌜ r ≡ freshHead used state depth ⌝ }
 {
     Head {
         used,
@@ -27,27 +41,25 @@ pub fn fresh_head(used: usize, state: u32) -> Head
         taken: [false; SLOTS],
         issued: [0; SLOTS],
         ends: [0; MARKS],
+        depth,
     }
 }
 
-// Makes the store hold the map in tested bytes, whose offers are counted and for which the table has room, and nothing else.
-pub fn fill(
+// Makes a store of the map that stands at the start of the table, in so many words: nothing else is left in table and journal.
+pub fn fresh_store(
     table: &mut [u64],
     journal: &mut [u64],
-    format: Format,
-    bytes: &[u8],
-    count: usize,
+    used: usize,
+    state: u32,
+    depth: u32,
 ) -> Head
-    requires { ⌜ (formatB format (now bytes) ≡ true)
-        × (count ≡ length (mapIn format (now bytes)))
-        × (count ≤ length (now table)) ⌝ }
-    ensures { λ r. ⌜ (r ≡ freshHead (length (mapIn format (now (bytes .entry)))) (numberIn (now (bytes .entry))))
-        × (now (table .exit) ≡ padded (length (now (table .entry))) (mapIn format (now (bytes .entry))))
+    requires { ⌜ used ≤ length (now table) ⌝ }
+    ensures { λ r. ⌜ (r ≡ freshHead used state depth)
+        × (now (table .exit) ≡ padded (length (now (table .entry))) (take used (now (table .entry))))
         × (now (journal .exit) ≡ replicate (length (now (journal .entry))) 0) ⌝ }
 {
-    read(format, bytes, table);
-    clear(&mut table[count..]);
+    clear(&mut table[used..]);
     let start = 0;
     clear(&mut journal[start..]);
-    fresh_head(count, state_of(bytes))
+    fresh_head(used, state, depth)
 }

@@ -1,10 +1,13 @@
-// Load: the map of an image or a sheet under its state number.
-use crate::fresh::fill;
+// Load: the map of an image or a sheet under its state number, with a depth.
+use crate::fresh::fresh_check;
+use crate::fresh::fresh_store;
 use answers::answer::Answer;
+use answers::answer::Check;
 use answers::call::Format;
 use answers::ground::Ground;
 use formats::reading::count_of;
-use layout::clauses::lengths_fit;
+use formats::reading::read;
+use formats::reading::state_of;
 use layout::head::Head;
 use layout::head::Reply;
 use sheet::reading::Offers;
@@ -17,18 +20,20 @@ pub fn load(
     table: &mut [u64],
     journal: &mut [u64],
     head: Head,
+    depth: u32,
     format: Format,
     bytes: &[u8],
 ) -> Reply
     ensures { λ r. ⌜ Gives (r .answer)
-        (answered (loadCheck (now (table .entry)) (now (journal .entry)) format (now (bytes .entry))) Done)
-        × (r .head ≡ loadHead (now (table .entry)) (now (journal .entry)) format (now (bytes .entry)) head)
-        × (now (table .exit) ≡ loadTable (now (table .entry)) (now (journal .entry)) format (now (bytes .entry)))
-        × (now (journal .exit) ≡ loadJournal (now (table .entry)) (now (journal .entry)) format (now (bytes .entry))) ⌝ }
+        (answered (loadCheck (now (table .entry)) (now (journal .entry)) depth format (now (bytes .entry))) Done)
+        × (r .head ≡ loadHead (now (table .entry)) (now (journal .entry)) depth format (now (bytes .entry)) head)
+        × (now (table .exit) ≡ loadTable (now (table .entry)) (now (journal .entry)) depth format (now (bytes .entry)))
+        × (now (journal .exit) ≡ loadJournal (now (table .entry)) (now (journal .entry)) depth format (now (bytes .entry))) ⌝ }
 {
-    if !lengths_fit(table.len(), journal.len()) {
+    let check = fresh_check(table.len(), journal.len(), depth);
+    if let Check::Refused(ground) = check {
         return Reply {
-            answer: Answer::Refused(Ground::Lengths),
+            answer: Answer::Refused(ground),
             head,
         };
     }
@@ -45,7 +50,8 @@ pub fn load(
             head,
         };
     }
-    let next = fill(table, journal, format, bytes, count);
+    read(format, bytes, table);
+    let next = fresh_store(table, journal, count, state_of(bytes), depth);
     Reply {
         answer: Answer::Done,
         head: next,

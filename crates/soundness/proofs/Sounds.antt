@@ -26,6 +26,7 @@ pub record Sound (table journal : List ℕ) (head : Head) : Type 0 where
   pub lists : journalB journal (head .ends) (heldOf head) ≡ true
   pub slots : (k : ℕ) → k < 8 → slotB (head .checkpoint) (head .taken) (head .issued) k ≡ true
   pub oldest : head .oldest ≡ least (head .checkpoint) (head .taken) (head .issued)
+  pub deep : head .depth ≤ 63
 
 module _ (table journal : List ℕ) (head : Head) where
   pub sound-facts : soundB table journal head ≡ true → Sound table journal head
@@ -35,6 +36,7 @@ module _ (table journal : List ℕ) (head : Head) where
       let r2 = all-rest _ _ r1 in
       let r3 = all-rest _ _ r2 in
       let r4 = all-rest _ _ r3 in
+      let r5 = all-rest _ _ r4 in
       let t = all-first _ _ e in
       let n = numbers-facts (head .oldest) (head .checkpoint) (head .tip) (all-first _ _ r1) in
       record {
@@ -47,6 +49,7 @@ module _ (table journal : List ℕ) (head : Head) where
         lists = all-first _ _ r2;
         slots = all-at (slotB (head .checkpoint) (head .taken) (head .issued)) 8 (all-first _ _ r3);
         oldest = eqb-true _ _ (all-first _ _ r4);
+        deep = leb-true _ _ (all-first _ _ r5);
       }
 
   is-table : Sound table journal head → tableB table (head .used) ≡ true
@@ -64,4 +67,5 @@ module _ (table journal : List ℕ) (head : Head) where
       ∙ first-holds _ _ (s .lists)
       ∙ first-holds _ _ (all-of (slotB (head .checkpoint) (head .taken) (head .issued)) 8 (s .slots))
       ∙ first-holds _ _ (eq-eqb (head .oldest) (least (head .checkpoint) (head .taken) (head .issued)) (s .oldest))
+      ∙ first-holds _ _ (le-leb (head .depth) 63 (s .deep))
       ∙ all-none

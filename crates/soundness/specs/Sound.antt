@@ -1,11 +1,11 @@
--- When a store is sound (document 01, "Sound means"), by its clauses.
+-- When a store is sound (document 01, "Sound means"; document 02, Q-6: "A sound head has such a depth."), by its clauses.
 -- Assumes nothing.
 use mathlib.Core.Bool.{Bool}
 use mathlib.Core.List.{List, [], _∷_}
 use Prim.Native.Nat.{ℕ}
 use lib.Dec.{eqb}
 use Rattle.layout.specs.declared.head.Head.{Head}
-use Rattle.layout.specs.Clauses.{tableB, numbersB, journalB, slotsB}
+use Rattle.layout.specs.Clauses.{tableB, numbersB, journalB, slotsB, depthB}
 use Rattle.layout.specs.States.{heldOf}
 use Rattle.layout.specs.Tests.{allOf, least}
 
@@ -22,4 +22,5 @@ soundB table journal head =
     ∷ journalB journal (head .ends) (heldOf head)
     ∷ slotsB (head .checkpoint) (head .taken) (head .issued)
     ∷ floorB head
+    ∷ depthB (head .depth)
     ∷ [])

@@ -60,6 +60,7 @@ module _ (h : Head) (v : View) (g : Good v) (state : ℕ) (low : v .checkpoint �
         below = below-later (v .checkpoint) state (v .slots) low (g .below);
         since = omega (arith, old-long, g .since);
         floor = omega (arith, old-long, g .since, g .floor, later);
+        deep = g .deep;
       }
     where
       later : leastSlot (v .checkpoint) (v .slots) ≤ leastSlot state (v .slots)

@@ -81,9 +81,9 @@ stays l Passed answer words bytes = still (acceptedB answer) (l .head)
 stays l (Refused r) answer words bytes = still false (l .head)
 
 -- the heads that accepted calls leave
-fresh-one : (used number : ℕ) → freshHead used number .tip ≡ freshHead used number .checkpoint
+fresh-one : (used number depth : ℕ) → freshHead used number depth .tip ≡ freshHead used number depth .checkpoint
 unfolding freshHead
-fresh-one used number = refl
+fresh-one used number depth = refl
 
 step-added : (head : Head) (held end : ℕ) → head .checkpoint ≤ head .tip → Moves (counts 1 0 0) head (withStep head held end)
 unfolding withStep
@@ -111,12 +111,12 @@ closes head slot h = record { order = h; steps = refl }
 resets : (l : Lent) (call : ResetCall) (count : Tally)
     → let left = settled (resetOf l call) l in
     Effect (acceptedB (left .answer)) true count (l .head) (left .lent .head)
-resets l Clear count = begins l count (resetOf l Clear) refl (fresh-one 0 0)
-resets l (Load format) count =
-    begins l count (resetOf l (Load format)) refl (fresh-one (length (mapIn format (l .bytes))) (numberIn (l .bytes)))
+resets l (Clear depth) count = begins l count (resetOf l (Clear depth)) refl (fresh-one 0 0 depth)
+resets l (Load depth format) count =
+    begins l count (resetOf l (Load depth format)) refl (fresh-one (length (mapIn format (l .bytes))) (numberIn (l .bytes)) depth)
 resets l Restart count =
     let image = restartImage (l .table) (l .journal) (l .head) in
-    begins l count (resetOf l Restart) refl (fresh-one (countIn image) (numberIn image))
+    begins l count (resetOf l Restart) refl (fresh-one (countIn image) (numberIn image) (l .head .depth))
 
 steps : (l : Lent) (call : StepCall)
     → let left = settled (stepOf l call) l in

@@ -19,11 +19,17 @@ ghost use Rattle.calls.specs.Lent.{lent};
 ghost use Rattle.unit.specs.Serve.{ServesCore};
 
 // Serves a clear.
-pub fn serve_clear(tally: Tally, table: &mut [u64], journal: &mut [u64], head: Head) -> Served
-    ensures { λ r. ⌜ ServesCore tally (lent (now (table .entry)) (now (journal .entry)) [] [] head) (ResetOf ClearOf) r
+pub fn serve_clear(
+    tally: Tally,
+    table: &mut [u64],
+    journal: &mut [u64],
+    head: Head,
+    depth: u32,
+) -> Served
+    ensures { λ r. ⌜ ServesCore tally (lent (now (table .entry)) (now (journal .entry)) [] [] head) (ResetOf (ClearOf depth)) r
         (now (table .exit)) (now (journal .exit)) [] [] ⌝ }
 {
-    let reply = clear(table, journal, head);
+    let reply = clear(table, journal, head, depth);
     let answer = reply.answer;
     Served {
         reply,
@@ -31,7 +37,7 @@ pub fn serve_clear(tally: Tally, table: &mut [u64], journal: &mut [u64], head: H
             tally,
             head.checkpoint,
             head.tip,
-            Call::Reset(Reset::Clear),
+            Call::Reset(Reset::Clear(depth)),
             answer,
         ),
     }
@@ -69,12 +75,13 @@ pub fn serve_load(
     journal: &mut [u64],
     bytes: &[u8],
     head: Head,
+    depth: u32,
     format: Format,
 ) -> Served
     ensures { λ r. ⌜ ServesCore tally (lent (now (table .entry)) (now (journal .entry)) [] (now (bytes .entry)) head)
-        (ResetOf (LoadOf format)) r (now (table .exit)) (now (journal .exit)) [] (now (bytes .entry)) ⌝ }
+        (ResetOf (LoadOf depth format)) r (now (table .exit)) (now (journal .exit)) [] (now (bytes .entry)) ⌝ }
 {
-    let reply = load(table, journal, head, format, bytes);
+    let reply = load(table, journal, head, depth, format, bytes);
     let answer = reply.answer;
     Served {
         reply,
@@ -82,7 +89,7 @@ pub fn serve_load(
             tally,
             head.checkpoint,
             head.tip,
-            Call::Reset(Reset::Load(format)),
+            Call::Reset(Reset::Load(depth, format)),
             answer,
         ),
     }

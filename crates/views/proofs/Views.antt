@@ -94,6 +94,7 @@ module _ (table journal : List ℕ) (head : Head) (p : Shaped head) (s : Sound t
         below = slots-below (head .checkpoint) (head .taken) (head .issued) (p .taken-8 ∙ sym (p .issued-8)) slot-passes;
         since = omega (arith, old-long);
         floor = oldest-is ∙ s .oldest ∙ least-again (head .checkpoint) (head .taken) (head .issued) (p .taken-8 ∙ sym (p .issued-8));
+        deep = s .deep;
       }
     where
       oldest-is : head .checkpoint - length (take before all) ≡ head .oldest
@@ -135,6 +136,7 @@ module _ (h : Head) (v : View) (g : Good v) where
         lists = subst (λ (n : ℕ). journalB J E n ≡ true) (sym held-is) (laid-sound (v .limits .journal) (heldSteps v) (g .held));
         slots = λ k i. slots-pass (v .checkpoint) (v .slots) (g .below) k (omega (arith, g .eight));
         oldest = g .floor ∙ sym (least-slots (v .checkpoint) (v .slots));
+        deep = g .deep;
       }
 
   pub decoded : decode (encode h v) ≡ v
@@ -150,6 +152,7 @@ module _ (h : Head) (v : View) (g : Good v) where
           table = padded-length (v .limits .table) (v .base) (g .room) i;
           journal = long .0 i;
         };
+        depth = v .depth;
       }
     where
       before : v .checkpoint - (v .checkpoint - length (v .old)) ≡ length (v .old)

@@ -39,6 +39,8 @@ pub record View : Type 0 where
   pub checkpoint : ℕ
   pub slots : List Slot
   pub limits : Limits
+  -- the depth that must stay
+  pub depth : ℕ
 
 -- a view with other steps that lead on from its checkpoint: commit, rollback
 abbrev pub viewSteps : View → List (List ℕ) → View
@@ -49,6 +51,7 @@ viewSteps v steps = record {
   checkpoint = v .checkpoint;
   slots = v .slots;
   limits = v .limits;
+  depth = v .depth;
 }
 
 -- a view with other steps that lead up to its checkpoint: trim
@@ -60,6 +63,7 @@ viewOld v old = record {
   checkpoint = v .checkpoint;
   slots = v .slots;
   limits = v .limits;
+  depth = v .depth;
 }
 
 -- a view with other slots: issue, forward, release
@@ -71,6 +75,7 @@ viewSlots v slots = record {
   checkpoint = v .checkpoint;
   slots = slots;
   limits = v .limits;
+  depth = v .depth;
 }
 
 -- a view with another checkpoint, which has its map and the steps that lead up to it and on from it: flush
@@ -82,6 +87,7 @@ viewTable v base old steps checkpoint = record {
   checkpoint = checkpoint;
   slots = v .slots;
   limits = v .limits;
+  depth = v .depth;
 }
 
 -- all held steps
@@ -132,7 +138,8 @@ encode head v = record {
       (tipOf v)
       (map openOf (v .slots))
       (map issuedOf (v .slots))
-      (laidMarks (heldSteps v));
+      (laidMarks (heldSteps v))
+      (v .depth);
 }
 
 -- the view of what lies in memory
@@ -147,6 +154,7 @@ decode s =
       checkpoint = s .head .checkpoint;
       slots = slotsOf (s .head .taken) (s .head .issued);
       limits = record { table = length (s .table); journal = length (s .journal) };
+      depth = s .head .depth;
     }
 
 -- an open slot's number is not above the checkpoint
@@ -163,6 +171,7 @@ pub record Storable (Stands : ℕ → ℕ → Type 0) (v : View) : Type 0 where
   pub below : All (NotAbove (v .checkpoint)) (v .slots)
   pub since : length (v .old) ≤ v .checkpoint
   pub floor : Stands (v .checkpoint - length (v .old)) (leastSlot (v .checkpoint) (v .slots))
+  pub deep : v .depth ≤ 63
 
 -- a view that memory can hold: its floor is the least of them
 abbrev pub Good : View → Type 0

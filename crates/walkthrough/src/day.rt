@@ -38,7 +38,7 @@ fn unused() -> Counter {
         journal: [0; 16],
         reads: [Entry::none(5), Entry::none(7), Entry::none(9)],
         bytes: IMAGE,
-        head: fresh_head(0, 0),
+        head: fresh_head(0, 0, 0),
         tally,
         answer: Answer::Done,
     }
@@ -51,7 +51,7 @@ pub(crate) fn load() -> Counter {
         &IMAGE,
     );
     show_text(b"\n  load");
-    let counter = ask(unused(), Call::Reset(Reset::Load(Format::Image)));
+    let counter = ask(unused(), Call::Reset(Reset::Load(0, Format::Image)));
     quote(counter, 7);
     counter
 }

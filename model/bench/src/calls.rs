@@ -54,7 +54,7 @@ fn all_of<S: Subject>(scene: &Scene) -> impl Fn(&mut S, &mut Vec<u64>, usize) + 
 }
 
 pub fn clear<S: Subject>(scene: &Scene) -> Side<'_> {
-    steady(scene, 0, |store: &mut S, _| store.clear())
+    steady(scene, 0, |store: &mut S, _| store.clear(0))
 }
 
 /// Images or sheets, or room for them, which lie differently to the pages of memory: how table and image lie to each other is
@@ -104,7 +104,7 @@ impl Images {
 
 pub fn load<S: Subject>(scene: &Scene) -> Side<'_> {
     let mut images = Images::of(scene);
-    steady(scene, 0, move |store: &mut S, turn| store.load(images.turn(turn)))
+    steady(scene, 0, move |store: &mut S, turn| store.load(0, images.turn(turn)))
 }
 
 /// The image of the checkpoint.
@@ -133,7 +133,7 @@ pub fn flush_and_write<S: Subject>(scene: &Scene) -> Side<'_> {
 
 pub fn load_sheet<S: Subject>(scene: &Scene) -> Side<'_> {
     let mut sheets = Images::sheets(scene);
-    steady(scene, 0, move |store: &mut S, turn| store.load_sheet(sheets.turn(turn)))
+    steady(scene, 0, move |store: &mut S, turn| store.load_sheet(0, sheets.turn(turn)))
 }
 
 /// The sheet of the checkpoint.

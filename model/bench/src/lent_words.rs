@@ -22,16 +22,16 @@ impl Subject for LentWords {
         self.head = variant.words;
     }
 
-    fn clear(&mut self) -> u64 {
-        code(self.any(|store| store.clear()))
+    fn clear(&mut self, depth: u32) -> u64 {
+        code(self.any(|store| store.clear(depth)))
     }
 
-    fn load(&mut self, bytes: &[u8]) -> u64 {
-        code(self.any(|store| store.load(bytes)))
+    fn load(&mut self, depth: u32, bytes: &[u8]) -> u64 {
+        code(self.any(|store| store.load(depth, bytes)))
     }
 
-    fn load_sheet(&mut self, bytes: &[u8]) -> u64 {
-        code(self.any(|store| store.load_sheet(bytes)))
+    fn load_sheet(&mut self, depth: u32, bytes: &[u8]) -> u64 {
+        code(self.any(|store| store.load_sheet(depth, bytes)))
     }
 
     fn write_image(&mut self, bytes: &mut [u8]) -> u64 {

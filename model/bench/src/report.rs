@@ -61,7 +61,7 @@ Each call of the C interface is measured beside
 - (a) the same work in safe Rust (`model/bench/src/baseline/`), as one writes it for speed and clarity: on the same lent
   memory, with the same grounds in the same order, and with the whole test of the store in every call. A test holds it
   to the library on random calls. Its head is a struct of typed fields that it is lent by reference, where a C function
-  is lent 84 words that may hold anything, which it has to test, to unpack and to pack;
+  is lent 85 words that may hold anything, which it has to test, to unpack and to pack;
 - (w) the baseline (a) on the words that a C function is lent: it tests that those of the head fit, unpacks head and
   tally, makes the call, and packs them where an accepted call may have changed them. It stands in the table of the
   fixed cost alone, where these words are most of the work;
@@ -137,7 +137,7 @@ fn about_fixed() -> String {
 
 {WORDS} words are lent: a table of {table} that is full, and a journal of {journal} that holds {held} steps of {step} entry each. A list of a
 commit or of a read has {read} word. Here the words hardly count, and what every call costs does: above all the head, whose
-84 words are more than table and journal have. `price_batch` is lent no store; its read set has 64 offers. Times in
+85 words are more than table and journal have. `price_batch` is lent no store; its read set has 64 offers. Times in
 nanoseconds.
 
 "

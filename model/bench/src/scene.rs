@@ -76,7 +76,7 @@ impl Scene {
             present.rising().into_iter().map(|offer| word::put(offer, price(&mut rng))).collect();
         let mut lent = Lent::of_lengths(shape.table, shape.journal);
         let image = image_of(&map);
-        assert_eq!(lent.lend().load(&image), 0);
+        assert_eq!(lent.lend().load(0, &image), 0);
         let mut reads = present.asked(shape.read, &mut rng);
         let mut flushed = 0;
         if early {

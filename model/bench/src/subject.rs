@@ -14,9 +14,9 @@ pub trait Subject: 'static {
     fn journal(&mut self) -> &mut [u64];
     fn set_head(&mut self, variant: &Variant);
 
-    fn clear(&mut self) -> u64;
-    fn load(&mut self, bytes: &[u8]) -> u64;
-    fn load_sheet(&mut self, bytes: &[u8]) -> u64;
+    fn clear(&mut self, depth: u32) -> u64;
+    fn load(&mut self, depth: u32, bytes: &[u8]) -> u64;
+    fn load_sheet(&mut self, depth: u32, bytes: &[u8]) -> u64;
     fn write_image(&mut self, bytes: &mut [u8]) -> u64;
     fn write_state_image(&mut self, state: u32, bytes: &mut [u8]) -> u64;
     fn write_sheet(&mut self, bytes: &mut [u8]) -> u64;
@@ -50,16 +50,16 @@ impl Subject for Lent {
         self.head = variant.words;
     }
 
-    fn clear(&mut self) -> u64 {
-        self.lend().clear()
+    fn clear(&mut self, depth: u32) -> u64 {
+        self.lend().clear(depth)
     }
 
-    fn load(&mut self, bytes: &[u8]) -> u64 {
-        self.lend().load(bytes)
+    fn load(&mut self, depth: u32, bytes: &[u8]) -> u64 {
+        self.lend().load(depth, bytes)
     }
 
-    fn load_sheet(&mut self, bytes: &[u8]) -> u64 {
-        self.lend().load_sheet(bytes)
+    fn load_sheet(&mut self, depth: u32, bytes: &[u8]) -> u64 {
+        self.lend().load_sheet(depth, bytes)
     }
 
     fn write_image(&mut self, bytes: &mut [u8]) -> u64 {
@@ -154,16 +154,16 @@ impl Subject for Memory {
         self.head.clone_from(&variant.head);
     }
 
-    fn clear(&mut self) -> u64 {
-        code(self.lend().clear())
+    fn clear(&mut self, depth: u32) -> u64 {
+        code(self.lend().clear(depth))
     }
 
-    fn load(&mut self, bytes: &[u8]) -> u64 {
-        code(self.lend().load(bytes))
+    fn load(&mut self, depth: u32, bytes: &[u8]) -> u64 {
+        code(self.lend().load(depth, bytes))
     }
 
-    fn load_sheet(&mut self, bytes: &[u8]) -> u64 {
-        code(self.lend().load_sheet(bytes))
+    fn load_sheet(&mut self, depth: u32, bytes: &[u8]) -> u64 {
+        code(self.lend().load_sheet(depth, bytes))
     }
 
     fn write_image(&mut self, bytes: &mut [u8]) -> u64 {

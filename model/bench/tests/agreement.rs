@@ -1,7 +1,7 @@
 //! The baseline against the static library: random calls on the same memory, damaged memory and heads among them, with answers
 //! and all memory compared after each.
 
-use bench::baseline::{price_batch, Caller, Head, LentWords, Memory, Refusal, Tally};
+use bench::baseline::{price_batch, Caller, Head, LentWords, Memory, Refusal, Tally, DEPTH};
 use bench::subject::{quote_code, Subject};
 use ffi::differ::Pair;
 use ffi::said::{Said, UNTOUCHED};
@@ -36,9 +36,9 @@ fn say(memory: &mut Memory, bytes: &mut [u8], caller: u32, call: &Call, filled: 
     let done = |answer| coded(answer, |()| (0, UNTOUCHED));
     let counted = |answer| coded(answer, |count: usize| (0, count as u64));
     let (code, value) = match call {
-        Call::Clear => done(store.clear()),
-        Call::Load { format: Image } => done(store.load(bytes)),
-        Call::Load { format: Sheet } => done(store.load_sheet(bytes)),
+        Call::Clear { depth } => done(store.clear(*depth)),
+        Call::Load { format: Image, depth } => done(store.load(*depth, bytes)),
+        Call::Load { format: Sheet, depth } => done(store.load_sheet(*depth, bytes)),
         Call::Write { format: Image, state: None } => counted(store.write_image(bytes)),
         Call::Write { format: Image, state: Some(state) } => counted(store.write_state_image(*state, bytes)),
         Call::Write { format: Sheet, state: None } => counted(store.write_sheet(bytes)),
@@ -68,9 +68,47 @@ fn say(memory: &mut Memory, bytes: &mut [u8], caller: u32, call: &Call, filled: 
     Said { code, value, since, words }
 }
 
+/// Another depth for a call that takes one, 64 and more among them.
+fn with_depth(call: &Call, rng: &mut Rng) -> Call {
+    let depth = rng.pick(&[0, 1, 2, 62, 63, 64, 256, u32::MAX]);
+    match call {
+        Call::Clear { .. } => Call::Clear { depth },
+        Call::Load { format, .. } => Call::Load { format: *format, depth },
+        call => call.clone(),
+    }
+}
+
+/// Another depth for the store: small, so that it bars some flushes and not all, or at the edge of what is sound.
+fn deepen(lent: &mut Lent, rng: &mut Rng) {
+    lent.head[DEPTH] = rng.pick(&[0, 1, 2, 3, 4, 8, 63, 64]);
+}
+
+/// How often calls of each kind were refused as too deep.
+#[derive(Default)]
+struct TooDeep {
+    resets: usize,
+    flushes: usize,
+}
+
+impl TooDeep {
+    fn count(&mut self, call: &Call, code: u64) {
+        let met = usize::from(code == Refusal::TooDeep.number());
+        match call {
+            Call::Flush { .. } => self.flushes += met,
+            _ => self.resets += met,
+        }
+    }
+
+    fn check(&self) {
+        assert!(self.resets > 100, "{} calls with a depth that is too deep", self.resets);
+        assert!(self.flushes > 100, "{} flushes that the depth bars", self.flushes);
+    }
+}
+
 #[test]
 fn random_calls() {
-    let (mut calls, mut damaged) = (0, 0);
+    let mut rng = Rng::new(2);
+    let (mut calls, mut damaged, mut too_deep) = (0, 0, TooDeep::default());
     for seed in 0..SCRIPTS {
         let mut pair = Pair::default();
         for item in items(seed, CALLS).0 {
@@ -84,12 +122,18 @@ fn random_calls() {
             let mut library = pair.library.clone();
             let mut memory = memory_of(&library.lent);
             assert_eq!(memory.is_sound(), pair.model.store.is_sound(), "seed {seed}: {call:?}");
+            if rng.percent(50) {
+                deepen(&mut library.lent, &mut rng);
+                memory = memory_of(&library.lent);
+            }
             assert_eq!(memory.is_sound(), memory.is_sound_without_exits(), "seed {seed}: {call:?}");
+            let call = &with_depth(call, &mut rng);
             let mut bytes = library.bytes.clone();
             library.foyer = FOYERS[calls % FOYERS.len()];
             let number = library.number_of(call);
             let said = say(&mut memory, &mut bytes, number, call, &library.filled);
             let wanted = library.serve(call);
+            too_deep.count(call, wanted.code);
             assert_eq!(said, wanted, "seed {seed}: {call:?}");
             assert!(memory == memory_of(&library.lent), "seed {seed}: {call:?}");
             assert!(bytes == library.bytes, "seed {seed}: {call:?}");
@@ -97,6 +141,7 @@ fn random_calls() {
         }
     }
     assert!(damaged > calls / 20, "{damaged} of {calls} calls on damaged memory");
+    too_deep.check();
 }
 
 /// The baseline on lent words is given the words of the library, and must leave the same.
@@ -121,9 +166,9 @@ fn code_of<S: Subject>(
         _ => Vec::new(),
     };
     let code = match call {
-        Call::Clear => store.clear(),
-        Call::Load { format: Image } => store.load(bytes),
-        Call::Load { format: Sheet } => store.load_sheet(bytes),
+        Call::Clear { depth } => store.clear(*depth),
+        Call::Load { format: Image, depth } => store.load(*depth, bytes),
+        Call::Load { format: Sheet, depth } => store.load_sheet(*depth, bytes),
         Call::Write { format: Image, state: None } => store.write_image(bytes),
         Call::Write { format: Image, state: Some(state) } => store.write_state_image(*state, bytes),
         Call::Write { format: Sheet, state: None } => store.write_sheet(bytes),
@@ -153,7 +198,7 @@ fn spoil(lent: &mut Lent, rng: &mut Rng) {
 #[test]
 fn random_calls_on_lent_words() {
     let mut rng = Rng::new(1);
-    let mut spoilt = 0;
+    let (mut spoilt, mut too_deep) = (0, TooDeep::default());
     for seed in 0..SCRIPTS {
         let mut pair = Pair::default();
         for item in items(seed, CALLS).0 {
@@ -161,8 +206,12 @@ fn random_calls_on_lent_words() {
             if let Command::Call(call) = &command {
                 let mut library = pair.library.clone();
                 library.foyer = rng.pick(&FOYERS);
+                let call = &with_depth(call, &mut rng);
                 let number = library.number_of(call);
                 let (mut lent, mut bytes) = (library.lent, library.bytes);
+                if rng.percent(50) {
+                    deepen(&mut lent, &mut rng);
+                }
                 if rng.percent(20) {
                     spoil(&mut lent, &mut rng);
                     spoilt += 1;
@@ -170,6 +219,7 @@ fn random_calls_on_lent_words() {
                 let (mut words, mut others) = (words_of(&lent), bytes.clone());
                 let said = code_of(&mut words, &mut others, number, call, &library.filled);
                 let wanted = code_of(&mut lent, &mut bytes, number, call, &library.filled);
+                wanted.iter().for_each(|(code, _)| too_deep.count(call, *code));
                 assert_eq!(said, wanted, "seed {seed}: {call:?}");
                 assert!(words == words_of(&lent) && others == bytes, "seed {seed}: {call:?}");
             }
@@ -177,4 +227,5 @@ fn random_calls_on_lent_words() {
         }
     }
     assert!(spoilt > 1000);
+    too_deep.check();
 }

@@ -2,8 +2,8 @@
 
 use crate::said::{say, Said};
 use crate::Lent;
-use cechnuol::raw::{CHECKPOINT, COMMITTED, ENDS, FLUSHED, ISSUED, OLDEST, ROLLED_BACK, TAKEN, TIP, USED};
-use cechnuol::raw::{DESK, FOYER};
+use cechnuol::raw::{CHECKPOINT, DEPTH, ENDS, ISSUED, OLDEST, TAKEN, TIP, USED};
+use cechnuol::raw::{COMMITTED, DESK, FLUSHED, FOYER, ROLLED_BACK};
 use model::caller::Caller;
 use model::script::{HeadField, Holding, Memories, TallyField};
 use model::unit::{Call, Filled};
@@ -59,6 +59,7 @@ impl Holding for Library {
             HeadField::Oldest(number) => (OLDEST, number.into()),
             HeadField::Checkpoint(number) => (CHECKPOINT, number.into()),
             HeadField::Tip(number) => (TIP, number.into()),
+            HeadField::Depth(number) => (DEPTH, number.into()),
             HeadField::Held(slot, open) => (TAKEN + slot, open.into()),
             HeadField::Issued(slot, number) => (ISSUED + slot, number.into()),
             HeadField::Ends(mark, number) => (ENDS + mark, number),

@@ -4,20 +4,26 @@ use crate::differ::{expected, Pair};
 use crate::library::Library;
 use crate::said::{Said, UNTOUCHED};
 use crate::Lent;
+use cechnuol::raw::DEPTH;
 use model::rng::Rng;
 use model::store::{JOURNAL_WORDS, TABLE_WORDS};
 use model::unit::Call;
 
-/// Makes a word of the head one that does not fit its field: a flag above 1, a state number of 2^32 or more, or a mark of
-/// 2^16 or more. A number or a mark that is cut to its field is the one that was there.
+/// Makes a word of the head one that does not fit its field: a flag above 1, a state number of 2^32 or more, a mark of 2^16 or
+/// more, or a depth above 63. A number, a mark or a depth that is cut to its field is the one that was there.
 fn damage(lent: &mut Lent, rng: &mut Rng) {
-    match rng.within(0, 2) {
+    match rng.within(0, 3) {
         0 => lent.head[rng.within(4, 11)] = rng.pick(&[2, 3, 256, 1 << 32, u64::MAX]),
         1 => {
             let at = rng.pick(&[1, 2, 3, 12, 13, 14, 15, 16, 17, 18, 19]);
             lent.head[at] += rng.pick(&[1, 2, 1 << 31]) << 32;
         }
-        _ => lent.head[rng.within(20, 83)] |= rng.pick(&[1, 2, 1 << 16, 1 << 47]) << 16,
+        2 => lent.head[rng.within(20, 83)] |= rng.pick(&[1, 2, 1 << 16, 1 << 47]) << 16,
+        _ => {
+            let depth = lent.head[DEPTH];
+            let cut = depth | rng.pick(&[1 << 32, 1 << 63]);
+            lent.head[DEPTH] = rng.pick(&[64, u32::MAX.into(), 1 << 32, u64::MAX, cut, cut]);
+        }
     }
 }
 
@@ -34,7 +40,7 @@ pub fn probe(pair: &Pair, call: &Call, rng: &mut Rng) -> Result<(), String> {
     }
     let mut library = pair.library.clone();
     damage(&mut library.lent, rng);
-    if !matches!(call, Call::Clear | Call::Load { .. }) {
+    if !matches!(call, Call::Clear { .. } | Call::Load { .. }) {
         return turned_away(call, library);
     }
     if rng.percent(50) {

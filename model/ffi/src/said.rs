@@ -55,11 +55,11 @@ pub fn is_query(call: &Call) -> bool {
     matches!(call, Call::Write { .. } | Call::LookUp { .. })
 }
 
-/// Loads an image or a sheet.
-pub fn load(lent: &mut Lent, format: Format, bytes: &[u8]) -> u64 {
+/// Loads an image or a sheet with a depth.
+pub fn load(lent: &mut Lent, depth: u32, format: Format, bytes: &[u8]) -> u64 {
     match format {
-        Format::Image => lent.lend().load(bytes),
-        Format::Sheet => lent.lend().load_sheet(bytes),
+        Format::Image => lent.lend().load(depth, bytes),
+        Format::Sheet => lent.lend().load_sheet(depth, bytes),
     }
 }
 
@@ -79,8 +79,8 @@ pub fn say(lent: &mut Lent, bytes: &mut [u8], caller: u32, call: &Call, filled: 
     let (mut value, mut since) = (UNTOUCHED, UNTOUCHED);
     let mut words = Vec::new();
     let code = match call {
-        Call::Clear => lent.lend().clear(),
-        Call::Load { format } => load(lent, *format, bytes),
+        Call::Clear { depth } => lent.lend().clear(*depth),
+        Call::Load { depth, format } => load(lent, *depth, *format, bytes),
         Call::Write { format, state } => write(lent.to_read(), *format, *state, bytes, &mut value),
         Call::Restart => lent.lend().restart(bytes),
         Call::Commit { list } => lent.lend().commit(list),

@@ -12,7 +12,7 @@ use std::collections::BTreeSet;
 /// The empty map as state 0.
 fn store() -> Lent {
     let mut lent = Lent::of_lengths(4, 16);
-    assert_eq!(lent.lend().clear(), 0);
+    assert_eq!(lent.lend().clear(0), 0);
     lent
 }
 

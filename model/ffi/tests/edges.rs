@@ -1,6 +1,6 @@
 //! Every short length and the ends of each range, empty slices among them; and any words for head and tally.
 
-use cechnuol::raw::price_batch;
+use cechnuol::raw::{price_batch, DEPTH};
 use cechnuol::{HEAD_WORDS, TALLY_WORDS};
 use ffi::differ::{expected, Pair};
 use ffi::library::Library;
@@ -8,7 +8,7 @@ use ffi::said::{load, say, UNTOUCHED};
 use ffi::Lent;
 use model::caller::Caller::{Desk, Foyer};
 use model::format::Format::{Image, Sheet};
-use model::script::{Command, Memory, Poke};
+use model::script::{Command, HeadField, Memory, Poke};
 use model::sheet;
 use model::unit::{Call, Filled, Unit};
 use model::word::entry;
@@ -16,6 +16,7 @@ use model::word::entry;
 const TABLES: [usize; 8] = [0, 1, 2, 3, 7999, 8000, 8001, 8192];
 const JOURNALS: [usize; 8] = [0, 1, 2, 3, 4095, 4096, 4097, 4608];
 const WORDS: [u64; 6] = [0, 1, 2, 7, 1 << 32, u64::MAX];
+const DEPTHS: [u32; 4] = [0, 1, 62, 63];
 
 /// Offer 5 at 1200 as state 7: its image, which document 01 has, and its sheet.
 const IMAGE: [u8; 14] = [0, 0, 0, 7, 0, 1, 0x80, 0, 0, 5, 0, 0, 0x04, 0xB0];
@@ -27,9 +28,12 @@ fn calls(words: usize) -> Vec<Call> {
     let puts: Vec<u64> = (0..words as u32).map(|offer| entry(offer, Some(offer))).collect();
     let asks: Vec<u64> = (0..words as u32).map(|offer| entry(offer, None)).collect();
     vec![
-        Call::Clear,
-        Call::Load { format: Image },
-        Call::Load { format: Sheet },
+        Call::Clear { depth: 64 },
+        Call::Clear { depth: 0 },
+        Call::Load { depth: 64, format: Image },
+        Call::Load { depth: 0, format: Image },
+        Call::Load { depth: 64, format: Sheet },
+        Call::Load { depth: 0, format: Sheet },
         Call::Write { format: Image, state: None },
         Call::Write { format: Image, state: Some(0) },
         Call::Write { format: Image, state: Some(1) },
@@ -55,7 +59,7 @@ fn calls(words: usize) -> Vec<Call> {
 }
 
 /// Every length of table and journal, with every call that tests the store: ground 1 first, then ground 2 for a head of
-/// 84 sevens, whose flags do not fit.
+/// 85 sevens, whose flags do not fit.
 #[test]
 fn every_length_of_a_store() {
     for (table, journal) in TABLES.iter().flat_map(|&table| JOURNALS.map(|journal| (table, journal))) {
@@ -78,11 +82,11 @@ fn every_length_of_a_store() {
 }
 
 fn tests_store(call: &Call) -> bool {
-    !matches!(call, Call::Clear | Call::Load { .. } | Call::PriceBatch { .. })
+    !matches!(call, Call::Clear { .. } | Call::Load { .. } | Call::PriceBatch { .. })
 }
 
 /// "Clear and load don't test this": any words for head and tally are accepted, and written anew. A refusal, on ground
-/// 1 or of an image or a sheet, leaves them.
+/// 1, of a depth or of an image or a sheet, leaves them.
 #[test]
 fn clear_and_load_take_any_head_and_tally() {
     for (head, tally) in WORDS.iter().flat_map(|&head| WORDS.map(|tally| (head, tally))) {
@@ -92,25 +96,35 @@ fn clear_and_load_take_any_head_and_tally() {
             head: [head; HEAD_WORDS],
             tally: [tally; TALLY_WORDS],
         };
-        let mut lent = lend(2);
-        assert_eq!(lent.lend().clear(), 0);
-        assert_eq!(lent, Lent::of_lengths(2, 4));
-        let mut loaded = Lent::of_lengths(2, 4);
-        loaded.table[0] = entry(5, Some(1200));
-        loaded.head[..4].copy_from_slice(&[1, 7, 7, 7]);
-        for (format, bytes) in [(Image, &IMAGE[..]), (Sheet, &SHEET)] {
+        for depth in DEPTHS {
             let mut lent = lend(2);
-            assert_eq!(load(&mut lent, format, bytes), 0);
-            assert_eq!(lent, loaded);
-            for (table, code) in [(0, 1), (2, 15)] {
+            let mut cleared = Lent::of_lengths(2, 4);
+            cleared.head[DEPTH] = depth.into();
+            assert_eq!(lent.lend().clear(depth), 0);
+            assert_eq!(lent, cleared);
+            let mut loaded = cleared;
+            loaded.table[0] = entry(5, Some(1200));
+            loaded.head[..4].copy_from_slice(&[1, 7, 7, 7]);
+            for (format, bytes) in [(Image, &IMAGE[..]), (Sheet, &SHEET)] {
+                let mut lent = lend(2);
+                assert_eq!(load(&mut lent, depth, format, bytes), 0);
+                assert_eq!(lent, loaded);
+            }
+        }
+        for (format, bytes) in [(Image, &IMAGE[..]), (Sheet, &SHEET)] {
+            for (table, depth, length, code) in
+                [(0, 64, 1, 1), (2, 63, 1, 15), (2, 64, 0, 20), (2, 64, 1, 20), (2, u32::MAX, 1, 20)]
+            {
                 let mut lent = lend(table);
-                assert_eq!(load(&mut lent, format, &bytes[1..]), code);
+                assert_eq!(load(&mut lent, depth, format, &bytes[length..]), code);
                 assert_eq!(lent, lend(table));
             }
         }
-        let mut lent = lend(0);
-        assert_eq!(lent.lend().clear(), 1);
-        assert_eq!(lent, lend(0));
+        for (table, depth, code) in [(0, 0, 1), (0, 64, 1), (2, 64, 20), (2, 256, 20), (2, u32::MAX, 20)] {
+            let mut lent = lend(table);
+            assert_eq!(lent.lend().clear(depth), code);
+            assert_eq!(lent, lend(table));
+        }
     }
 }
 
@@ -119,7 +133,7 @@ fn clear_and_load_take_any_head_and_tally() {
 fn any_tally_is_counted_on() {
     for tally in WORDS {
         let mut lent = Lent::of_lengths(2, 4);
-        assert_eq!(lent.lend().clear(), 0);
+        assert_eq!(lent.lend().clear(0), 0);
         lent.tally = [tally; TALLY_WORDS];
         assert_eq!(lent.lend().commit(&[]), 0);
         assert_eq!(lent.tally, [tally.saturating_add(1), tally, tally]);
@@ -129,15 +143,17 @@ fn any_tally_is_counted_on() {
 }
 
 /// A head whose words do not fit their fields is turned away by every call that tests the store: a flag above 1, a state
-/// number of 2^32 or more.
+/// number of 2^32 or more, a depth above 63, also one whose lowest bits are a depth.
 #[test]
 fn words_that_no_head_has() {
     let mut fresh = Lent::of_lengths(2, 4);
-    assert_eq!(fresh.lend().clear(), 0);
+    assert_eq!(fresh.lend().clear(0), 0);
     let flags = (4..12).flat_map(|at| [2, 256, 1 << 32, u64::MAX].map(|word| (at, word)));
     let states = (1..4).chain(12..20).flat_map(|at| [1 << 32, 7 << 32, 1 << 63].map(|word| (at, word)));
     let marks = (20..84).flat_map(|at| [1 << 16, 1 << 32, 1 << 63].map(|word| (at, word)));
-    for (at, word) in flags.chain(states).chain(marks) {
+    let depths = [64, 255, 256, u32::MAX.into(), 1 << 32, (1 << 32) + 63, 1 << 63, u64::MAX];
+    let depths = depths.map(|word| (DEPTH, word));
+    for (at, word) in flags.chain(states).chain(marks).chain(depths) {
         let mut before = fresh.clone();
         before.head[at] = word;
         for call in calls(1).iter().filter(|call| tests_store(call)) {
@@ -160,7 +176,7 @@ fn every_length_of_what_a_call_is_lent() {
             |command: Command| pair.step(&command).unwrap_or_else(|it| panic!("{command:?}: {it}"));
         step(Command::Lend { memory: Memory::Table, length: table as u64 });
         step(Command::Lend { memory: Memory::Journal, length: journal as u64 });
-        step(Command::Call(Call::Clear));
+        step(Command::Call(Call::Clear { depth: 0 }));
         for words in [0, 1, 2, 3, 16, 17, 63, 64, 65] {
             for bytes in [0, 1, 2, 3, 5, 6, 7, 8, 9, 13, 14, 15] {
                 step(Command::Lend { memory: Memory::Bytes, length: bytes });
@@ -186,7 +202,7 @@ fn every_length_of_the_bytes_that_are_written() {
     for length in 0..=44 {
         step(Command::Lend { memory: Memory::Bytes, length: 22 });
         step(Command::Poke { at: 0, poke: Poke::Bytes(image.to_vec()) });
-        step(Command::Call(Call::Load { format: Image }));
+        step(Command::Call(Call::Load { depth: 3, format: Image }));
         for list in [&adds, &removes] {
             step(Command::Call(Call::Commit { list: list.clone() }));
         }
@@ -202,6 +218,29 @@ fn every_length_of_the_bytes_that_are_written() {
     }
 }
 
+/// Every depth that a store may have, and those just above, with steps up to 64, at the first state numbers and at the last: every
+/// flush to a kept state and to those beside them, as in the model. A head is given its tip by hand; its steps are empty.
+#[test]
+fn every_flush_with_every_depth() {
+    let steps = [0, 1, 2, 3, 61, 62, 63, 64];
+    for (depth, steps) in (0..=65).flat_map(|depth| steps.map(|steps| (depth, steps))) {
+        for first in [0, 5, u32::MAX - steps] {
+            let mut pair = Pair::default();
+            let mut step =
+                |command: Command| pair.step(&command).unwrap_or_else(|it| panic!("{command:?}: {it}"));
+            step(Command::Lend { memory: Memory::Table, length: 1 });
+            step(Command::Lend { memory: Memory::Journal, length: 1 });
+            step(Command::Lend { memory: Memory::Bytes, length: 6 });
+            step(Command::Poke { at: 0, poke: Poke::Bytes(first.to_be_bytes().to_vec()) });
+            for state in (first.saturating_sub(1)..=first.saturating_add(steps + 1)).rev() {
+                step(Command::Call(Call::Load { depth, format: Image }));
+                step(Command::Head(HeadField::Tip(first + steps)));
+                step(Command::Call(Call::Flush { state }));
+            }
+        }
+    }
+}
+
 /// Lookups of the offers of table and steps and of others, at every state that is kept and at those beside them, after each flush,
 /// as in the model. A slot that is open since state 0 keeps all steps held.
 #[test]
@@ -210,7 +249,7 @@ fn every_lookup_of_a_few_steps() {
     let mut step = |command: Command| pair.step(&command).unwrap_or_else(|it| panic!("{command:?}: {it}"));
     step(Command::Lend { memory: Memory::Table, length: 3 });
     step(Command::Lend { memory: Memory::Journal, length: 16 });
-    step(Command::Call(Call::Clear));
+    step(Command::Call(Call::Clear { depth: 0 }));
     step(Command::Call(Call::Issue { caller: Desk, slot: 0, list: vec![entry(3, None)] }));
     let lists = [
         vec![entry(2, Some(20)), entry(4, Some(40))],
@@ -248,7 +287,9 @@ fn every_beginning_of_an_image_and_of_a_sheet() {
         if !bytes.is_empty() {
             step(Command::Poke { at: 0, poke: Poke::Bytes(bytes.to_vec()) });
         }
-        step(Command::Call(Call::Load { format }));
+        for depth in [64, 63] {
+            step(Command::Call(Call::Load { depth, format }));
+        }
         step(Command::Call(Call::LookUp { caller: Foyer, offer: 5, state: 7 }));
     }
 }
@@ -265,7 +306,7 @@ fn every_damaged_bit_of_a_sheet() {
     step(Command::Lend { memory: Memory::Bytes, length: sheet.len() as u64 });
     let mut load = |bytes: &[u8]| {
         step(Command::Poke { at: 0, poke: Poke::Bytes(bytes.to_vec()) });
-        step(Command::Call(Call::Load { format: Sheet }));
+        step(Command::Call(Call::Load { depth: 0, format: Sheet }));
     };
     for bit in 0..8 * sheet.len() {
         let mut bytes = sheet.clone();

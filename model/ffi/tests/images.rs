@@ -1,7 +1,7 @@
 //! Images and sheets of kept states: those that random scripts leave, each as the model writes it, and loaded elsewhere the
 //! state's map; and those of maps and changes of many lengths.
 
-use cechnuol::raw::DESK;
+use cechnuol::raw::{DEPTH, DESK};
 use ffi::differ::Pair;
 use ffi::said::{write, UNTOUCHED};
 use ffi::{Lent, BY_TABLE, NO_PRICE};
@@ -54,10 +54,11 @@ fn each_state_elsewhere(pair: &Pair, counts: &mut Counts) {
             bytes
         });
         let [mut elsewhere, mut by_sheet] = [0, 1].map(|_| Lent::of_lengths(count.max(1), 1));
-        assert_eq!(elsewhere.lend().load(&image), 0, "state {state}");
-        assert_eq!((by_sheet.lend().load_sheet(&sheet), &by_sheet), (0, &elsewhere), "state {state}");
+        assert_eq!(elsewhere.lend().load(5, &image), 0, "state {state}");
+        assert_eq!((by_sheet.lend().load_sheet(5, &sheet), &by_sheet), (0, &elsewhere), "state {state}");
         let number = u64::from(state);
         assert_eq!(elsewhere.head[..4], [count as u64, number, number, number]);
+        assert_eq!(elsewhere.head[DEPTH], 5);
         for &offer in &offers {
             let (code, price, since) = quoted(lent, offer, state);
             assert!(code == 0 || (code, price) == (NO_PRICE, UNTOUCHED), "offer {offer} at state {state}");
@@ -68,8 +69,8 @@ fn each_state_elsewhere(pair: &Pair, counts: &mut Counts) {
             counts.changed += usize::from(is_step);
         }
         if count > 1 {
-            assert_eq!(Lent::of_lengths(count - 1, 1).lend().load(&image), 16, "state {state}");
-            assert_eq!(Lent::of_lengths(count - 1, 1).lend().load_sheet(&sheet), 16, "state {state}");
+            assert_eq!(Lent::of_lengths(count - 1, 1).lend().load(0, &image), 16, "state {state}");
+            assert_eq!(Lent::of_lengths(count - 1, 1).lend().load_sheet(0, &sheet), 16, "state {state}");
         }
         counts.states += 1;
         counts.large += usize::from(count > store.table.len());
@@ -122,7 +123,7 @@ fn stepped(format: Format, offers: u32, changes: u32) -> Pair {
     let steps = entries.chunks(64).map(|list| Command::Call(Call::Commit { list: list.to_vec() }));
     let lengths = [(Memory::Table, offers.max(1)), (Memory::Journal, changes)];
     let lend = lengths.map(|(memory, length)| Command::Lend { memory, length: length.into() });
-    for command in lend.into_iter().chain([Command::Call(Call::Load { format })]).chain(steps) {
+    for command in lend.into_iter().chain([Command::Call(Call::Load { depth: 0, format })]).chain(steps) {
         pair.step(&command).unwrap_or_else(|it| panic!("{offers} offers, {changes} changes: {it}"));
     }
     pair
@@ -156,17 +157,19 @@ fn maps_and_changes_of_many_lengths() {
     }
 }
 
-/// Each call is accepted, and refused on each ground that it can meet: with a state and without one, a load of a sheet, and a
-/// restart.
+/// Each call is accepted, and refused on each ground that it can meet: with a state and without one, a load of an image and of a
+/// sheet, a clear, a flush and a restart.
 #[test]
 fn every_answer() {
+    const NAMES: [&str; 7] =
+        ["write_image", "write_sheet", "load", "load_sheet", "clear", "flush", "restart"];
     let mut codes = BTreeSet::new();
     for seed in 0..40 {
         let mut pair = Pair::default();
         for item in items(seed, 300).0 {
             let Item::Command(command) = item else { continue };
             if let Command::Call(call) = &command {
-                if ["write_image", "write_sheet", "load_sheet", "restart"].contains(&call.name()) {
+                if NAMES.contains(&call.name()) {
                     codes.insert((call.form(), pair.library.clone().serve(call).code));
                 }
             }
@@ -178,6 +181,9 @@ fn every_answer() {
     wanted.extend([0, 1, 2, 11, 17].map(|code| ("write_image STATE", code)));
     wanted.extend([0, 1, 2, 17].map(|code| ("write_sheet", code)));
     wanted.extend([0, 1, 2, 11, 17].map(|code| ("write_sheet STATE", code)));
-    wanted.extend([0, 1, 15, 16].map(|code| ("load_sheet", code)));
+    wanted.extend([0, 1, 20, 15, 16].map(|code| ("load", code)));
+    wanted.extend([0, 1, 20, 15, 16].map(|code| ("load_sheet", code)));
+    wanted.extend([0, 1, 20].map(|code| ("clear", code)));
+    wanted.extend([0, 1, 2, 11, 20, 16].map(|code| ("flush", code)));
     assert_eq!(codes, wanted);
 }

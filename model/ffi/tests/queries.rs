@@ -1,7 +1,7 @@
 //! The queries: they read a store, which may lie in read-only memory and may be queried from several threads at once,
 //! and store nothing but their output. And what other calls only read may lie in read-only memory too.
 
-use cechnuol::raw::{price_batch, StoreRef, BY_TABLE, DESK, FOYER, NO_PRICE};
+use cechnuol::raw::{price_batch, StoreRef, BY_TABLE, DEPTH, DESK, FOYER, NO_PRICE};
 use cechnuol::{HEAD_WORDS, TALLY_WORDS};
 use ffi::said::{write, UNTOUCHED};
 use ffi::{Lent, FOYERS};
@@ -14,7 +14,7 @@ use std::{fs, slice, thread};
 /// State 1, with offers 5 and 9, in the table; a step to state 2 above it, slot 3 open, and counts in the tally.
 fn store() -> Lent {
     let mut lent = Lent::of_lengths(8, 16);
-    assert_eq!(lent.lend().clear(), 0);
+    assert_eq!(lent.lend().clear(0), 0);
     assert_eq!(lent.lend().commit(&[entry(5, Some(1200)), entry(9, Some(700))]), 0);
     assert_eq!(lent.lend().flush(1), 0);
     assert_eq!(lent.lend().issue(DESK, 3, &mut [entry(5, None)]), 0);
@@ -115,13 +115,16 @@ fn a_query_leaves_the_store() {
     let lent = store();
     ask(lent.to_read());
     assert_eq!(lent, store());
-    let damages: [Damage; 9] = [
+    let damages: [Damage; 12] = [
         (1, |lent| lent.table.clear()),
         (1, |lent| lent.table.resize(8001, 0)),
         (1, |lent| lent.journal.clear()),
         (1, |lent| lent.journal.resize(4097, 0)),
         (2, |lent| lent.head[3] += 1 << 32),
         (2, |lent| lent.head[4] = 2),
+        (2, |lent| lent.head[DEPTH] = 64),
+        (2, |lent| lent.head[DEPTH] += 1 << 32),
+        (1, |lent| (lent.table, lent.head[DEPTH]) = (vec![], 64)),
         (2, |lent| lent.table[7] = 1),
         (1, |lent| (lent.table, lent.head[4]) = (vec![], 2)),
         (1, |lent| (lent.journal, lent.head[3]) = (vec![], 1 << 32)),
@@ -230,7 +233,7 @@ fn a_full_store_in_read_only_memory() {
     image.extend(8000u16.to_be_bytes());
     image.extend((0..8000).flat_map(|k| entry(2 * k, Some(k)).to_be_bytes()));
     let mut lent = Lent::of_lengths(8000, 4096);
-    assert_eq!(lent.lend().load(&image), 0);
+    assert_eq!(lent.lend().load(63, &image), 0);
     for step in 0..64 {
         let list: Vec<u64> = (0..64).map(|k| entry(2 * k + 1, Some(100 * step + k))).collect();
         assert_eq!(lent.lend().commit(&list), 0);
@@ -273,10 +276,10 @@ fn inputs_in_read_only_memory() {
         assert_eq!(lent.lend().commit(read_only(&list)), code);
     }
     for (image, code) in [(&IMAGE[..], 0), (&IMAGE[..21], 15)] {
-        assert_eq!(lent.lend().load(read_only(image)), code);
+        assert_eq!(lent.lend().load(0, read_only(image)), code);
     }
     for (sheet, code) in [(&SHEET[..], 0), (&SHEET[..23], 15)] {
-        assert_eq!(lent.lend().load_sheet(read_only(sheet)), code);
+        assert_eq!(lent.lend().load_sheet(0, read_only(sheet)), code);
     }
     let (reads, mut out, mut count) = (read_only(&[entry(5, Some(1200))]), [7; 2], UNTOUCHED);
     let order = |kind: u64, amount: u64| kind << 56 | amount << 31 | 5;

@@ -18,7 +18,7 @@ fn full(new: bool) -> Lent {
     let mut image = vec![0, 0, 0, 0];
     image.extend(8000u16.to_be_bytes());
     image.extend(words.iter().flat_map(|word| word.to_be_bytes()));
-    assert_eq!(lent.lend().load(&image), 0);
+    assert_eq!(lent.lend().load(0, &image), 0);
     for step in 0..64 {
         let list: Vec<u64> = (0..64).map(|k| entry(2 * (64 * k + step) + u32::from(new), Some(k))).collect();
         assert_eq!(lent.lend().commit(&list), 0);
@@ -113,10 +113,13 @@ fn every_other_call() {
         assert_eq!(lent.to_read().write_state_sheet(33, &mut sheet, &mut value), 11);
         assert_eq!(lent.lend().restart(&mut bytes), 0);
         assert_eq!(lent.to_read().write_image(&mut bytes, &mut value), 0);
-        assert_eq!(lent.lend().load(&bytes), 0);
+        assert_eq!(lent.lend().load(63, &bytes), 0);
         assert_eq!(lent.to_read().write_sheet(&mut sheet, &mut value), 0);
-        assert_eq!(lent.lend().load_sheet(&sheet), 0);
-        assert_eq!(lent.lend().clear(), 0);
+        assert_eq!(lent.lend().load_sheet(63, &sheet), 0);
+        assert_eq!(lent.lend().load(64, &bytes), 20);
+        assert_eq!(lent.lend().load_sheet(64, &sheet), 20);
+        assert_eq!(lent.lend().clear(64), 20);
+        assert_eq!(lent.lend().clear(63), 0);
     });
 }
 

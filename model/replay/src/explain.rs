@@ -1,6 +1,6 @@
 //! What a line prints with `--explain`: each call and its answer as a person says them.
 
-use crate::phrases::{article, count, entry, file, freshness, order, question, words};
+use crate::phrases::{article, count, entry, file, freshness, order, question, with_depth, words};
 use crate::shown;
 use cechnuol::Refusal;
 use ffi::library::Library;
@@ -17,8 +17,8 @@ pub fn respond(library: &mut Library, line: &[u8]) -> Result<Vec<String>, Reason
         Line::Blank => Ok(Vec::new()),
         Line::NoCall(reason) => Err(reason),
         Line::Command(Command::Call(call)) => Ok(vec![served(library, &call)]),
-        Line::Command(Command::LoadFile { format, name }) => {
-            load_file(library, format, &name).map(|text| vec![text])
+        Line::Command(Command::LoadFile { depth, format, name }) => {
+            load_file(library, depth, format, &name).map(|text| vec![text])
         }
         Line::Command(command) => {
             perform(library, &command)?;
@@ -35,12 +35,13 @@ fn served(library: &mut Library, call: &Call) -> String {
     format!("{by}{request}: {}", answer(call, &said))
 }
 
-fn load_file(library: &mut Library, format: Format, name: &[u8]) -> Result<String, Reason> {
+fn load_file(library: &mut Library, depth: u32, format: Format, name: &[u8]) -> Result<String, Reason> {
     library.bytes = file_bytes(name)?;
     let length = count(library.bytes.len() as u64, "byte");
-    let call = Call::Load { format };
+    let call = Call::Load { depth, format };
     let said = library.serve(&call);
-    Ok(format!("load the {} {}, {length}: {}", file(format), Quoted::new(name), answer(&call, &said)))
+    let request = format!("load the {} {}{}, {length}", file(format), Quoted::new(name), with_depth(depth));
+    Ok(format!("{request}: {}", answer(&call, &said)))
 }
 
 /// What is shown, or set: the latter as a script writes it, but for words.
@@ -60,9 +61,10 @@ fn explained(library: &mut Library, command: &Command) -> Vec<String> {
 /// What a call asks of the unit.
 fn request(library: &Library, call: &Call) -> String {
     match call {
-        Call::Clear => "clear".to_string(),
-        Call::Load { format } => {
-            format!("load {} of {}", article(*format), count(library.bytes.len() as u64, "byte"))
+        Call::Clear { depth } => format!("clear{}", with_depth(*depth)),
+        Call::Load { depth, format } => {
+            let length = count(library.bytes.len() as u64, "byte");
+            format!("load {} of {length}{}", article(*format), with_depth(*depth))
         }
         Call::Write { format, state: None } => format!("write the {format} of the tip"),
         Call::Write { format, state: Some(state) } => format!("write the {format} of state {state}"),

@@ -77,6 +77,14 @@ pub fn file(format: Format) -> &'static str {
     }
 }
 
+/// The depth that a store is given, where it is not 0.
+pub fn with_depth(depth: u32) -> String {
+    match depth {
+        0 => String::new(),
+        depth => format!(" with depth {depth}"),
+    }
+}
+
 /// A number of things.
 pub fn count(number: u64, thing: &str) -> String {
     format!("{number} {thing}{}", if number == 1 { "" } else { "s" })

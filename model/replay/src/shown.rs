@@ -1,6 +1,7 @@
 //! Head, tally and memory as `show` prints them with `--explain`.
 
 use crate::phrases::{count, entry, listed};
+use cechnuol::raw::ENDS;
 use ffi::library::Library;
 use model::crc32;
 use model::head::{SLOTS, STEPS};
@@ -28,13 +29,13 @@ pub fn texts(library: &mut Library, what: Show) -> Vec<String> {
 }
 
 fn head(head: &[u64]) -> String {
-    let [used, oldest, checkpoint, tip, rest @ ..] = head else { panic!("a head has 84 numbers") };
+    let [used, oldest, checkpoint, tip, rest @ .., depth] = head else { panic!("a head has 85 numbers") };
     let (open, rest) = rest.split_at(SLOTS);
     let (issued, ends) = rest.split_at(SLOTS);
     let steps = steps(tip.saturating_sub(*oldest), ends);
     let used = count(*used, "word");
     format!(
-        "head: {used} of the table used; oldest {oldest}, checkpoint {checkpoint}, tip {tip}; {steps}; {}",
+        "head: {used} of the table used; oldest {oldest}, checkpoint {checkpoint}, tip {tip}, depth {depth}; {steps}; {}",
         slots(open, issued)
     )
 }
@@ -96,7 +97,7 @@ fn part(library: &mut Library, memory: Memory, at: usize, count: usize) -> Strin
     let memories = library.memories();
     let (words, used) = match memory {
         Memory::Table => (memories.table, head[0]),
-        Memory::Journal => (memories.journal, head[4 + 2 * SLOTS..].iter().copied().max().unwrap_or(0)),
+        Memory::Journal => (memories.journal, head[ENDS..][..STEPS].iter().copied().max().unwrap_or(0)),
         Memory::Bytes => {
             let bytes = memories.bytes[at..at + count].iter().map(|byte| format!("{byte:02X}"));
             return format!("bytes from {at}: {}", listed(bytes, " "));

@@ -143,13 +143,13 @@ fn what_is_shown() {
         "lend table 3 # -> lend table 3
 lend journal 3 # -> lend journal 3
 clear # -> clear: ok
-show head # -> head: 0 words of the table used; oldest 0, checkpoint 0, tip 0; no step held; all slots closed
+show head # -> head: 0 words of the table used; oldest 0, checkpoint 0, tip 0, depth 0; no step held; all slots closed
 commit 80000005000004B0 # -> commit offer 5 price 1200: ok
 flush 1 # -> flush to state 1: ok
 issue 2 # -> issue slot 2 for nothing: ok: nothing
 commit 0000000000000000 # -> commit offer 0 none: ok
 commit # -> commit nothing: ok
-show head # -> head: 1 word of the table used; oldest 1, checkpoint 1, tip 3; 2 steps held, marks 1, 1; slot 2 open since state 1
+show head # -> head: 1 word of the table used; oldest 1, checkpoint 1, tip 3, depth 0; 2 steps held, marks 1, 1; slot 2 open since state 1
 show tally # -> tally: 3 steps committed, 0 rolled back, 1 flushed
 show table 0 3 # -> table from 0: offer 5 price 1200, unused, unused
 show journal 0 2 # -> journal from 0: offer 0 none, unused
@@ -163,8 +163,34 @@ poke table 1 0000000000000007 8000000000000000 # -> poke table 1: no entry 00000
 head tip 0 # -> head tip 0
 head ends 2 9 # -> head ends 2 9
 head held 2 0 # -> head held 2 0
-show head # -> head: 1 word of the table used; oldest 1, checkpoint 1, tip 0; no step held, mark 0 is 1, mark 1 is 1, mark 2 is 9; slot 2 closed with number 1
+show head # -> head: 1 word of the table used; oldest 1, checkpoint 1, tip 0, depth 0; no step held, mark 0 is 1, mark 1 is 1, mark 2 is 9; slot 2 closed with number 1
 look_up 5 1 # -> look up offer 5 at state 1: refused 2 UNSOUND: the store is not sound
+",
+    );
+}
+
+#[test]
+fn depths() {
+    explains(
+        "lend table 1 # -> lend table 1
+lend journal 4 # -> lend journal 4
+clear 64 # -> clear with depth 64: refused 20 TOO_DEEP: the depth is above 63, or the flush goes higher than tip - depth
+clear 0 # -> clear: ok
+clear 2 # -> clear with depth 2: ok
+show head # -> head: 0 words of the table used; oldest 0, checkpoint 0, tip 0, depth 2; no step held; all slots closed
+commit 80000005000004B0 # -> commit offer 5 price 1200: ok
+show journal 0 2 # -> journal from 0: offer 5 price 1200, unused
+flush 1 # -> flush to state 1: refused 20 TOO_DEEP: the depth is above 63, or the flush goes higher than tip - depth
+flush 0 # -> flush to state 0: ok
+head depth 64 # -> head depth 64
+flush 0 # -> flush to state 0: refused 2 UNSOUND: the store is not sound
+lend bytes 6 # -> lend bytes 6
+load 63 # -> load an image of 6 bytes with depth 63: ok
+load_sheet 1 # -> load a sheet of 6 bytes with depth 1: refused 15 BAD_IMAGE: \
+the length, the order or a bit of the image or sheet is wrong
+load_file ../../tests/listing/paper.in 5 # -> load the file '../../tests/listing/paper.in' with depth 5, 14 bytes: ok
+show head # -> head: 1 word of the table used; oldest 7, checkpoint 7, tip 7, depth 5; no step held; all slots closed
+load_file ../../tests/listing/paper.in 5 5 # -> no call: too many arguments: load_file NAME DEPTH
 ",
     );
 }
@@ -200,7 +226,8 @@ the length, the order or a bit of the image or sheet is wrong
 fn refusals_have_the_names_of_the_header() {
     let header = include_str!("../../../include/cechnuol.h");
     let words: Vec<&str> = header.split_whitespace().collect();
-    let (_, printed, _) = ran(&["--explain", "../scripts/refusals.script", "../scripts/callers.script"], b"");
+    let scripts = ["refusals", "callers", "depth"].map(|name| format!("../scripts/{name}.script"));
+    let (_, printed, _) = ran(&["--explain", &scripts[0], &scripts[1], &scripts[2]], b"");
     let mut met = BTreeSet::new();
     for (_, refusal) in printed.lines().filter_map(|line| line.split_once(": refused ")) {
         let (number, rest) = refusal.split_once(' ').expect("a name follows the number");
@@ -210,5 +237,5 @@ fn refusals_have_the_names_of_the_header() {
         assert!(!sentence.is_empty(), "{refusal}");
         met.insert(number.parse::<u64>().expect("a number"));
     }
-    assert_eq!(met, (1..=19).collect());
+    assert_eq!(met, (1..=20).collect());
 }

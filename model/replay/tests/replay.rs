@@ -66,7 +66,22 @@ fn images() {
         line 7: bytes from 0 00 00 00 01 00 02 80 00 00 05 00 00 04 B0 80 00 00 09 00 00 02 BC 00 00\nline 8: ok 6\n\
         line 9: bytes from 0 00 00 00 00 00 00 80 00\nline 10: ok 22\nline 11: refused 11\nline 13: refused 17\n\
         line 14: refused 17\nline 15: ok\nline 16: bytes from 0 00 00 00 00 00 00\n\
-        line 17: head used 0 oldest 0 checkpoint 0 tip 0 held 00000000 issued 0 0 0 0 0 0 0 0 ends\n";
+        line 17: head used 0 oldest 0 checkpoint 0 tip 0 depth 0 held 00000000 issued 0 0 0 0 0 0 0 0 ends\n";
+    assert_eq!(printed(script), expected);
+}
+
+/// A depth that a store is given, keeps at a restart and is not flushed within.
+#[test]
+fn depths() {
+    let script = b"lend table 1\nlend journal 2\nclear 64\nclear 1\ncommit 80000005000004B0\nflush 1\ncommit\nflush 1\n\
+        lend bytes 14\nrestart\nshow head\nload 64\nload 63\nload_sheet 64\nload_sheet 63\nshow head\nhead depth 64\n\
+        flush 1\nclear\nshow head\n";
+    let expected = "line 3: refused 20\nline 4: ok\nline 5: ok\nline 6: refused 20\nline 7: ok\nline 8: ok\nline 10: ok\n\
+        line 11: head used 1 oldest 1 checkpoint 1 tip 1 depth 1 held 00000000 issued 0 0 0 0 0 0 0 0 ends\n\
+        line 12: refused 20\nline 13: ok\nline 14: refused 20\nline 15: refused 15\n\
+        line 16: head used 1 oldest 1 checkpoint 1 tip 1 depth 63 held 00000000 issued 0 0 0 0 0 0 0 0 ends\n\
+        line 18: refused 2\nline 19: ok\n\
+        line 20: head used 0 oldest 0 checkpoint 0 tip 0 depth 0 held 00000000 issued 0 0 0 0 0 0 0 0 ends\n";
     assert_eq!(printed(script), expected);
 }
 
@@ -80,7 +95,7 @@ fn sheets() {
         line 7: bytes from 0 00 00 00 01 00 00 00 02 00 00 00 00 04 00 00 00 00 00 04 B0 00 00 00 40 80 00 00 00 00 00 02 BC \
         00 00\nline 8: ok 8\nline 9: bytes from 0 00 00 00 00 00 00 00 00\nline 10: ok 32\nline 11: refused 11\n\
         line 13: refused 17\nline 14: refused 17\nline 16: ok 32\nline 17: refused 16\nline 19: ok\nline 20: refused 15\n\
-        line 21: head used 2 oldest 1 checkpoint 1 tip 1 held 00000000 issued 0 0 0 0 0 0 0 0 ends\n";
+        line 21: head used 2 oldest 1 checkpoint 1 tip 1 depth 0 held 00000000 issued 0 0 0 0 0 0 0 0 ends\n";
     assert_eq!(printed(script), expected);
 }
 
@@ -186,10 +201,12 @@ fn no_head_is_hidden() {
     library.lent.head[11] = 256;
     library.lent.head[19] = (1 << 32) + 7;
     library.lent.head[21] = 3;
+    library.lent.head[84] = (1 << 32) + 5;
     assert_eq!(
         respond(&mut library, b"show head").expect("a call"),
         [format!(
-            "head used {} oldest 4294967296 checkpoint 0 tip 0 held 0200000256 issued 0 0 0 0 0 0 0 4294967303 ends 0 3",
+            "head used {} oldest 4294967296 checkpoint 0 tip 0 depth 4294967301 held 0200000256 \
+             issued 0 0 0 0 0 0 0 4294967303 ends 0 3",
             u64::MAX
         )]
     );

@@ -17,7 +17,7 @@ use crate::word;
 pub(super) const WEIGHTS: [usize; 12] = [1, 9, 38, 3, 100, 24, 44, 70, 52, 40, 10, 40];
 
 /// The same on damaged memory and on memory of wrong lengths: each call, but seldom one that mends the store.
-pub(super) const EVEN: [usize; 12] = [1, 2, 12, 4, 4, 4, 4, 4, 4, 4, 4, 2];
+pub(super) const EVEN: [usize; 12] = [2, 2, 12, 4, 4, 4, 4, 4, 4, 4, 4, 2];
 
 /// Amounts are numbers below this.
 const AMOUNTS: usize = 1 << 25;
@@ -33,13 +33,13 @@ impl Generator {
     /// One call, by its index in [`WEIGHTS`].
     pub(super) fn one_call(&mut self, which: usize) {
         let call = match which {
-            0 => Call::Clear,
+            0 => Call::Clear { depth: self.draw.depth() },
             1 => self.load(),
             WRITE => self.write(),
             3 => self.restart(),
             COMMIT => Call::Commit { list: self.list_for_commit() },
             5 => Call::RollBack { state: self.state() },
-            FLUSH => Call::Flush { state: self.state() },
+            FLUSH => Call::Flush { state: self.draw.state_to_flush(&self.unit.store.head) },
             LOOK_UP => self.look_up(),
             ISSUE => self.issue(),
             9 => self.forward(),
@@ -172,7 +172,7 @@ impl Generator {
             }
             _ => self.written_before(format),
         }
-        Call::Load { format }
+        Call::Load { depth: self.draw.depth(), format }
     }
 
     /// Has the image or the sheet of a state written into bytes that are just enough.

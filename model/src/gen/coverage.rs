@@ -3,7 +3,7 @@
 use crate::caller::Caller;
 use crate::changes::map_words;
 use crate::format::Format;
-use crate::head::{Head, STEPS};
+use crate::head::{Head, MOST_DEPTH, STEPS};
 use crate::sheet::{self, Fault, Row, SEATS};
 use crate::sound::Clause;
 use crate::store::{Store, TABLE_WORDS};
@@ -154,6 +154,55 @@ impl LookedUp {
     }
 }
 
+/// What numbers of 32 bits would make of a flush's state, tip and depth.
+#[derive(Clone, Copy, Debug, PartialEq, Eq, PartialOrd, Ord)]
+pub enum Numbers {
+    /// They would do.
+    Fit,
+    /// The tip is less than the depth.
+    BelowFirst,
+    /// The state and the depth are together more than the last number.
+    PastLast,
+}
+
+/// A flush of a sound store to a state that it keeps.
+#[derive(Clone, Copy, Debug, PartialEq, Eq, PartialOrd, Ord)]
+pub struct Flushed {
+    /// Whether the depth is not 0.
+    pub deep: bool,
+    /// Whether the state is the checkpoint.
+    pub still: bool,
+    /// How far the state is above the tip less the depth: one or more as 1, one or more below as -1.
+    pub above: i64,
+    /// Whether the table has room for its map.
+    pub fits: bool,
+    pub numbers: Numbers,
+}
+
+impl Flushed {
+    /// What a call is about to meet, if it is such a flush.
+    pub fn of(call: &Call, store: &Store) -> Option<Flushed> {
+        let Call::Flush { state } = *call else { return None };
+        if !store.is_sound() || !store.keeps(state) {
+            return None;
+        }
+        let Head { checkpoint, tip, depth, .. } = store.head;
+        let numbers = match (tip.checked_sub(depth), state.checked_add(depth)) {
+            (None, _) => Numbers::BelowFirst,
+            (_, None) => Numbers::PastLast,
+            _ => Numbers::Fit,
+        };
+        let above = i64::from(state) + i64::from(depth) - i64::from(tip);
+        Some(Flushed {
+            deep: depth > 0,
+            still: state == checkpoint,
+            above: above.clamp(-1, 1),
+            fits: store.map_at(state).len() <= store.table.len(),
+            numbers,
+        })
+    }
+}
+
 /// What some calls met.
 #[derive(Clone, Debug, Default)]
 pub struct Coverage {
@@ -172,6 +221,10 @@ pub struct Coverage {
     pub counts: BTreeSet<u32>,
     /// The lookups that were answered.
     pub lookups: BTreeSet<LookedUp>,
+    /// The flushes to kept states.
+    pub flushes: BTreeSet<Flushed>,
+    /// The depths that stores were cleared or loaded with, or should have been: the call's word, and 64 for any above 63.
+    pub depths: BTreeSet<(&'static str, u32)>,
     /// The lengths lent at calls.
     pub tables: BTreeSet<usize>,
     pub journals: BTreeSet<usize>,
@@ -183,8 +236,14 @@ pub struct Coverage {
 }
 
 impl Coverage {
-    /// Notes the image or the sheet that a call is about to ask for, if it is one that there is.
-    pub fn note_asked(&mut self, unit: &Unit, call: &Call) {
+    /// Notes what a call is about to meet: an image or a sheet that it asks for, or a flush to a kept state.
+    pub fn note_before(&mut self, unit: &Unit, call: &Call) {
+        self.note_asked(unit, call);
+        self.flushes.extend(Flushed::of(call, &unit.store));
+    }
+
+    /// Notes the image or the sheet that a call asks for, if it is one that there is.
+    fn note_asked(&mut self, unit: &Unit, call: &Call) {
         let Unit { store, bytes, .. } = unit;
         let (format, state) = match call {
             Call::Write { format, state } => (*format, state.unwrap_or(store.head.tip)),
@@ -240,8 +299,11 @@ impl Coverage {
             self.broken.insert((call.form(), clause));
         }
         self.lookups.extend(LookedUp::of(call, answer, store));
-        if matches!(call, Call::Load { format: Format::Sheet }) {
+        if matches!(call, Call::Load { format: Format::Sheet, .. }) {
             self.note_load(call, bytes);
+        }
+        if let Call::Clear { depth } | Call::Load { depth, .. } = call {
+            self.depths.insert((call.name(), (*depth).min(MOST_DEPTH + 1)));
         }
         self.tables.insert(store.table.len());
         self.journals.insert(store.journal.len());
@@ -267,6 +329,8 @@ impl Coverage {
         self.faults.extend(other.faults);
         self.counts.extend(other.counts);
         self.lookups.extend(other.lookups);
+        self.flushes.extend(other.flushes);
+        self.depths.extend(other.depths);
         self.tables.extend(other.tables);
         self.journals.extend(other.journals);
         self.lists.extend(other.lists);

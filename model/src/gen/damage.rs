@@ -1,7 +1,7 @@
 //! Damage to memory and heads: each clause of soundness broken alone, and random pokes. What is damaged is mostly repaired.
 
 use super::Generator;
-use crate::head::STEPS;
+use crate::head::{MOST_DEPTH, STEPS};
 use crate::script::{Command, HeadField, Memory, Poke};
 use crate::sound::{Clause, CLAUSES};
 use crate::unit::Unit;
@@ -135,6 +135,10 @@ impl Generator {
                     Command::Head(HeadField::Issued(slot, head.oldest.checked_sub(1)?)),
                 ])
             }
+            Clause::DepthAboveMost => {
+                let any = (rng.bits() as u32).max(MOST_DEPTH + 1);
+                one(HeadField::Depth(rng.pick(&[MOST_DEPTH + 1, 127, 128, 1 << 8, 1 << 16, u32::MAX, any])))
+            }
         }
     }
 
@@ -153,7 +157,8 @@ impl Generator {
         let rng = &mut self.draw.rng;
         let table = rng.below(store.table.len().max(1));
         let journal = rng.below(store.journal.len().max(1));
-        Some(match rng.below(10) {
+        let small = rng.below(6) as u32;
+        Some(match rng.below(11) {
             0 => poke_table(some(store.table.len()).map(|_| table)?, word),
             1 => poke_table(some(store.table.len()).map(|_| table.min(store.head.used as usize))?, word),
             2 => poke_journal(some(store.journal.len()).map(|_| journal)?, word),
@@ -170,6 +175,9 @@ impl Generator {
             6 => Command::Head(HeadField::Checkpoint(number as u32)),
             7 => Command::Head(HeadField::Tip(number as u32)),
             8 => Command::Head(HeadField::Ends(rng.below(STEPS), number)),
+            9 => {
+                Command::Head(HeadField::Depth(rng.pick(&[small, MOST_DEPTH, MOST_DEPTH + 1, number as u32])))
+            }
             _ => match rng.below(2) {
                 0 => Command::Head(HeadField::Held(rng.below(8), rng.percent(50))),
                 _ => Command::Head(HeadField::Issued(rng.below(8), number as u32)),
@@ -229,6 +237,7 @@ fn undoing(unit: &Unit, command: &Command) -> Option<Command> {
             HeadField::Oldest(_) => HeadField::Oldest(head.oldest),
             HeadField::Checkpoint(_) => HeadField::Checkpoint(head.checkpoint),
             HeadField::Tip(_) => HeadField::Tip(head.tip),
+            HeadField::Depth(_) => HeadField::Depth(head.depth),
             HeadField::Held(slot, _) => HeadField::Held(slot, head.held[slot]),
             HeadField::Issued(slot, _) => HeadField::Issued(slot, head.issued[slot]),
             HeadField::Ends(mark, _) => HeadField::Ends(mark, head.ends[mark]),

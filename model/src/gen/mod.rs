@@ -7,7 +7,7 @@ mod damage;
 mod noise;
 mod setup;
 
-pub use coverage::{Asked, Coverage, LookedUp, Place, SheetHas, SHEETS_HAVE};
+pub use coverage::{Asked, Coverage, Flushed, LookedUp, Numbers, Place, SheetHas, SHEETS_HAVE};
 
 use crate::draw::Draw;
 use crate::script::{perform, Command, Show, TallyField};
@@ -84,7 +84,7 @@ impl Generator {
     fn call(&mut self, call: Call) {
         let broken =
             sound::first_broken(&self.unit.store.table, &self.unit.store.journal, &self.unit.store.head);
-        self.coverage.note_asked(&self.unit, &call);
+        self.coverage.note_before(&self.unit, &call);
         let reply = self.unit.serve(&call);
         self.coverage.note(&call, reply.answer, broken, &self.unit);
         self.items.push(Item::Command(Command::Call(call)));
@@ -157,8 +157,8 @@ impl Generator {
     fn many_lookups(&mut self) {
         let at_most = [
             (calls::ISSUE, 1),
-            (calls::COMMIT, 4),
-            (calls::FLUSH, 1),
+            (calls::COMMIT, 6),
+            (calls::FLUSH, 2),
             (calls::COMMIT, 4),
             (calls::LOOK_UP, 12),
         ];

@@ -24,7 +24,10 @@ impl Generator {
         self.lend(table, journal);
         self.draw.new_pool();
         match self.draw.rng.below(6) {
-            0 => self.call(Call::Clear),
+            0 => {
+                let depth = self.draw.depth();
+                self.call(Call::Clear { depth });
+            }
             1 => self.poke_a_store(),
             2 | 3 => self.load_to_the_brim(),
             _ => self.load_some(),
@@ -82,7 +85,8 @@ impl Generator {
             self.emit(Command::Poke { at: 0, poke: Poke::Table(words.clone()) });
         }
         self.emit(Command::Head(HeadField::Used(words.len() as u64)));
-        for field in [HeadField::Oldest(state), HeadField::Checkpoint(state), HeadField::Tip(state)] {
+        let depth = HeadField::Depth(self.draw.allowed_depth());
+        for field in [HeadField::Oldest(state), HeadField::Checkpoint(state), HeadField::Tip(state), depth] {
             self.emit(Command::Head(field));
         }
         let head = self.unit.store.head.clone();
@@ -101,7 +105,8 @@ impl Generator {
         let words = self.draw.map(self.unit.store.table.len());
         let bytes = format.write(self.draw.number(), &words);
         self.lend_bytes(&bytes);
-        self.call(Call::Load { format });
+        let depth = self.draw.depth();
+        self.call(Call::Load { depth, format });
     }
 
     /// Loads an image or a sheet that has as many offers as the table has words, one more or one less.
@@ -110,7 +115,8 @@ impl Generator {
         let table = self.unit.store.table.len();
         let count = self.draw.rng.pick(&[table, table, table - 1, table + 1]);
         self.lend_series(format, count);
-        self.call(Call::Load { format });
+        let depth = self.draw.depth();
+        self.call(Call::Load { depth, format });
     }
 
     /// Lends bytes and writes them there.

@@ -18,7 +18,7 @@ pub struct Memories<'a> {
 pub trait Holding {
     /// The lent memories.
     fn memories(&mut self) -> Memories<'_>;
-    /// The head's 84 numbers, in the order of `show head`.
+    /// The head's 85 numbers, in the order of `show head`, but the depth last.
     fn head(&self) -> Vec<u64>;
     /// Sets a field of the head.
     fn set_head(&mut self, field: HeadField);
@@ -64,6 +64,7 @@ fn set_head(head: &mut Head, field: HeadField) {
         HeadField::Oldest(value) => head.oldest = value,
         HeadField::Checkpoint(value) => head.checkpoint = value,
         HeadField::Tip(value) => head.tip = value,
+        HeadField::Depth(value) => head.depth = value,
         HeadField::Held(slot, value) => head.held[slot] = value,
         HeadField::Issued(slot, value) => head.issued[slot] = value,
         HeadField::Ends(mark, value) => head.ends[mark] = value,

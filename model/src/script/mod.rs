@@ -55,6 +55,7 @@ pub enum HeadField {
     Oldest(u32),
     Checkpoint(u32),
     Tip(u32),
+    Depth(u32),
     Held(usize, bool),
     Issued(usize, u32),
     Ends(usize, u64),
@@ -99,8 +100,9 @@ pub enum Command {
     Head(HeadField),
     Tally(TallyField),
     Show(Show),
-    /// Lends the bytes of a file and loads them.
+    /// Lends the bytes of a file and loads them, with a depth.
     LoadFile {
+        depth: u32,
         format: Format,
         name: Vec<u8>,
     },

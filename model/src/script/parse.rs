@@ -90,8 +90,9 @@ fn fill(tokens: &[Token]) -> Result<Command, Reason> {
 }
 
 fn head(tokens: &[Token]) -> Result<HeadField, Reason> {
-    const FIELDS: [&str; 7] = ["used", "oldest", "checkpoint", "tip", "held", "issued", "ends"];
-    let (field, rest) = forms_word("used, oldest, checkpoint, tip, held, issued or ends", &FIELDS, tokens)?;
+    const FIELDS: [&str; 8] = ["used", "oldest", "checkpoint", "tip", "depth", "held", "issued", "ends"];
+    const EXPECTED: &str = "used, oldest, checkpoint, tip, depth, held, issued or ends";
+    let (field, rest) = forms_word(EXPECTED, &FIELDS, tokens)?;
     let value = |form: &str| exactly(form, rest).map(|[value]| value);
     let two = |form: &str| exactly(form, rest).map(|[at, value]| (at, value));
     match field {
@@ -99,6 +100,7 @@ fn head(tokens: &[Token]) -> Result<HeadField, Reason> {
         "oldest" => number_32("STATE", value("head oldest STATE")?).map(HeadField::Oldest),
         "checkpoint" => number_32("STATE", value("head checkpoint STATE")?).map(HeadField::Checkpoint),
         "tip" => number_32("STATE", value("head tip STATE")?).map(HeadField::Tip),
+        "depth" => number_32("DEPTH", value("head depth DEPTH")?).map(HeadField::Depth),
         "held" => {
             let (slot, flag) = two("head held K N")?;
             Ok(HeadField::Held(index(SLOTS, "K", slot)?, index(2, "N", flag)? == 1))
@@ -147,16 +149,26 @@ fn show_memory(memory: Memory, tokens: &[Token]) -> Result<Show, Reason> {
     Ok(Show::Part { memory, at: number("I", at)?, count: number_to(LIST_WORDS as u64, "N", count)? })
 }
 
+/// A name is one token, so that what follows it can only be the depth.
 fn load_file(form: &str, format: Format, tokens: &[Token]) -> Result<Command, Reason> {
-    let [name] = exactly(form, tokens)?;
-    Ok(Command::LoadFile { format, name: name.to_vec() })
+    let [name, rest @ ..] = tokens else { return Err(Reason::TooFew { form: form.to_string() }) };
+    Ok(Command::LoadFile { depth: depth(form, rest)?, format, name: name.to_vec() })
+}
+
+/// The depth that a form may end with. Where none stands, it is 0.
+fn depth(form: &str, tokens: &[Token]) -> Result<u32, Reason> {
+    if tokens.is_empty() {
+        return Ok(0);
+    }
+    let [depth] = exactly(&format!("{form} DEPTH"), tokens)?;
+    number_32("DEPTH", depth)
 }
 
 fn call(first: Token, rest: &[Token]) -> Result<Call, Reason> {
     match first {
-        b"clear" => exactly("clear", rest).map(|[]| Call::Clear),
-        b"load" => exactly("load", rest).map(|[]| Call::Load { format: Format::Image }),
-        b"load_sheet" => exactly("load_sheet", rest).map(|[]| Call::Load { format: Format::Sheet }),
+        b"clear" => Ok(Call::Clear { depth: depth("clear", rest)? }),
+        b"load" => Ok(Call::Load { depth: depth("load", rest)?, format: Format::Image }),
+        b"load_sheet" => Ok(Call::Load { depth: depth("load_sheet", rest)?, format: Format::Sheet }),
         b"write_image" => write(Format::Image, rest),
         b"write_sheet" => write(Format::Sheet, rest),
         b"restart" => exactly("restart", rest).map(|[]| Call::Restart),

@@ -19,9 +19,9 @@ pub fn perform(holding: &mut impl Holding, command: &Command) -> Result<Vec<Stri
         Command::Tally(field) => holding.set_tally(*field),
         Command::Show(what) => return show(holding, *what),
         Command::Call(call) => return Ok(vec![holding.answer(call)]),
-        Command::LoadFile { format, name } => {
+        Command::LoadFile { depth, format, name } => {
             *holding.memories().bytes = file_bytes(name)?;
-            return Ok(vec![holding.answer(&Call::Load { format: *format })]);
+            return Ok(vec![holding.answer(&Call::Load { depth: *depth, format: *format })]);
         }
     }
     Ok(Vec::new())
@@ -99,7 +99,7 @@ fn all_texts(holding: &mut impl Holding) -> Vec<String> {
 
 /// The head's numbers, each as it stands: one that does not fit its field shows.
 fn head_text(head: &[u64]) -> String {
-    let [used, oldest, checkpoint, tip, rest @ ..] = head else { panic!("a head has 84 numbers") };
+    let [used, oldest, checkpoint, tip, rest @ .., depth] = head else { panic!("a head has 85 numbers") };
     let (held, rest) = rest.split_at(SLOTS);
     let (issued, ends) = rest.split_at(SLOTS);
     let held: String = held.iter().map(u64::to_string).collect();
@@ -107,7 +107,7 @@ fn head_text(head: &[u64]) -> String {
     let marks = ends.iter().rposition(|&end| end != 0).map_or(0, |last| last + 1);
     let ends: String = ends[..marks].iter().map(|end| format!(" {end}")).collect();
     format!(
-        "head used {used} oldest {oldest} checkpoint {checkpoint} tip {tip} held {held} issued{issued} ends{ends}"
+        "head used {used} oldest {oldest} checkpoint {checkpoint} tip {tip} depth {depth} held {held} issued{issued} ends{ends}"
     )
 }
 

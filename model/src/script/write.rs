@@ -37,8 +37,9 @@ impl fmt::Display for Command {
             Command::Head(field) => write!(f, "head {field}"),
             Command::Tally(field) => write!(f, "tally {field}"),
             Command::Show(what) => write!(f, "show {what}"),
-            Command::LoadFile { format, name } => {
-                write!(f, "{} {}", load_file_word(*format), String::from_utf8_lossy(name))
+            Command::LoadFile { depth, format, name } => {
+                write!(f, "{} {}", load_file_word(*format), String::from_utf8_lossy(name))?;
+                write_depth(f, *depth)
             }
             Command::Call(call) => write!(f, "{call}"),
         }
@@ -49,6 +50,14 @@ fn load_file_word(format: Format) -> &'static str {
     match format {
         Format::Image => "load_file",
         Format::Sheet => "load_sheet_file",
+    }
+}
+
+/// A depth of 0 need not be said, and is not.
+fn write_depth(f: &mut fmt::Formatter<'_>, depth: u32) -> fmt::Result {
+    match depth {
+        0 => Ok(()),
+        depth => write!(f, " {depth}"),
     }
 }
 
@@ -67,6 +76,7 @@ impl fmt::Display for HeadField {
             HeadField::Oldest(value) => write!(f, "oldest {value}"),
             HeadField::Checkpoint(value) => write!(f, "checkpoint {value}"),
             HeadField::Tip(value) => write!(f, "tip {value}"),
+            HeadField::Depth(value) => write!(f, "depth {value}"),
             HeadField::Held(slot, value) => write!(f, "held {slot} {}", u8::from(*value)),
             HeadField::Issued(slot, value) => write!(f, "issued {slot} {value}"),
             HeadField::Ends(mark, value) => write!(f, "ends {mark} {value}"),
@@ -104,7 +114,8 @@ impl fmt::Display for Call {
             write!(f, " {}", Caller::Foyer)?;
         }
         match self {
-            Call::Clear | Call::Load { .. } | Call::Write { state: None, .. } | Call::Restart => Ok(()),
+            Call::Clear { depth } | Call::Load { depth, .. } => write_depth(f, *depth),
+            Call::Write { state: None, .. } | Call::Restart => Ok(()),
             Call::Commit { list } => f.write_str(&words_text(list)),
             Call::Write { state: Some(state), .. } | Call::RollBack { state } | Call::Flush { state } => {
                 write!(f, " {state}")

@@ -13,9 +13,9 @@ const LOOKUP_ANSWERS: [&str; 8] =
 /// Every answer that each form of a call can give, without values, as the grounds concern it. What follows the call's word says
 /// that the foyer makes it, or that the state to be written is named.
 pub const ANSWERS: [(&str, &[&str]); 20] = [
-    ("clear", &["ok", "refused 1"]),
-    ("load", &["ok", "refused 1", "refused 15", "refused 16"]),
-    ("load_sheet", &["ok", "refused 1", "refused 15", "refused 16"]),
+    ("clear", &["ok", "refused 1", "refused 20"]),
+    ("load", &["ok", "refused 1", "refused 20", "refused 15", "refused 16"]),
+    ("load_sheet", &["ok", "refused 1", "refused 20", "refused 15", "refused 16"]),
     ("write_image", &["ok", "refused 1", "refused 2", "refused 17"]),
     ("write_image STATE", &["ok", "refused 1", "refused 2", "refused 11", "refused 17"]),
     ("write_sheet", &["ok", "refused 1", "refused 2", "refused 17"]),
@@ -23,7 +23,7 @@ pub const ANSWERS: [(&str, &[&str]); 20] = [
     ("restart", &["ok", "refused 1", "refused 2", "refused 17"]),
     ("commit", &["ok", "refused 1", "refused 2", "refused 6", "refused 12", "refused 13", "refused 14"]),
     ("roll_back", &["ok", "refused 1", "refused 2", "refused 11"]),
-    ("flush", &["ok", "refused 1", "refused 2", "refused 11", "refused 16"]),
+    ("flush", &["ok", "refused 1", "refused 2", "refused 11", "refused 20", "refused 16"]),
     ("look_up", &LOOKUP_ANSWERS),
     ("look_up foyer", &LOOKUP_ANSWERS),
     ("issue", &["ok", "refused 1", "refused 2", "refused 3", "refused 19", "refused 4", "refused 6"]),

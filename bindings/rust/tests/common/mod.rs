@@ -59,9 +59,9 @@ pub type Call = fn(&mut Store) -> Result<(), Refusal>;
 
 /// A call of each kind that the store of [`store`] accepts, from the foyer too where it has slots of its own.
 pub const CALLS: [(&str, Call); 19] = [
-    ("clear", |store| store.clear()),
-    ("load", |store| store.load(&IMAGE)),
-    ("load_sheet", |store| store.load_sheet(&SHEET)),
+    ("clear", |store| store.clear(0)),
+    ("load", |store| store.load(0, &IMAGE)),
+    ("load_sheet", |store| store.load_sheet(0, &SHEET)),
     ("write_image", |store| store.write_image(&mut [0; 64]).map(drop)),
     ("write_state_image of the checkpoint", |store| store.write_state_image(1, &mut [0; 64]).map(drop)),
     ("write_state_image of the tip", |store| store.write_state_image(2, &mut [0; 64]).map(drop)),

@@ -10,10 +10,9 @@ use Rattle.changes.proofs.ListTest.{and-both}
 use Rattle.answers.proofs.Firsts.{stops, goes-on}
 use Rattle.views.specs.View.{Shaped}
 use Rattle.views.proofs.SoundFacts.{shaped}
-use Rattle.state_maps.specs.Held.{HeldState}
-use Rattle.state_maps.proofs.MapSizes.{held-known, starts-rise, size-here, no-words}
+use Rattle.state_maps.proofs.MapSizes.{starts-rise, size-here, no-words}
 use Rattle.state_maps.proofs.Working.{state-facts}
-use Rattle.flushes.proofs.Flushing.{held-not, room, sized, table-here}
+use Rattle.flushes.proofs.Flushing.{Target, target-not, target-known, room, sized, table-here}
 use borrow.Author.Needs.{needs}
 use Rattle.flushes.proofs.flush_table.Statement.{statement}
 use Rattle.flushes.proofs.flush_table.Tie as tie
@@ -22,14 +21,14 @@ use Rattle.flushes.proofs.flush_table.Tie as tie
 abbrev start : tie.After-enum-told2 → tie.Start
 start d = d .before .before .before .before .before .before .before .before .before .before .before .before
 
--- what is known there: the store holds the state
+-- what is known there: the store holds the state, and a flush to it is not barred
 known : (d : tie.After-enum-told2)
-    → HeldState (start d .args .table .now) (start d .args .journal .now) (start d .args .t3) (start d .args .state)
+    → Target (start d .args .table .now) (start d .args .journal .now) (start d .args .t3) (start d .args .state)
 known d =
     let d3 = d .before .before .before in
     let d5 = d3 .before .before in
-    held-known _ _ _ _
-    (d .before .before .state-check .ensures .0
+    target-known _ _ _ _
+    (d .before .before .target-check .ensures .0
     ∙ sym (goes-on _ _ (d5 .store-check .ensures .0) (d3 .enum-told .given .1)))
     (d .enum-told2 .given .1)
 
@@ -55,17 +54,17 @@ returns : tie.Need-returns
 returns c =
     let c3 = c .before .before .before in
     let args = c3 .before .before .before .before .before .before .before .args in
-    held-not (args .table .now) (args .journal .now) (args .t3) (args .state)
+    target-not (args .table .now) (args .journal .now) (args .t3) (args .state)
     (stops _ _ (c3 .store-check .ensures .0) (c .before .store .given .1)) (c .before .store .given .1)
 
 enum-told : tie.Need-enum-told
 enum-told c = search needs
 
-state-check-requires : tie.Need-state-check-requires
-state-check-requires c κs = search needs
+target-check-requires : tie.Need-target-check-requires
+target-check-requires c κs = search needs
 
-enum-known-range : tie.Need-enum-known-range
-enum-known-range c = search needs
+enum-known-target : tie.Need-enum-known-target
+enum-known-target c = search needs
 
 same-length-2 : tie.Need-same-length-2
 same-length-2 c = search needs
@@ -73,11 +72,13 @@ same-length-2 c = search needs
 returns-2 : tie.Need-returns-2
 returns-2 c =
     let c3 = c .before .before .before in
+    let c3 = c3 in
     let c4 = c3 .before in
     let c6 = c4 .before .before in
     let args = c6 .before .before .before .before .before .before .before .args in
-    held-not (args .table .now) (args .journal .now) (args .t3) (args .state)
-    ((c3 .state-check .ensures .0) ∙ sym (goes-on _ _ (c6 .store-check .ensures .0) (c4 .enum-told .given .1))) (c .before .range .given .1)
+    target-not (args .table .now) (args .journal .now) (args .t3) (args .state)
+    ((c3 .target-check .ensures .0) ∙ sym (goes-on _ _ (c6 .store-check .ensures .0) (c4 .enum-told .given .1)))
+    (c .before .target .given .1)
 
 enum-told-2 : tie.Need-enum-told-2
 enum-told-2 c = search needs
@@ -90,7 +91,7 @@ returns-3 c =
     let c10 = c .before .before .before .before .before .before .before .before .before .before in
     let args = c10 .before .before .before .args in
     let held = known (c .before) in
-    let ok = state-facts held in
+    let ok = state-facts (held .held) in
     let p = shape (c .before) in
     let none = no-words (args .t3) (args .state) (omega (arith, ok .low, ok .high, (c .if1 .taken))) in
     room (args .table .now) (args .journal .now) (args .t3) (args .state) held (size-here ok p none)
@@ -104,7 +105,7 @@ returns-4 c =
     let c4 = c .before .before .before .before in
     let args = c4 .before .before .before .before .before .before .before .before .before .before .args in
     let held = known (c .before .before) in
-    let ok = state-facts held in
+    let ok = state-facts (held .held) in
     let p = shape (c .before .before) in
     let none = no-words (args .t3) (args .state) ((c .if2 .taken)) in
     room (args .table .now) (args .journal .now) (args .t3) (args .state) held (size-here ok p none)
@@ -112,7 +113,7 @@ returns-4 c =
 
 words-to-requires : tie.Need-words-to-requires
 words-to-requires c κs =
-    let ok = state-facts (known (c .before .before)) in
+    let ok = state-facts (known (c .before .before) .held) in
     (ok .sound .low, ok .low, omega (arith, ok .sound .low, ok .sound .few, ok .high), starts-rise ok (shape (c .before .before)))
 
 same-length-5 : tie.Need-same-length-5
@@ -123,7 +124,7 @@ returns-5 c =
     let c6 = c .before .before .before .before .before .before in
     let args = c6 .before .before .before .before .before .before .before .before .before .before .args in
     let held = known (c .before .before .before .before) in
-    let ok = state-facts held in
+    let ok = state-facts (held .held) in
     let p = shape (c .before .before .before .before) in
     let none = sym (c .before .words-to .ensures) ∙ (c .if3 .taken) in
     room (args .table .now) (args .journal .now) (args .t3) (args .state) held (size-here ok p none)
@@ -138,7 +139,7 @@ move-few-requires c κs =
     let c7 = c4 .before .before .before in
     let c4 = c4 in
     let few = and-both _ _ (sym (c .before .before .are-few .ensures) ∙ (c .before .if4 .taken)) in
-    (known c7, leb-true _ _ (few .0), omega (arith, leb-true (c4 .words-to .result) 512 (few .1), (c4 .words-to .ensures)))
+    (known c7 .held, leb-true _ _ (few .0), omega (arith, leb-true (c4 .words-to .result) 512 (few .1), (c4 .words-to .ensures)))
 
 size-if-room-requires : tie.Need-size-if-room-requires
 size-if-room-requires c κs = search needs
@@ -157,7 +158,7 @@ returns-6 c =
     (c3 .move-few .ensures .0) (c3 .move-few .ensures .1) (c .before .before .table .given) (c .size-if-room .ensures)
 
 move-many-requires : tie.Need-move-many-requires
-move-many-requires c κs = known (c .before .before .before .before .before .before .before)
+move-many-requires c κs = known (c .before .before .before .before .before .before .before) .held
 
 size-if-room-requires-2 : tie.Need-size-if-room-requires-2
 size-if-room-requires-2 c κs = search needs
@@ -184,8 +185,8 @@ flush-table-spec =
     same-length
     returns
     enum-told
-    state-check-requires
-    enum-known-range
+    target-check-requires
+    enum-known-target
     same-length-2
     returns-2
     enum-told-2

@@ -76,14 +76,33 @@ joined-requires-4 c κs = search needs
 returns-4 : tie.Need-returns-4
 returns-4 c =
     let c3 = c .before .before .before in
-    let c5 = c3 .before .before in
-    let c6 = c5 .before in
-    let c8 = c6 .before .before in
-    let c9 = c8 .before in
-    c .joined4 .ensures 16 ∙ sym
-    (first-holds _ _ (sym (c9 .joined .ensures 32) ∙ lt-ltb _ _ (c8 .if1 .left))
-    ∙ first-holds _ _ (sym (c6 .joined2 .ensures 1) ∙ lt-ltb _ _ (c5 .if2 .left))
-    ∙ first-holds _ _ (sym (c3 .joined3 .ensures 32) ∙ lt-ltb _ _ (c .before .before .if3 .left))
+    let c4 = c3 .before in
+    let c6 = c4 .before .before in
+    let c7 = c6 .before in
+    let c9 = c7 .before .before in
+    let c10 = c9 .before in
+    sym (first-holds _ _ (sym (c10 .joined .ensures 32) ∙ lt-ltb _ _ (c9 .if1 .left))
+    ∙ first-holds _ _ (sym (c7 .joined2 .ensures 1) ∙ lt-ltb _ _ (c6 .if2 .left))
+    ∙ first-holds _ _ (sym (c4 .joined3 .ensures 32) ∙ lt-ltb _ _ (c3 .if3 .left))
+    ∙ first-fails _ _ (sym (c .before .joined4 .ensures 16) ∙ le-ltb _ _ (c .if4 .taken)))
+
+element-copy-out-result : tie.Need-element-copy-out-result
+element-copy-out-result c = search needs
+
+returns-5 : tie.Need-returns-5
+returns-5 c =
+    let c1 = c .before in
+    let c2 = c1 .before in
+    let c4 = c2 .before .before in
+    let c5 = c4 .before in
+    let c7 = c5 .before .before in
+    let c8 = c7 .before in
+    let c10 = c8 .before .before in
+    let c11 = c10 .before in
+    sym (first-holds _ _ (sym (c11 .joined .ensures 32) ∙ lt-ltb _ _ (c10 .if1 .left))
+    ∙ first-holds _ _ (sym (c8 .joined2 .ensures 1) ∙ lt-ltb _ _ (c7 .if2 .left))
+    ∙ first-holds _ _ (sym (c5 .joined3 .ensures 32) ∙ lt-ltb _ _ (c4 .if3 .left))
+    ∙ first-holds _ _ (sym (c2 .joined4 .ensures 16) ∙ lt-ltb _ _ (c1 .if4 .left))
     ∙ last-test _)
 
 pub is-head-spec : {M : Type 1} → statement M
@@ -109,4 +128,6 @@ is-head-spec =
     part-joined-start-4
     part-joined-end-4
     joined-requires-4
-    returns-4)
+    returns-4
+    element-copy-out-result
+    returns-5)

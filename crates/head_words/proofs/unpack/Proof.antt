@@ -8,11 +8,14 @@ use Rattle.head_words.proofs.unpack.Tie as tie
 
 returns : tie.Need-returns
 returns c i =
-    let there = headOf (c .before .before .before .before .before .before .before .before .before .before .before .args .words .now) in
+    let c3 = c .before .before .before in
+    let c5 = c3 .before .before in
+    let c10 = c5 .before .before .before .before .before in
+    let there = headOf (c10 .before .before .args .words .now) in
     withSteps
-    (withSlots there ((c .before .before .before .before .flags-of .ensures) i) ((c .before .before .numbers-of .ensures) i))
+    (withSlots there (c5 .flags-of .ensures i) (c3 .numbers-of .ensures i))
     (there .tip)
-    ((c .ends-of .ensures) i)
+    (c .before .ends-of .ensures i)
 
 pub unpack-spec : {M : Type 1} → statement M
 unpack-spec =
@@ -37,4 +40,6 @@ unpack-spec =
     (λ c. search needs)
     (λ c. search needs)
     (λ c κs. search needs)
+    (λ c. search needs)
+    (λ c. search needs)
     returns)

@@ -2,10 +2,9 @@
 -- Assumes nothing.
 use mathlib.Core.Path.{_∙_, sym}
 use Prim.Native.Nat.{_^_, _<_}
-use native.Mathlib.Omega.{arith}
 use lib.Seq.{length-take-le}
 use Rattle.answers.proofs.Counted.{refused-of, counted-of}
-use Rattle.restarts.proofs.Restarting.{restart-refused, image-inside, long-enough, load-room, restart-done}
+use Rattle.restarts.proofs.Restarting.{restart-refused, image-inside, load-room, used-room, restart-done}
 use borrow.Author.Needs.{needs}
 use Rattle.restarts.proofs.restart.Statement.{statement}
 use Rattle.restarts.proofs.restart.Tie as tie
@@ -35,45 +34,47 @@ returns c =
     let args = c3 .before .before .before .before .before .before .before .args in
     let args = args in
     restart-refused (args .table .now) (args .journal .now) (args .head) (args .bytes .now)
-    (refused-of _ _ (c3 .write-state .ensures .0 .0) ((c .match) .keys2)) (c3 .write-state .ensures .1)
+    (refused-of _ _ ((c3 .write-state .ensures) .0 .0) ((c .match .keys2))) ((c3 .write-state .ensures) .1)
 
-sub-count : tie.Need-sub-count
-sub-count c =
+slice-reshare-prefix-read : tie.Need-slice-reshare-prefix-read
+slice-reshare-prefix-read c =
     let c5 = c .before .before .before .before .before in
     let args = c5 .before .before .before .before .before .before .before .args in
     let args = args in
-    let k = counted-of _ _ (sym (c .before .answer .given .1) ∙ (c5 .write-state .ensures .0 .0)) in
-    long-enough (args .table .now) (args .journal .now) (args .head) (args .bytes .now) (k .0) (k .1) (c5 .write-state .ensures .1)
+    let k = counted-of _ _ (sym ((c .before .answer .given) .1) ∙ ((c5 .write-state .ensures) .0 .0)) in
+    image-inside (args .table .now) (args .journal .now) (args .head) (args .bytes .now) (k .0) (k .1) ((c5 .write-state .ensures) .1)
 
-slice-reshare-prefix-fill : tie.Need-slice-reshare-prefix-fill
-slice-reshare-prefix-fill c =
+slice-aggregate-read : tie.Need-slice-aggregate-read
+slice-aggregate-read c =
+    let c6 = c .before .before .before .before .before .before in
+    let args = c6 .before .before .before .before .before .before .before .args in
+    let args = args in
+    let k = counted-of _ _ (sym ((c .before .before .answer .given) .1) ∙ ((c6 .write-state .ensures) .0 .0)) in
+    sym (length-take-le _ _
+    (image-inside (args .table .now) (args .journal .now) (args .head) (args .bytes .now) (k .0) (k .1) ((c6 .write-state .ensures) .1)))
+
+read-requires : tie.Need-read-requires
+read-requires c κs =
     let c3 = c .before .before .before in
     let c7 = c3 .before .before .before .before in
-    let args = c7 .before .before .before .before .before .before .before .args in
+    let c14 = c7 .before .before .before .before .before .before .before in
+    let args = c14 .args in
     let args = args in
-    let k = counted-of _ _ (sym (c3 .answer .given .1) ∙ (c7 .write-state .ensures .0 .0)) in
-    image-inside (args .table .now) (args .journal .now) (args .head) (args .bytes .now) (k .0) (k .1) (c7 .write-state .ensures .1)
+    let k = counted-of _ _ (sym ((c3 .answer .given) .1) ∙ ((c7 .write-state .ensures) .0 .0)) in
+    load-room (args .table .now) (args .journal .now) (args .head) (args .bytes .now) (k .0) (k .1)
+    ((c7 .write-state .ensures) .1) (small c14)
 
-slice-aggregate-fill : tie.Need-slice-aggregate-fill
-slice-aggregate-fill c =
+fresh-store-requires : tie.Need-fresh-store-requires
+fresh-store-requires c κs =
     let c4 = c .before .before .before .before in
     let c8 = c4 .before .before .before .before in
-    let args = c8 .before .before .before .before .before .before .before .args in
+    let c12 = c8 .before .before .before .before in
+    let c19 = c12 .before .before .before .before .before .before .before in
+    let args = c19 .args in
     let args = args in
-    let k = counted-of _ _ (sym (c4 .answer .given .1) ∙ (c8 .write-state .ensures .0 .0)) in
-    sym (length-take-le _ _
-    (image-inside (args .table .now) (args .journal .now) (args .head) (args .bytes .now) (k .0) (k .1) (c8 .write-state .ensures .1)))
-
-fill-requires : tie.Need-fill-requires
-fill-requires c κs =
-    let c4 = c .before .before .before .before in
-    let c8 = c4 .before .before .before .before in
-    let c15 = c8 .before .before .before .before .before .before .before in
-    let args = c15 .args in
-    let args = args in
-    let k = counted-of _ _ (sym (c4 .answer .given .1) ∙ (c8 .write-state .ensures .0 .0)) in
-    load-room (args .table .now) (args .journal .now) (args .head) (args .bytes .now) (k .0) (k .1) (c8 .write-state .ensures .1)
-    (small c15)
+    let k = counted-of _ _ (sym ((c8 .answer .given) .1) ∙ ((c12 .write-state .ensures) .0 .0)) in
+    used-room (args .table .now) (args .journal .now) (args .head) (args .bytes .now) (k .0) (k .1) ((c12 .write-state .ensures) .1)
+    (small c19) ((c4 .read .ensures))
 
 same-length-4 : tie.Need-same-length-4
 same-length-4 c = search needs
@@ -89,11 +90,13 @@ returns-2 c =
     let c4 = c .before .before .before .before in
     let c9 = c4 .before .before .before .before .before in
     let c13 = c9 .before .before .before .before in
-    let args = c13 .before .before .before .before .before .before .before .args in
+    let c17 = c13 .before .before .before .before in
+    let c24 = c17 .before .before .before .before .before .before .before in
+    let args = c24 .args in
     let args = args in
-    let k = counted-of _ _ (sym (c9 .answer .given .1) ∙ (c13 .write-state .ensures .0 .0)) in
-    restart-done (args .table .now) (args .journal .now) (args .head) (args .bytes .now) (k .0) (k .1) (c13 .write-state .ensures .1)
-    (c4 .fill .ensures .0) (c4 .fill .ensures .1) (c4 .fill .ensures .2)
+    let k = counted-of _ _ (sym ((c13 .answer .given) .1) ∙ ((c17 .write-state .ensures) .0 .0)) in
+    restart-done (args .table .now) (args .journal .now) (args .head) (args .bytes .now) (k .0) (k .1) ((c17 .write-state .ensures) .1)
+    (small c24) ((c9 .read .ensures)) ((c4 .fresh-store .ensures) .0) ((c4 .fresh-store .ensures) .1) ((c4 .fresh-store .ensures) .2)
 
 pub restart-spec : {M : Type 1} → statement M
 restart-spec =
@@ -105,10 +108,10 @@ restart-spec =
     same-length-2
     same-length-3
     returns
-    sub-count
-    slice-reshare-prefix-fill
-    slice-aggregate-fill
-    fill-requires
+    slice-reshare-prefix-read
+    slice-aggregate-read
+    read-requires
+    fresh-store-requires
     same-length-4
     same-length-5
     same-length-6

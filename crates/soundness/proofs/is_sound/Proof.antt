@@ -1,8 +1,7 @@
 -- `is_sound` meets its contract: the tests are made in the order of the definition.
 -- Assumes nothing.
 use mathlib.Core.Path.{_≡_, _∙_, sym, ap, ap₂}
-use borrow.Author.Tests.{not-true, not-false}
-use lib.Dec.{eqb}
+use borrow.Author.Tests.{eq-eqb, ne-eqb, not-true, not-false}
 use lib.ListN.{length}
 use native.Mathlib.Omega.{arith}
 use Rattle.layout.proofs.HeadTests.{numbers-facts}
@@ -104,15 +103,43 @@ returns-5 c =
     let c8 = c7 .before in
     let c9 = c8 .before in
     let c10 = c9 .before in
-    let c16 = c10 .before .before .before .before .before .before in
-    let args = c16 .args in
-    ap (eqb (args .head .oldest)) (c .before .least-of .ensures)
+    let c11 = c10 .before in
+    let c17 = c11 .before .before .before .before .before .before in
+    let args = c17 .args in
+    sym
+    (first-holds _ _ (sym ((c11 .is-table .ensures)) ∙ not-false _ ((c10 .if1 .left)))
+    ∙ first-holds _ _ (sym ((c9 .numbers-fit .ensures)) ∙ not-false _ ((c8 .if2 .left)))
+    ∙ first-holds _ _ (ap₂ (journalB (args .journal .now)) (sym ((c17 .pre))) (sym ((c7 .held-count .ensures)))
+    ∙ sym ((c6 .is-journal .ensures)) ∙ not-false _ ((c5 .if3 .left)))
+    ∙ first-holds _ _ (sym ((c4 .slots-fit .ensures)) ∙ not-false _ ((c3 .if4 .left)))
+    ∙ first-fails _ _ (ne-eqb _ _ (λ e. c .if5 .taken (e ∙ sym (c .before .before .least-of .ensures)))))
+
+depth-fits-requires : tie.Need-depth-fits-requires
+depth-fits-requires c κs = search needs
+
+returns-6 : tie.Need-returns-6
+unfolding soundB
+returns-6 c =
+    let c3 = c .before .before .before in
+    let c4 = c3 .before in
+    let c5 = c4 .before in
+    let c6 = c5 .before in
+    let c7 = c6 .before in
+    let c8 = c7 .before in
+    let c9 = c8 .before in
+    let c10 = c9 .before in
+    let c11 = c10 .before in
+    let c12 = c11 .before in
+    let c18 = c12 .before .before .before .before .before .before in
+    let args = c18 .args in
+    (c .depth-fits .ensures)
     ∙ sym
-    (first-holds _ _ (sym (c10 .is-table .ensures) ∙ not-false _ (c9 .if1 .left))
-    ∙ first-holds _ _ (sym (c8 .numbers-fit .ensures) ∙ not-false _ (c7 .if2 .left))
-    ∙ first-holds _ _ (ap₂ (journalB (args .journal .now)) (sym (c16 .pre)) (sym (c6 .held-count .ensures))
-    ∙ sym (c5 .is-journal .ensures) ∙ not-false _ (c4 .if3 .left))
-    ∙ first-holds _ _ (sym (c3 .slots-fit .ensures) ∙ not-false _ (c .before .before .if4 .left))
+    (first-holds _ _ (sym ((c12 .is-table .ensures)) ∙ not-false _ ((c11 .if1 .left)))
+    ∙ first-holds _ _ (sym ((c10 .numbers-fit .ensures)) ∙ not-false _ ((c9 .if2 .left)))
+    ∙ first-holds _ _ (ap₂ (journalB (args .journal .now)) (sym ((c18 .pre))) (sym ((c8 .held-count .ensures)))
+    ∙ sym ((c7 .is-journal .ensures)) ∙ not-false _ ((c6 .if3 .left)))
+    ∙ first-holds _ _ (sym ((c5 .slots-fit .ensures)) ∙ not-false _ ((c4 .if4 .left)))
+    ∙ first-holds _ _ (eq-eqb _ _ (c .before .if5 .left ∙ c3 .least-of .ensures))
     ∙ last-test _)
 
 pub is-sound-spec : {M : Type 1} → statement M
@@ -129,4 +156,6 @@ is-sound-spec =
     slots-fit-requires
     returns-4
     least-of-requires
-    returns-5)
+    returns-5
+    depth-fits-requires
+    returns-6)

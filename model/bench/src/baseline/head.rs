@@ -1,9 +1,16 @@
 //! The head and the tally of a store.
 
-/// The number of slots, and the most steps that are held.
+/// The number of slots, the most steps that are held, and the largest depth.
 pub const SLOTS: usize = 8;
 /// See [`SLOTS`].
 pub const STEPS: usize = 64;
+/// See [`SLOTS`].
+pub const MOST_DEPTH: u32 = 63;
+
+/// The words of a head, laid out as include/cechnuol.h says.
+pub const HEAD_WORDS: usize = 85;
+/// The word of the depth.
+pub const DEPTH: usize = 84;
 
 /// The head: where in table and journal things lie, and the numbers of the states.
 #[derive(Clone, Debug, PartialEq, Eq)]
@@ -22,11 +29,13 @@ pub struct Head {
     pub issued: [u32; SLOTS],
     /// Where each held step ends in the journal; those not in use are 0.
     pub ends: [usize; STEPS],
+    /// How many steps back from the tip a flush must leave possible.
+    pub depth: u32,
 }
 
 impl Head {
     /// The head of a store that has one state, no step and no open slot.
-    pub fn at_rest(state: u32, used: usize) -> Head {
+    pub fn at_rest(state: u32, used: usize, depth: u32) -> Head {
         Head {
             used,
             oldest: state,
@@ -35,6 +44,7 @@ impl Head {
             held: [false; SLOTS],
             issued: [0; SLOTS],
             ends: [0; STEPS],
+            depth,
         }
     }
 
@@ -57,9 +67,9 @@ impl Head {
         }
     }
 
-    /// The head in words that fit its fields, laid out as include/cechnuol.h says.
+    /// The head in words that fit its fields.
     pub fn of_words(words: &[u64]) -> Head {
-        let mut head = Head::at_rest(0, words[0] as usize);
+        let mut head = Head::at_rest(0, words[0] as usize, words[DEPTH] as u32);
         head.oldest = words[1] as u32;
         head.checkpoint = words[2] as u32;
         head.tip = words[3] as u32;
@@ -70,14 +80,15 @@ impl Head {
     }
 
     /// Puts the head into its words.
-    pub fn put_words(&self, words: &mut [u64; 84]) {
+    pub fn put_words(&self, words: &mut [u64; HEAD_WORDS]) {
         words[0] = self.used as u64;
         words[1] = self.oldest.into();
         words[2] = self.checkpoint.into();
         words[3] = self.tip.into();
         words[4..12].iter_mut().zip(self.held).for_each(|(word, held)| *word = held.into());
         words[12..20].iter_mut().zip(self.issued).for_each(|(word, issued)| *word = issued.into());
-        words[20..].iter_mut().zip(self.ends).for_each(|(word, end)| *word = end as u64);
+        words[20..DEPTH].iter_mut().zip(self.ends).for_each(|(word, end)| *word = end as u64);
+        words[DEPTH] = self.depth.into();
     }
 }
 

@@ -1,12 +1,11 @@
 //! The baseline given what a C function is given: head and tally as words that may hold anything. They are tested and unpacked
 //! before a call, and packed again after it where it has changed them.
 
-use super::head::{Head, Tally};
+use super::head::{Head, Tally, DEPTH, HEAD_WORDS};
 use super::refusal::Refusal;
 use super::store::{lengths_fit, Store};
 
-/// The words of a head and of a tally.
-const HEAD_WORDS: usize = 84;
+/// The words of a tally.
 const TALLY_WORDS: usize = 3;
 
 /// The memory of a store, all of it words.
@@ -18,10 +17,13 @@ pub struct LentWords {
     pub tally: [u64; TALLY_WORDS],
 }
 
-/// Whether words fit the fields of a head: state numbers are below 2^32, and flags are 0 or 1.
+/// Whether words fit the fields of a head: state numbers and the depth are below 2^32, and flags are 0 or 1.
 fn fits(words: &[u64; HEAD_WORDS]) -> bool {
     let are_numbers = |words: &[u64]| words.iter().all(|&word| word < 1 << 32);
-    are_numbers(&words[1..4]) && words[4..12].iter().all(|&word| word < 2) && are_numbers(&words[12..20])
+    are_numbers(&words[1..4])
+        && words[4..12].iter().all(|&word| word < 2)
+        && are_numbers(&words[12..20])
+        && are_numbers(&words[DEPTH..])
 }
 
 impl LentWords {

@@ -20,7 +20,7 @@ pub mod word;
 
 pub use batch::price_batch;
 pub use caller::Caller;
-pub use head::{Head, Tally};
+pub use head::{Head, Tally, DEPTH};
 pub use lent_words::LentWords;
 pub use quote::{Quote, Since};
 pub use refusal::Refusal;

@@ -23,6 +23,7 @@ pub enum Refusal {
     OutputShort,
     LongList,
     OthersSlot,
+    TooDeep,
 }
 
 impl Refusal {

@@ -8,31 +8,31 @@ use super::sheet::{self, Sheet};
 use super::store::Store;
 
 impl Store<'_> {
-    /// The empty map as state 0.
-    pub fn clear(&mut self) -> Result<(), Refusal> {
-        self.test_lengths()?;
+    /// The empty map as state 0, with a depth.
+    pub fn clear(&mut self, depth: u32) -> Result<(), Refusal> {
+        self.test_lengths_and_depth(depth)?;
         self.table.fill(0);
-        self.rest(0, 0);
+        self.rest(0, 0, depth);
         Ok(())
     }
 
-    /// The map of an image under its number.
-    pub fn load(&mut self, bytes: &[u8]) -> Result<(), Refusal> {
-        self.test_lengths()?;
+    /// The map of an image under its number, with a depth.
+    pub fn load(&mut self, depth: u32, bytes: &[u8]) -> Result<(), Refusal> {
+        self.test_lengths_and_depth(depth)?;
         let image = Image::tested(bytes).ok_or(Refusal::BadImage)?;
         Refusal::TableFull.unless(image.count() <= self.table.len())?;
-        self.fill(&image);
+        self.fill(&image, depth);
         Ok(())
     }
 
-    /// The map of a sheet under its number.
-    pub fn load_sheet(&mut self, bytes: &[u8]) -> Result<(), Refusal> {
-        self.test_lengths()?;
+    /// The map of a sheet under its number, with a depth.
+    pub fn load_sheet(&mut self, depth: u32, bytes: &[u8]) -> Result<(), Refusal> {
+        self.test_lengths_and_depth(depth)?;
         let sheet = Sheet::tested(bytes).ok_or(Refusal::BadImage)?;
         Refusal::TableFull.unless(sheet.count <= self.table.len())?;
         sheet.read(self.table);
         self.table[sheet.count..].fill(0);
-        self.rest(sheet.state, sheet.count);
+        self.rest(sheet.state, sheet.count, depth);
         Ok(())
     }
 
@@ -72,25 +72,25 @@ impl Store<'_> {
         }
     }
 
-    /// Writes the image of the checkpoint and loads it back; it needs no test.
+    /// Writes the image of the checkpoint and loads it back, with the depth that there is; it needs no test.
     pub fn restart(&mut self, bytes: &mut [u8]) -> Result<(), Refusal> {
         self.test_store()?;
         let length = put_image(self.head.checkpoint, &self.table[..self.head.used], bytes)?;
-        self.fill(&Image::written(self.head.checkpoint, &bytes[..length]));
+        self.fill(&Image::written(self.head.checkpoint, &bytes[..length]), self.head.depth);
         Ok(())
     }
 
     /// Makes the store hold the map of an image, for which the table has room, and nothing else.
-    fn fill(&mut self, image: &Image) {
+    fn fill(&mut self, image: &Image, depth: u32) {
         image.read(self.table);
         self.table[image.count()..].fill(0);
-        self.rest(image.state, image.count());
+        self.rest(image.state, image.count(), depth);
     }
 
     /// The state of the table as the only one; no step is held and no slot is open.
-    fn rest(&mut self, state: u32, used: usize) {
+    fn rest(&mut self, state: u32, used: usize, depth: u32) {
         self.journal.fill(0);
-        *self.head = Head::at_rest(state, used);
+        *self.head = Head::at_rest(state, used, depth);
         *self.tally = Tally::default();
     }
 }

@@ -1,6 +1,6 @@
 //! When a store is sound.
 
-use super::head::{Head, STEPS};
+use super::head::{Head, MOST_DEPTH, STEPS};
 use super::word;
 
 /// Whether table, journal and head are sound.
@@ -17,7 +17,10 @@ fn is_table(table: &[u64], used: usize) -> bool {
 }
 
 pub(super) fn numbers_fit(head: &Head) -> bool {
-    head.oldest <= head.checkpoint && head.checkpoint <= head.tip && head.steps_to(head.tip) <= STEPS
+    head.oldest <= head.checkpoint
+        && head.checkpoint <= head.tip
+        && head.steps_to(head.tip) <= STEPS
+        && head.depth <= MOST_DEPTH
 }
 
 /// The marks in use end lists that lie one after another, zeros follow, and the other marks are 0.

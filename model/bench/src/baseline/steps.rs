@@ -36,10 +36,13 @@ impl Store<'_> {
         Ok(())
     }
 
-    /// Makes the table the map at a state, and that state the checkpoint.
+    /// Makes the table the map at a state, and that state the checkpoint. So many steps as the depth stay above it, unless it is
+    /// the checkpoint.
     pub fn flush(&mut self, state: u32) -> Result<(), Refusal> {
         self.test_store()?;
         self.test_state(state)?;
+        let steps_above = self.head.tip - state;
+        Refusal::TooDeep.unless(state == self.head.checkpoint || self.head.depth <= steps_above)?;
         let changes = self.changes_to(state);
         if !changes.is_empty() {
             self.apply(&changes)?;

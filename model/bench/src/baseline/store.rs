@@ -1,7 +1,7 @@
 //! A store's memory, and the grounds that concern most calls.
 
 use super::caller::Caller;
-use super::head::{Head, Tally, SLOTS};
+use super::head::{Head, Tally, MOST_DEPTH, SLOTS};
 use super::refusal::Refusal;
 use super::sound::is_sound;
 use super::without_exits;
@@ -34,7 +34,7 @@ impl Memory {
         Memory {
             table: vec![0; table],
             journal: vec![0; journal],
-            head: Head::at_rest(0, 0),
+            head: Head::at_rest(0, 0, 0),
             tally: Tally::default(),
         }
     }
@@ -67,8 +67,14 @@ pub(super) fn lengths_fit(table: &[u64], journal: &[u64]) -> bool {
 
 impl Store<'_> {
     /// Ground 1.
-    pub(super) fn test_lengths(&self) -> Result<(), Refusal> {
+    fn test_lengths(&self) -> Result<(), Refusal> {
         Refusal::Lengths.unless(lengths_fit(self.table, self.journal))
+    }
+
+    /// Grounds 1 and 20, of a call that gives the store a depth.
+    pub(super) fn test_lengths_and_depth(&self, depth: u32) -> Result<(), Refusal> {
+        self.test_lengths()?;
+        Refusal::TooDeep.unless(depth <= MOST_DEPTH)
     }
 
     /// Grounds 1 and 2.

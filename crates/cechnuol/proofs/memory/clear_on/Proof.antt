@@ -32,7 +32,7 @@ returns c =
     let c9 = c8 .before in
     let c13 = c9 .before .before .before .before in
     let args = c13 .before .before .before .before .args in
-    was-served (args .table .now) (args .journal .now) [] [] (args .head .now) (args .tally .now) clear
+    was-served (args .table .now) (args .journal .now) [] [] (args .head .now) (args .tally .now) (clear (args .depth))
     refl (c9 .unpack .ensures) (c13 .tally-in .ensures) (c8 .serve-clear .ensures)
     (refl, refl) (c .put-served .ensures .0) (c .put-served .ensures .1)
 

@@ -29,10 +29,12 @@ same-length-2 c = search needs
 returns : tie.Need-returns
 returns c =
     let c8 = c .before .before .before .before .before .before .before .before in
+    let c8 = c8 in
     let c9 = c8 .before in
     let c13 = c9 .before .before .before .before in
     let args = c13 .before .before .before .before .before .args in
-    was-served (args .table .now) (args .journal .now) [] (args .bytes .now) (args .head .now) (args .tally .now) (loadAs (args .format))
+    was-served (args .table .now) (args .journal .now) [] (args .bytes .now) (args .head .now) (args .tally .now)
+    (loadAs (args .format) (args .depth))
     refl ((c9 .unpack .ensures)) ((c13 .tally-in .ensures)) ((c8 .serve-load .ensures))
     (refl, refl) (c .put-served .ensures .0) (c .put-served .ensures .1)
 

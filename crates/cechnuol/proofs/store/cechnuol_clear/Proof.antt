@@ -23,7 +23,7 @@ returns : tie.Need-returns
 returns c =
     let c5 = c .before .before .before .before .before in
     let args = c5 .before .before .before .before .before .before .before .args in
-    serves (args .table .now) (args .journal .now) [] [] (args .head .now) (args .tally .now) clear
+    serves (args .table .now) (args .journal .now) [] [] (args .head .now) (args .tally .now) (clear (args .depth))
     (c .code-of .ensures) (c5 .clear-on .ensures)
 
 pub cechnuol-clear-spec : {M : Type 1} → statement M

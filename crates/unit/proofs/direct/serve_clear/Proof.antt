@@ -28,8 +28,8 @@ returns c =
     let c5 = c .before .before .before .before .before in
     let args = c5 .before .before .before .before .before .args in
     let l = lent (args .table .now) (args .journal .now) [] [] (args .head) in
-    let m = resetOf l Clear in
-    served-is (args .tally) l (Reset Clear)
+    let m = resetOf l (Clear (args .depth)) in
+    served-is (args .tally) l (Reset (Clear (args .depth)))
     (settles m l (c5 .clear .ensures .0) (c5 .clear .ensures .2) (c5 .clear .ensures .3) (kept (checkOf m) (l .words))
     (kept (checkOf m) (l .bytes)) (c5 .clear .ensures .1))
     (c .tally-after .ensures)

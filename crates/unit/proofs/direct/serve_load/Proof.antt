@@ -28,8 +28,8 @@ returns c =
     let c5 = c .before .before .before .before .before in
     let args = c5 .before .before .before .before .before .before .args in
     let l = lent (args .table .now) (args .journal .now) [] (args .bytes .now) (args .head) in
-    let m = resetOf l (Load (args .format)) in
-    served-is (args .tally) l (Reset (Load (args .format)))
+    let m = resetOf l (Load (args .depth) (args .format)) in
+    served-is (args .tally) l (Reset (Load (args .depth) (args .format)))
     (settles m l ((c5 .load .ensures .0)) ((c5 .load .ensures .2)) ((c5 .load .ensures .3)) (kept (checkOf m) (l .words))
     (kept (checkOf m) (l .bytes)) ((c5 .load .ensures .1)))
     ((c .tally-after .ensures))
