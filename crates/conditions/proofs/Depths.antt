@@ -1,6 +1,6 @@
 -- What holds of the depth, proved.
 -- Assumes nothing.
-use mathlib.Core.Path.{_≡_, refl, sym, ap, ap₂, subst, _∙_}
+use mathlib.Core.Path.{_≡_, refl, sym, ap, ap₂, _∙_}
 use mathlib.Core.Bool.{Bool, true, false, not, cond, _&&_}
 use mathlib.Core.List.{List, [], _∷_, _++_}
 use Prim.Native.Nat.{ℕ, _+_, _-_, _≤_, _<_}
@@ -10,7 +10,6 @@ use native.Mathlib.Nat.{sub-zero}
 use lib.Dec.{eqb, leb, ltb}
 use lib.ListN.{length, getD, replicate}
 use lib.Seq.{length-take-le}
-use Rattle.answers.specs.declared.answer.Answer.{Answer}
 use Rattle.answers.specs.declared.answer.Answer.the-variants.{Done}
 use Rattle.answers.specs.declared.answer.Check.{Check}
 use Rattle.answers.specs.declared.answer.Check.the-variants.{Passed, Refused}
@@ -20,11 +19,11 @@ use Rattle.answers.specs.declared.call.Read.the-variants.{Issue, Forward, Relea
 use Rattle.answers.specs.declared.call.Reset.the-variants.{Clear, Load as LoadCall, Restart}
 use Rattle.answers.specs.declared.call.Step.the-variants.{Commit, RollBack, Flush}
 use Rattle.answers.specs.declared.ground.Ground.{Ground}
-use Rattle.answers.specs.declared.ground.Ground.the-variants.{Unsound, TableFull, TooDeep}
-use Rattle.answers.specs.Answers.{Said, accepted, refused, saidBy, groundIn, acceptedB, answered}
+use Rattle.answers.specs.declared.ground.Ground.the-variants.{TableFull, TooDeep}
+use Rattle.answers.specs.Answers.{accepted, refused, saidBy, groundIn, acceptedB, answered}
 use Rattle.answers.specs.First.{Test, met, first}
 use Rattle.answers.specs.Numbers.{numberOf}
-use Rattle.answers.proofs.Firsts.{first-met, first-not, none-met, passed-not}
+use Rattle.answers.proofs.Firsts.{first-met, first-not, first-past, first-stops, none-met, passed-not}
 use Rattle.changes.proofs.ListTest.{and-both}
 use Rattle.layout.specs.declared.head.Head.{Head}
 use Rattle.layout.specs.declared.head.Reply.{Reply}
@@ -33,9 +32,9 @@ use Rattle.layout.specs.States.{heldOf, mapHere}
 use Rattle.layout.specs.Tests.{allOf}
 use Rattle.soundness.specs.Checks.{lengthGrounds, storeGrounds, stateGrounds, barredB}
 use Rattle.soundness.specs.Sound.{floorB, soundB}
-use Rattle.soundness.proofs.Sounds.{Sound, sound-facts, facts-sound}
+use Rattle.soundness.proofs.Sounds.{sound-facts, facts-sound}
 use Rattle.views.specs.Trim.{trimmedHead, trimmedJournal, trimmed}
-use Rattle.views.specs.View.{Store, View, Shaped, padded, decode}
+use Rattle.views.specs.View.{View, Shaped, padded, decode}
 use Rattle.views.proofs.Encodes.{Encodes, encodes-decoded, encodes-sound}
 use Rattle.views.proofs.Laid.{padded-length}
 use Rattle.slots.specs.Slots.{opened, closedAt}
@@ -44,16 +43,17 @@ use Rattle.snapshot.specs.Snapshots.{clearCheck}
 use Rattle.state_maps.proofs.MapSizes.{map-at-checkpoint}
 use Rattle.snapshot.proofs.ImagesAccepted.{fresh-passed}
 use Rattle.commits.specs.Commit.{withStep}
-use Rattle.rollbacks.specs.RollBack.{cutTo, rollCheck}
+use Rattle.rollbacks.specs.RollBack.{cutTo}
 use Rattle.flushes.specs.Flush.{flushCheck, flushedHead}
 use Rattle.flushes.proofs.Flushing.{FlushOk, flush-ok}
 use Rattle.step_views.specs.StepViews.{flushedView}
 use Rattle.step_views.proofs.OnViews.{flush-leaves}
 use Rattle.calls.specs.Lent.{Lent, Left, checkOf, settledBy}
-use Rattle.calls.specs.Meaning.{meaning, performed}
-use Rattle.head_words.specs.HeadWords.{headOf, wordsOf, headB}
+use Rattle.calls.specs.Meaning.{meaning}
+use Rattle.head_words.specs.HeadWords.{wordsOf, headB}
 use Rattle.head_words.proofs.Theorems.{word-depth, words-back, words-fits}
 use Rattle.unit.specs.Carried.{Carried, Asked, lentTo, next}
+use Rattle.history.proofs.AsEarlier.{and-no}
 use Rattle.lent.specs.Codes.{codeOf}
 use Rattle.lent.specs.Lent.{testsStore, fitB}
 use Rattle.conditions.specs.CCalls.{Memory, carriedIn, Result, CallOfC}
@@ -63,11 +63,11 @@ use Rattle.conditions.specs.Runs.{lending}
 use Rattle.conditions.specs.Serving.{Seen, CallOfServe, handed}
 use Rattle.conditions.specs.Written.{IsSound, IsLoaded}
 use Rattle.conditions.proofs.AsServed.{as-served}
-use Rattle.conditions.proofs.CCalls.{StandsFor, accepted-anew, stands-anew, code-is}
+use Rattle.conditions.proofs.CCalls.{accepted-anew, stands-anew, code-is}
 use Rattle.conditions.proofs.CRefusals.{c-refused, c-unfit}
 use Rattle.conditions.proofs.HeadsFit.{fits-after}
 use Rattle.conditions.proofs.Refusals.{begins, granted, number-by-tests}
-use Rattle.conditions.proofs.Serves.{meant, passed, done, seenOf, serves-seen, next-is}
+use Rattle.conditions.proofs.Serves.{meant, passed, Done as Made, done, seenOf, serves-seen, next-is}
 
 -- what a call says by its check
 said-by : (k : Carried) (a : Asked) (s : Seen) → CallOfServe k a s → {g : Ground} → checkOf (meant k a) ≡ Refused g
@@ -294,34 +294,33 @@ module _ (k : Carried) (state : ℕ) (words bytes : List ℕ) (s : Seen) (serves
         ap₂ lengthsB (padded-length (length (k .table)) map (ok .fits)) journal-long
         ∙ not-false _ (passed-not _ _ _ check .0)
 
-    rolls : (steps : ℕ) → steps ≤ k .head .depth → rollCheck T J H (k .head .tip - steps) ≡ Passed
-    rolls steps h =
-        first-not _ _ _ (ap not range)
-        ∙ first-not _ _ _ (ap not (facts-sound T J H (encodes-sound leaves)))
-        ∙ first-not _ _ _ (le-ltb (k .head .tip - steps) (H .checkpoint) (omega (arith, deep, h, checkpoint-is)))
-        ∙ first-not _ _ _ (le-ltb (H .tip) (k .head .tip - steps) (omega (arith, tip-is)))
-        ∙ none-met
+    left : Made (meant k (flushing state words bytes) .accepted) s
+    left = done k (flushing state words bytes) s serves check
+
+    still-sound : IsSound (handed s)
+    still-sound =
+        record {
+          lengths = ap₂ (λ (t j : List ℕ). lengthsB (length t) (length j)) (left .table) (left .journal) ∙ range;
+          sound = (λ i. soundB (left .table i) (left .journal i) (left .head i)) ∙ facts-sound T J H (encodes-sound leaves);
+        }
 
     step-back : (steps : ℕ) (words′ bytes′ : List ℕ) (s′ : Seen) → steps ≤ k .head .depth
         → CallOfServe (handed s) (lending (Step (RollBack (k .head .tip - steps))) words′ bytes′) s′
         → acceptedB (s′ .reply .answer) ≡ true
     step-back steps words′ bytes′ s′ h rolled =
-        let left = done k (flushing state words bytes) s serves check in
-        ap (λ (r : Reply). acceptedB (r .answer)) (rolled .0 .0)
-        ∙ ap (λ (c : Check). acceptedB (answered c Done))
-        ((λ i. rollCheck (left .table i) (left .journal i) (left .head i) (k .head .tip - steps)) ∙ rolls steps h)
+        rollback-accepted (handed s) (k .head .tip - steps) words′ bytes′ s′ still-sound
+        (omega (arith, deep, h, checkpoint-is, ap (λ (x : Head). x .checkpoint) (left .head)))
+        (omega (arith, tip-is, ap (λ (x : Head). x .tip) (left .head)))
+        rolled
 
 -- a test that is not met where those before it are not can be left out
-left-out : (before : List Test) (t : Bool) (g : Ground) (rest : List Test) → (first before ≡ Passed → t ≡ false)
+left-out : (before : List Test) (t : Bool) (g : Ground) (rest : List Test) → t ≡ false
     → first (before ++ (met t g ∷ rest)) ≡ first (before ++ rest)
-unfolding first
-left-out [] t g rest h = ap (λ (b : Bool). first (met b g ∷ rest)) (h refl)
-left-out (met true f ∷ before) t g rest h = refl
-left-out (met false f ∷ before) t g rest h = left-out before t g rest h
-
-and-no : (b : Bool) → b && false ≡ false
-and-no true = refl
-and-no false = refl
+left-out before t g rest not-met = go (first before) refl
+  where
+    go : (c : Check) → first before ≡ c → first (before ++ (met t g ∷ rest)) ≡ first (before ++ rest)
+    go Passed e = first-past before _ e ∙ first-not t g rest not-met ∙ sym (first-past before rest e)
+    go (Refused r) e = first-stops before _ e ∙ sym (first-stops before rest e)
 
 -- depth 0 bars no state up to the tip, and asks nothing of a clear and of a head
 bars-none : (head : Head) (state : ℕ) → head .depth ≡ 0 → state ≤ head .tip → barredB head state ≡ false
@@ -330,7 +329,7 @@ bars-none head state none high =
     ∙ and-no (not (eqb state (head .checkpoint)))
 
 clears-0 : (table journal : List ℕ) → clearCheck table journal 0 ≡ first (lengthGrounds (length table) (length journal))
-clears-0 table journal = left-out (lengthGrounds (length table) (length journal)) false TooDeep [] (λ e. refl)
+clears-0 table journal = left-out (lengthGrounds (length table) (length journal)) false TooDeep [] refl
 
 sound-0 : (table journal : List ℕ) (head : Head) → head .depth ≡ 0
     → soundB table journal head
@@ -360,7 +359,7 @@ flush-free : (table journal : List ℕ) (head : Head) (state : ℕ) → barredB 
     ++ stateGrounds head state
     ++ (met (ltb (length table) (length (mapHere table journal head state))) TableFull ∷ []))
 flush-free table journal head state free =
-    left-out (storeGrounds table journal head ++ stateGrounds head state) (barredB head state) TooDeep _ (λ e. free)
+    left-out (storeGrounds table journal head ++ stateGrounds head state) (barredB head state) TooDeep _ free
 
 one-or-two : (b : Bool) → (1 ≤ cond b 2 1) × (cond b 2 1 ≤ 2)
 one-or-two true = (omega arith, omega arith)

@@ -18,10 +18,10 @@ use Rattle.answers.specs.declared.call.Reset.the-variants.{Load}
 use Rattle.answers.specs.declared.ground.Ground.the-variants.{BadImage, TableFull}
 use Rattle.answers.specs.Answers.{saidBy, acceptedB}
 use Rattle.answers.specs.First.{met, first}
-use Rattle.image.specs.Image.{imageOf, numberIn}
+use Rattle.image.specs.Image.{imageOf}
 use Rattle.sheet.specs.Sheet.{sheetOf}
 use Rattle.sheet.proofs.Theorems.{rows-of-map, price-in-rows, one-sheet}
-use Rattle.formats.specs.Formats.{formatB, mapIn, bytesFor}
+use Rattle.formats.specs.Formats.{bytesFor}
 use Rattle.formats.proofs.Laws.{written-reads-back}
 use Rattle.layout.specs.declared.head.Head.{Head}
 use Rattle.snapshot.specs.Snapshots.{freshGrounds}

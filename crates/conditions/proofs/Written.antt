@@ -48,7 +48,6 @@ use Rattle.unit.specs.Carried.{Carried, lentTo, next}
 use Rattle.unit.specs.Serve.{replyOf}
 use Rattle.history.specs.Plain.{loadOf}
 use Rattle.conditions.specs.CCalls.{Memory, carriedIn, Result, CallOfC, CLoads}
-use Rattle.conditions.specs.Runs.{lending}
 use Rattle.conditions.specs.Serving.{Seen, CallOfServe, handed, loading, Loads}
 use Rattle.conditions.specs.Written.{Naming, noState, state, queryFor, writing, bytesLeft, mapAt, namedAt}
 use Rattle.conditions.specs.Written.{IsSound, Holds, TooSmall, IsLoaded, Written}

@@ -8,14 +8,12 @@ use native.Mathlib.Omega.{arith}
 use borrow.Author.Tests.{le-ltb}
 use lib.Dec.{eqb, ltb}
 use lib.ListN.{length}
-use Rattle.answers.specs.declared.call.Read.{Read as ReadCall}
 use Rattle.answers.specs.declared.call.Read.the-variants.{Issue, Forward, Release}
-use Rattle.answers.specs.declared.call.Step.{Step as StepCall}
 use Rattle.answers.specs.declared.call.Step.the-variants.{Commit, RollBack, Flush}
 use Rattle.history.specs.Earlier.{earlierTests, earlierChecked, earlierTransition, earlierResponses}
 use Rattle.history.specs.Named.{Named, step, read, ask, Call, Response}
 use Rattle.history.specs.Plain.{Test, met, Verdict, accept, refuse, firstOf, responseBy, leftBy, Plain, tipOf, mapAt}
-use Rattle.history.specs.Plain.{stateTests, tests, checked, given, changedBy, changed}
+use Rattle.history.specs.Plain.{stateTests, tests, given, changedBy, changed}
 use Rattle.history.specs.Traces.{plainResponses}
 use Rattle.history.proofs.NamedStates.{within}
 
@@ -27,7 +25,7 @@ left-out [] t n rest h = ap (λ (b : Bool). firstOf (met b n ∷ rest)) (h refl)
 left-out (met true m ∷ before) t n rest h = refl
 left-out (met false m ∷ before) t n rest h = left-out before t n rest h
 
-and-no : (b : Bool) → b && false ≡ false
+pub and-no : (b : Bool) → b && false ≡ false
 and-no true = refl
 and-no false = refl
 
