@@ -10,7 +10,7 @@
 #   make replay     builds model/target/release/replay, which runs a script of calls on the unit (docs/REPLAY.md)
 #   make listing    proves the program that prints an image, and writes target/bin/listing
 #   make check      the quick loop: proves what has changed and runs the tests, without the must-fail edits; no verdict
-#   make test       the whole gate: every proof from nothing, the must-fail edits, the programs and the tests
+#   make test       the whole gate: rt ci (every proof, the must-fail edits, the programs) and the tests
 #   make bench      measures the unit beside the same work in Rust, LMDB and SQLite, and writes target/bench/BENCHMARKS.md and its plot,
 #                   with DOCS=1 to docs/ instead; half a minute; not part of the gate
 
@@ -23,7 +23,7 @@ CFLAGS ?= -O2
 version := $(shell sed -n 's/^.define CECHNUOL_VERSION_TEXT "\(.*\)"$$/\1/p' include/cechnuol.h)
 library = target/staticlib/libcechnuol.a
 # What the library is made of: the kit, and the sources with their folders, so that a file that is gone counts as a change.
-made_of := $(shell command -v rt) crates.txt $(shell find crates -type d -o -name '*.rt' -o -name '*.antt')
+made_of := $(shell command -v rt) crates.txt $(shell find crates -name out -prune -o -type d -print -o -name '*.rt' -print -o -name '*.antt' -print)
 installed = "$(DESTDIR)$(PREFIX)"
 # need COMMAND,WHAT-IT-IS: says what is missing
 need = @command -v $(1) >/dev/null || \
@@ -73,13 +73,10 @@ replay: $(library)
 	@cd model && cargo build --release --offline --quiet -p replay
 	@echo "replay: model/target/release/replay is built"
 
-# rt proves nothing again that is proved already.
-listing: SHELL = bash
 listing:
 	$(call need,rt,the Rattle kit)
 	$(call need,python3,Python)
-	@set -o pipefail; rt check listing 2>&1 | python3 tools/gate_log.py listing
-	@echo "listing: target/bin/listing is proved and built"
+	@tools/program listing
 
 check:
 	@.ci/run --quick

@@ -1,26 +1,28 @@
 #!/usr/bin/env python3
-"""Shows how far `rt ci` or `rt check` has come, from what it prints: each crate, edit file and program with its number.
+"""Shows how far `rt ci` or `rt all check` has come, from what it prints: each crate, edit and program with its number.
 
   rt ci | tools/gate_log.py               prints the lines that matter, each as it comes
-  rt check X | tools/gate_log.py X        the same, where X and what it depends on are proved alone
-  tools/gate_log.py --profile LOG         the seconds by crate and by edit file, as the tables of docs/LANDINGS.md; a log of rt's or
-                                          of the gate's own lines
+  rt check | tools/gate_log.py X          the same, where X and what it depends on are proved alone
+  tools/gate_log.py --profile LOG         how long after the start each crate was proved, by a log of gate_log.py's own lines
   tools/gate_log.py --profile OLD NEW     the same of two logs, one beside the other
 
 Lines that only repeat that something is proved, and the prover's notes on what a proof costs, are left out; the log itself has
-them all.
+them all. rt prints no times, so each crate's line is given the seconds since the start.
 """
 import pathlib
 import re
 import sys
+import time
 
 ROUTINE = re.compile(
-    r"^(fn|struct|enum) \S+: proved$|^logic /|^logic=proved |^library \S+: modules loaded"
+    r"^(fn|struct|enum) \S+: proved$|^checked \S+, \d+ of \d+$|^logic /|^logic=proved |^(library|statements|crate) \S+: modules loaded|^== |^linked target="
+    r"|^axioms \w+: none reached|^empty contracts: 0 found|^rt: chose |^rt: \w+: begins with what a check kept"
     r"|^\S+: note: large solution|^note: no function with a body is declared"
 )
-CRATE = re.compile(r"^(?:\[.*?\] )?rt: (?P<name>\w+) (proved|NOT PROVED)(?: \((?:exit \d+, )?(?P<seconds>\d+) s\))?")
-EDITS = re.compile(r"^(?:\[.*?\] )?rt: must-fail (?P<name>\S+): .*?(?:(?P<seconds>\d+) s\))?$")
-PROGRAM = re.compile(r"^rt: (?P<name>\w+) (ran|proved, and its run)")
+CRATE = re.compile(r"^(?:\[.*?\] )?rt: (?P<name>\w+) (proved$|proved |NOT PROVED|is kept)")
+EDITS = re.compile(r"^(?:\[.*?\] )?rt: must-fail (?P<name>\S+): ")
+PROGRAM = re.compile(r"^(?:\[.*?\] )?rt: (?P<name>\w+) (ran\b(?! \(built by Rattle's own compiler)|proved, and its run)")
+TIMED = re.compile(r"^\[proof \d+ of \d+, (?P<seconds>\d+) s\] rt: (?P<name>\w+) ")
 
 
 def counted(line, done):
@@ -36,7 +38,7 @@ def counted(line, done):
 def crates_of(root, names):
     """The crates that are proved for these names, or all where none is given."""
     lines = (line.partition("#")[0].partition(":") for line in (root / "crates.txt").read_text().splitlines())
-    needs = {name.strip(): needed.split() for name, colon, needed in lines if colon}
+    needs = {name.split()[0]: needed.split() for name, colon, needed in lines if colon}
     reached, todo = set(), list(names or needs)
     while todo:
         name = todo.pop()
@@ -56,47 +58,29 @@ def totals(root, names):
     }
 
 
-def follow(lines, of, out):
-    done = {}
+def follow(lines, of, out, clock=time.monotonic):
+    done, start = {}, clock()
     for line in lines:
         kind = counted(line, done)
         if kind:
-            print(f"[{kind} {done[kind]} of {of[kind]}] {line}", end="", file=out, flush=True)
+            after = f", {round(clock() - start)} s" if kind == "proof" else ""
+            print(f"[{kind} {done[kind]} of {of[kind]}{after}] {line}", end="", file=out, flush=True)
         elif not ROUTINE.match(line):
             print(line, end="", file=out, flush=True)
 
 
 def seconds_in(log):
-    """The seconds of each crate, and of each crate's edit files with their names, in the order of the log."""
-    proofs, edits = {}, {}
-    for line in log.splitlines():
-        match = EDITS.match(line)
-        if match and match["seconds"]:
-            crate, _, file = match["name"].partition("/")
-            edits.setdefault(crate, []).append((file, int(match["seconds"])))
-            continue
-        match = CRATE.match(line)
-        if match and match["seconds"]:
-            proofs[match["name"]] = int(match["seconds"])
-    return proofs, edits
-
-
-def cells(proofs, edits, crate):
-    """A crate's cells in a table: the seconds of its proof, and those of each edit file."""
-    return f" {proofs.get(crate, '')} | {', '.join(f'{file} {seconds}' for file, seconds in edits.get(crate, []))} |"
+    """When each crate was proved, in seconds after the start, in the order of the log."""
+    return {found["name"]: int(found["seconds"]) for found in map(TIMED.match, log.splitlines()) if found}
 
 
 def profile(logs):
-    """A table with a row for each crate: its proof, and its edit files one by one, in each of the logs."""
+    """A table with a row for each crate: when it was proved, in each of the logs."""
     parts = [seconds_in(log) for log in logs]
-    crates = list(dict.fromkeys(crate for proofs, _ in reversed(parts) for crate in proofs))
-    yield "| crate |" + " proof, s | edit files, s |" * len(parts)
-    yield "|---|" + "---:|---|" * len(parts)
-    for crate in crates:
-        yield f"| `{crate}` |" + "".join(cells(proofs, edits, crate) for proofs, edits in parts)
-    files = [[seconds for found in edits.values() for _, seconds in found] for _, edits in parts]
-    sums = (f" {sum(proofs.values())} | {sum(found)} in {len(found)} files |" for (proofs, _), found in zip(parts, files))
-    yield "| together |" + "".join(sums)
+    yield "| crate |" + " proved after, s |" * len(parts)
+    yield "|---|" + "---:|" * len(parts)
+    for crate in dict.fromkeys(crate for part in reversed(parts) for crate in part):
+        yield f"| `{crate}` |" + "".join(f" {part.get(crate, '')} |" for part in parts)
 
 
 def main(arguments):

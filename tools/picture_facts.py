@@ -78,7 +78,7 @@ def families(read):
     """The families of crates.txt, lowest first: name, description, and the crates with those that each uses."""
     found = []
     for line in read(CRATES).splitlines():
-        family, crate = re.match(r"# (\w+)(?:: (.*))?$", line), re.match(r"(\w+):((?: \w+)*)$", line)
+        family, crate = re.match(r"# (\w+)(?:: (.*))?$", line), re.match(r"(\w+)(?: staticlib)?:((?: \w+)*)$", line)
         sure(family or crate or not line, f"{CRATES} has a line that is neither a family nor a crate: {line}")
         if family:
             found.append((family.group(1), re.sub(r" \(.*?\)", "", family.group(2) or ""), {}))

@@ -28,10 +28,17 @@ FUNCTIONS = {
     "crates/cechnuol/src/store.rt": r"cechnuol_\w+",
     "crates/cechnuol/src/pricing.rt": r"cechnuol_\w+",
     "crates/cechnuol/src/version.rt": r"cechnuol_version",
+    "crates/cechnuol_c/src/store.rt": r"cechnuol_\w+",
+    "crates/cechnuol_c/src/pricing.rt": r"cechnuol_\w+",
+    "crates/cechnuol_c/src/version.rt": r"cechnuol_version",
 }
+# The crate of what C calls, and the library whose functions it exports with the same clauses.
+EXPORTS, LIBRARY = "crates/cechnuol_c/", "crates/cechnuol/"
 # A line of imports, in a file of specs or of code: a module, and the names in braces or the module's name here.
-USE = re.compile(r"^(?:(?:ghost|unfoldable|pub) )*use ([^\s{}]+?)(?:\.\{([^{}]*)\}| as (\S+?))?;?$")
-MODULE = re.compile(r"Rattle·(\w+)(?:·specs|·proofs)?\.(?:specs\.|proofs\.)?(specs|proofs)\.([\w.-]+)")
+USE = re.compile(r"^(?:(?:ghost|unfoldable|pub) )*use ([^\s{}]+?)(?:(?:\.|::)\{([^{}]*)\}| as (\S+?))?;?$")
+# An import of code whose names stand on lines of their own.
+LONG_USE = re.compile(r"^(?:(?:ghost|pub) )*use [^\s{};]+\{[^{}]*\};$", re.M)
+MODULE = re.compile(r"Rattle\.(\w+)\.(specs|proofs)\.([\w.'-]+)")
 WORD = re.compile(r"\[\]|[^\s(){}\[\].;,@«»]+")
 ITEM = re.compile(r"^ *(?:(?:abbrev|unfoldable)(?: pub)? (?P<name>\S+)|(?:pub )?(?:record|data) (?P<type>[^\s{]+)|(?P<module>module)\b)")
 TYPE = r"^pub (?:struct|enum) %s\b.*?(?:^\}$|;$)"
@@ -47,7 +54,7 @@ def imports(text):
     """Where a file has each name from that it imports, by the name as it stands in the file; the modules; and the lines that say so in
     another form."""
     names, modules, odd = {}, [], []
-    for line in text.splitlines():
+    for line in LONG_USE.sub(lambda found: " ".join(found[0].split()).replace(", }", "}"), text).splitlines():
         use = USE.match(line)
         if use:
             module, items, name = use.groups()
@@ -64,9 +71,9 @@ def imports(text):
 
 def meant(text, imported):
     """A text with the place that each imported name in it comes from."""
-    words = {word.strip("_") for word in WORD.findall(text)} | set(re.findall(r"\w+", text))
+    words = set(WORD.findall(text)) | set(re.findall(r"\w+", text))
     return text + "".join(f"\n{name} = {' '.join(sorted(imported[name]))}" for name in sorted(imported)
-                          if name in words or all(part in words for part in name.split("_") if part))
+                          if name in words or ("◌" in name and all(part in words for part in name.split("◌") if part)))
 
 
 def definitions(text):
@@ -105,7 +112,7 @@ def file_of(module):
     crate, part, path = place.groups()
     if not path.startswith("declared."):
         return f"crates/{crate}/{part}/{path.replace('.', '/')}.antt", None
-    *file, name = path.removeprefix("declared.").removesuffix(".the-variants").split(".")
+    *file, name = path.removeprefix("declared.").removesuffix(".TheVariants").split(".")
     return f"crates/{crate}/src/{'/'.join(file) or 'lib'}.rt", name
 
 
@@ -139,9 +146,10 @@ def rests_on(root):
         if re.search(r"/\*|\{-", text):
             faults.append(f"{path} has a comment within lines, which is not looked into here")
         if name is None:
-            lost = [module for module in modules if module.startswith("Rattle·") and not file_of(module)]
+            own = [module for module in modules if module.startswith("Rattle.") and (root / "crates" / module.split(".")[1]).is_dir()]
+            lost = [module for module in own if not file_of(module)]
             faults += [f"{path}: it cannot be told what this imports: {line}" for line in odd + lost]
-            waiting += [file_of(module) for module in modules if file_of(module)]
+            waiting += [file_of(module) for module in own if file_of(module)]
     return pins, faults
 
 
@@ -156,6 +164,18 @@ def function_faults(root):
         for name in re.findall(r'(?m)^\s*(?:pub )?extern "C" fn (\w+)', path.read_text()):
             if not re.fullmatch(FUNCTIONS.get(where, ""), name):
                 yield f"{where}: {name} is exported to C, and no condition speaks of it"
+    yield from export_faults(root)
+
+
+def export_faults(root):
+    """Whether the crate of what C calls has each function of the library, with its parameters and clauses."""
+    same = lambda body: re.sub(r",?\s+\)|\(\s+", lambda found: found[0].strip(", \n"), " ".join(body.replace('extern "C" ', "").split()))
+    for path in [path for path in FUNCTIONS if path.startswith(EXPORTS)]:
+        beside = path.replace(EXPORTS, LIBRARY)
+        exported, called = (contracts(read(root, place) or "", FUNCTIONS[path]) for place in (path, beside))
+        for name in sorted(exported.keys() | called.keys()):
+            if name not in exported or name not in called or same(exported[name]) != same(called[name]):
+                yield f"{path}: {name} is not what it is in {beside}"
 
 
 def quoted(root):

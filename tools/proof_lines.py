@@ -1,7 +1,7 @@
 #!/usr/bin/env python3
 """Keeps lines of proofs and contracts within 140 columns.
 
-    proof_lines.py --check           names every line of crates/ that is longer, and fails if there is one
+    proof_lines.py --check           names every line of crates/ that is longer, but for imports, and fails if there is one
     proof_lines.py FILE..            wraps the long lines of these files; in a clause with a long line, paths of
                                      `.before` get names: `let c7 = c .before .. in`, `let args = c7 .. .args in`
     proof_lines.py --paths FILE..    the way back: puts the paths where their names stand, so that `proof shorten`
@@ -20,6 +20,7 @@ OPENING, CLOSING = "([{⌜", ")]}⌝"
 OPERATORS = {"∙", "≡", "→", "×", "∷", "++", "&&", "≤", "<"}
 JOINED = {"=", ":", "let", "λ", "in", "+", "-", "*", "%", "^"}
 PATH = re.compile(r"(?<![\w'.·-])([a-z]\w*)((?: \.before){3,})( \.args)?(?![\w-])")
+IMPORT = re.compile(r" *(?:(?:ghost|pub|unfoldable) )*use ")
 NAME = re.compile(r"^ *let ([a-z]\d+|args\d?) = ([a-z]\w*(?: \.before)*(?: \.args)?) in$")
 
 
@@ -202,7 +203,7 @@ def long_lines():
     for path in listed.split():
         if path.endswith((".antt", ".rt")):
             with open(path, encoding="utf-8") as file:
-                yield from (f"{path}:{n}" for n, line in enumerate(file, 1) if len(line.rstrip("\n")) > LIMIT)
+                yield from (f"{path}:{n}" for n, line in enumerate(file, 1) if len(line.rstrip("\n")) > LIMIT and not IMPORT.match(line))
 
 
 def main(words):

@@ -1,10 +1,10 @@
 #!/usr/bin/env python3
-"""Holds include/cechnuol.h to the definitions and to crates/cechnuol. `python3 tools/test_header.py`
+"""Holds include/cechnuol.h to the definitions and to crates/cechnuol_c. `python3 tools/test_header.py`
 
 Its numbers, which are limits, the places of the words of head and tally, the kinds of orders, the codes of the answers and the
 word by which a lookup says that the table answered, are those of the code and of the definitions. The refusals that it names at a
 call are those of the definitions, in their order, and tests/c/refusals.c makes each; the memory that it says a call changes is
-what tests/c/changes.c tests. Its prototypes are those of the functions that crates/cechnuol exports, and its version is theirs.
+what tests/c/changes.c tests. Its prototypes are those of the functions that crates/cechnuol_c exports, and its version is theirs.
 Its names of answers are those of its constants, and its builders and readers of words give the words that tests/c has by hand.
 Each test is shown to fail on edited copies of the texts. What needs the library is in tests/c, which tests/run-c runs.
 """
@@ -24,9 +24,10 @@ FILES = {
     "numbers": "crates/answers/specs/Numbers.antt",
     "codes": "crates/lent/specs/Codes.antt",
     "codes_code": "crates/lent/src/codes.rt",
-    "store": "crates/cechnuol/src/store.rt",
-    "pricing": "crates/cechnuol/src/pricing.rt",
+    "store": "crates/cechnuol_c/src/store.rt",
+    "pricing": "crates/cechnuol_c/src/pricing.rt",
     "version_code": "crates/cechnuol/src/version.rt",
+    "version_export": "crates/cechnuol_c/src/version.rt",
     "version": "crates/cechnuol/specs/Version.antt",
     "layout": "crates/layout/src/head.rt",
     "clauses": "crates/layout/specs/Clauses.antt",
@@ -56,25 +57,25 @@ CC = ["cc", "-std=c99", "-O2", "-Wall", "-Wextra", "-Wpedantic", "-Werror"]
 LIMITS = {
     "TABLE_WORDS": [("layout", "pub const TABLE_WORDS: usize = ", ";"), ("clauses", "leb 1 table ∷ leb table ", " ∷")],
     "JOURNAL_WORDS": [("layout", "pub const JOURNAL_WORDS: usize = ", ";"), ("clauses", "leb 1 journal ∷ leb journal ", " ∷")],
-    "LIST_WORDS": [("rules", "pub const LIST_WORDS: usize = ", ";"), ("lists", "listB l = leb (length l) ", " &&")],
+    "LIST_WORDS": [("rules", "pub const LIST_WORDS: usize = ", ";"), ("lists", "is_list l = leb (length l) ", " &&")],
     "BATCH_ORDERS": [("checking", "pub const BATCH_ORDERS: usize = ", ";"), ("batches", "∷ met (ltb ", " (length orders)) BadList")],
     "SLOTS": [
         ("layout", "pub const SLOTS: usize = ", ";"),
-        ("clauses", "slotsB checkpoint taken issued = allB ", " (slotB"),
-        ("slots", "met (leb ", " (reader .slot)) SlotRange"),
+        ("clauses", "are_slots checkpoint taken issued = all_below ", " (is_slot"),
+        ("slots", "met (leb ", " reader.slot) SlotRange"),
     ],
     "FOYER_SLOT": [
         ("callers_code", "pub const FOYER_SLOT: usize = ", ";"),
-        ("callers", "hasB Desk slot = ltb slot ", "\n"),
-        ("callers", "hasB Foyer slot = leb ", " slot"),
+        ("callers", "has_slot Desk slot = ltb slot ", "\n"),
+        ("callers", "has_slot Foyer slot = leb ", " slot"),
     ],
-    "FOYER_WORDS": [("callers_code", "pub const FOYER_WORDS: usize = ", ";"), ("callers", "mostWords Foyer = ", "\n")],
+    "FOYER_WORDS": [("callers_code", "pub const FOYER_WORDS: usize = ", ";"), ("callers", "most_words Foyer = ", "\n")],
     "STEPS": [
         ("layout", "pub const STEPS: usize = ", ";"),
         ("clauses", "leb (tip - oldest) ", " ∷"),
-        ("commit", "met (eqb (heldOf head) ", ") StepsFull"),
+        ("commit", "met (eqb (held_of head) ", ") StepsFull"),
     ],
-    "MOST_DEPTH": [("layout", "pub const MOST_DEPTH: u32 = ", ";"), ("clauses", "depthB depth = leb depth ", "\n")],
+    "MOST_DEPTH": [("layout", "pub const MOST_DEPTH: u32 = ", ";"), ("clauses", "is_depth depth = leb depth ", "\n")],
     "HEAD_WORDS": [("head_code", "pub const HEAD_WORDS: usize = ", ";")],
     "TALLY_WORDS": [("storing", "pub const TALLY_WORDS: usize = ", ";")],
 }
@@ -135,12 +136,12 @@ def of_limits(of):
         found = {number_in(of[file], before, behind) for file, before, behind in places}
         sure(len(found) == 1, f"code and definitions have one {name}")
         limits[name] = found.pop()
-    start, each = re.search(r"eqb \(length b\) \((\d+) \+ (\d+) \* countIn b\)", of["image"]).groups()
+    start, each = re.search(r"eqb \(length b\) \((\d+) \+ (\d+) \* count_in b\)", of["image"]).groups()
     sure(f"#define CECHNUOL_IMAGE_BYTES_OF(offers) ({start} + {each} * (offers))\n" in of["header"], "the length of an image")
     offers = limits["TABLE_WORDS"] + limits["JOURNAL_WORDS"]
     sure("pub const MAP_WORDS: usize = TABLE_WORDS + JOURNAL_WORDS;\n" in of["layout"], "the largest map")
     limits["IMAGE_BYTES"] = int(start) + int(each) * offers
-    sheet = re.search(r"^sheetSize words = (\d+) \+ (\d+) \* length \(rowsOf words\) \+ (\d+) \* length words$", of["sheet"], re.M)
+    sheet = re.search(r"^sheet_size words = (\d+) \+ (\d+) \* length \(rows_of words\) \+ (\d+) \* length words$", of["sheet"], re.M)
     header, row, price = map(int, sheet.groups())
     sure(f"#define CECHNUOL_SHEET_BYTES_OF(offers) ({header} + {row + price} * (offers))\n" in of["header"], "the length of a sheet")
     limits["SHEET_BYTES"] = header + (row + price) * offers
@@ -158,45 +159,45 @@ def of_kinds(of):
 
 
 def head_fields(text):
-    """The fields that `headOf` reads: the name of each, the position of its first word, and how many it has."""
-    body = re.search(r"^headOf words =\n(.*?)\n\n", text, re.S | re.M).group(1)
+    """The fields that `head_of` reads: the name of each, the position of its first word, and how many it has."""
+    body = re.search(r"^head_of words =\n(.*?)\n\n", text, re.S | re.M).group(1)
     for name, value in re.findall(r"(\w+) = ([^;]*);", body):
-        one, some = re.search(r"getD words (\d+) 0", value), re.search(r"from (\d+) (\d+) words", value)
+        one, some = re.search(r"get_or words (\d+) 0", value), re.search(r"from (\d+) (\d+) words", value)
         yield (name, int(one.group(1)), 1) if one else (name, int(some.group(1)), int(some.group(2)))
 
 
 def of_head(text):
-    """The places of a head's words: the fields lie one after another, in the order of `wordsOf`."""
+    """The places of a head's words: the fields lie one after another, in the order of `words_of`."""
     fields, places, end = list(head_fields(text)), {}, 0
     for name, start, count in fields:
         sure(start == end, f"{name} begins at {start}, where {end} words are before it")
         places[constant(name)], end = start, start + count
-    words = re.search(r"^wordsOf head =\n(.*?)\n\n", text, re.S | re.M).group(1)
-    sure(re.findall(r"head \.(\w+)", words) == [name for name, _, _ in fields], "wordsOf and headOf have one order")
-    size = int(re.search(r"^headSize = (\d+)$", text, re.M).group(1))
+    words = re.search(r"^words_of head =\n(.*?)\n\n", text, re.S | re.M).group(1)
+    sure(re.findall(r"head\.(\w+)", words) == [name for name, _, _ in fields], "words_of and head_of have one order")
+    size = int(re.search(r"^head_size = (\d+)$", text, re.M).group(1))
     sure(size == end, f"a head has {size} words, and its fields {end}")
     return {**places, "HEAD_WORDS": size}
 
 
 def of_tally(text):
-    """The places of a tally's words, as `tallyWords` writes and `tallyOf` reads them."""
-    written = re.findall(r"tally \.«?(\w+)»?", re.search(r"^tallyWords tally = (.*)$", text, re.M).group(1))
-    read = re.findall(r"getD words (\d+) 0", re.search(r"^tallyOf words = counts (.*)$", text, re.M).group(1))
-    sure(list(map(int, read)) == list(range(len(written))), "tallyOf reads the words in their order")
+    """The places of a tally's words, as `tally_words` writes and `tally_of` reads them."""
+    written = re.findall(r"tally\.(\w+)", re.search(r"^tally_words tally = (.*)$", text, re.M).group(1))
+    read = re.findall(r"get_or words (\d+) 0", re.search(r"^tally_of words = counts (.*)$", text, re.M).group(1))
+    sure(list(map(int, read)) == list(range(len(written))), "tally_of reads the words in their order")
     return {**{constant(name): place for place, name in enumerate(written)}, "TALLY_WORDS": len(written)}
 
 
 def of_answers(numbers, codes):
     """The code of each answer."""
-    grounds = {constant(name): int(number) for name, number in re.findall(r"^numberOf (\w+) = (\d+)$", numbers, re.M)}
-    accepted = re.search(r"^codeOf \(accepted n\) = (\d+)$", codes, re.M).group(1)
-    no_price = re.search(r"^noPrice = (\d+)$", codes, re.M).group(1)
+    grounds = {constant(name): int(number) for name, number in re.findall(r"^number_of (\w+) = (\d+)$", numbers, re.M)}
+    accepted = re.search(r"^code_of \(accepted n\) = (\d+)$", codes, re.M).group(1)
+    no_price = re.search(r"^no_price = (\d+)$", codes, re.M).group(1)
     return {"OK": int(accepted), **grounds, "NO_PRICE": int(no_price)}
 
 
 def hold_table_word(of):
     """The word that says that the table answered, which is one number in header, code and definition, and no number of 32 bits."""
-    defined = number_in(of["codes"], "\nbyTable = ", "\n")
+    defined = number_in(of["codes"], "\nby_table = ", "\n")
     sure(number_in(of["codes_code"], "pub const BY_TABLE: u64 = ", ";") == defined, "code and definition have one word for the table")
     sure(1 << number_in(of["header"], "#define CECHNUOL_BY_TABLE (UINT64_C(1) << ", ")\n") == defined, "the header has that word")
     sure(defined >= 1 << 32, "no state has that number")
@@ -204,7 +205,7 @@ def hold_table_word(of):
 
 def of_callers(of):
     """The number of each caller. The first has one number, in code and definition, and the second all others: the next is its own."""
-    first, callers = re.search(r"^callerOf number = cond \(eqb number (\d+)\) (\w+ \w+)$", of["caller_numbers"], re.M).groups()
+    first, callers = re.search(r"^caller_of number = cond \(eqb number (\d+)\) (\w+ \w+)$", of["caller_numbers"], re.M).groups()
     names = [constant(name) for name in callers.split()]
     sure(number_in(of["caller_numbers_code"], f"pub const {names[0]}: u32 = ", ";") == int(first), "code and definition have one desk")
     return {name: int(first) + place for place, name in enumerate(names)}
@@ -248,8 +249,8 @@ def c_parameters(parameters):
 
 
 def exported(text):
-    """The functions that a file of crates/cechnuol exports, each with its parameters as C sees them."""
-    found = re.findall(r'#\[no_mangle\]\npub extern "C" fn (\w+)\((.*?)\) -> u64\n', text, re.S)
+    """The functions that a file of crates/cechnuol_c exports, each with its parameters as C sees them."""
+    found = re.findall(r'#\[unsafe\(no_mangle\)\]\npub extern "C" fn (\w+)\((.*?)\) -> u64\n', text, re.S)
     sure(len(found) == text.count("extern"), "each exported function is read")
     return {name: list(c_parameters(" ".join(parameters.split()))) for name, parameters in found}
 
@@ -267,8 +268,8 @@ def declared(header):
 
 
 def undeclared(of):
-    """The functions that header and crates/cechnuol do not have alike."""
-    library = {**exported(of["store"]), **exported(of["pricing"]), **exported(of["version_code"])}
+    """The functions that header and crates/cechnuol_c do not have alike."""
+    library = {**exported(of["store"]), **exported(of["pricing"]), **exported(of["version_export"])}
     header = declared(of["header"])
     return sorted(name for name in header.keys() | library.keys() if header.get(name) != library.get(name))
 
@@ -284,10 +285,10 @@ def told(header, what):
 
 def refusals_defined(grounds):
     """The numbers by which the definitions turn each call away, in their order; those with a format are two functions."""
-    rows = re.findall(r"^of(?:Reset|Step|Read|Query) \(?(\w+)[^)=]*\)? = ((?:\d+ ∷ )*)\[\]$", grounds, re.M)
+    rows = re.findall(r"^of_(?:reset|step|read|query) \(?(\w+)[^)=]*\)? = ((?:\d+ ∷ )*)\[\]$", grounds, re.M)
     named = [(constant(call).lower(), list(map(int, re.findall(r"\d+", numbers)))) for call, numbers in rows]
     found = {function: numbers for call, numbers in named for function in OF_FORMATS.get(call, (call,))}
-    batch = re.search(r"^ofBatch = ((?:\d+ ∷ )*)\[\]$", grounds, re.M).group(1)
+    batch = re.search(r"^of_batch = ((?:\d+ ∷ )*)\[\]$", grounds, re.M).group(1)
     later = re.search(r"then (\d+) or (\d+), of the first order that fails, and where none does (\d+)", grounds)
     return {**found, "price_batch": list(map(int, re.findall(r"\d+", batch) + list(later.groups())))}
 
@@ -404,18 +405,18 @@ class Constants(Held):
 
     def test_each_number_of_the_definitions_is_compared(self):
         for file, pattern in [
-            ("head", r"^headSize = (\d+)"),
-            ("head", r"= [^=\n]*getD words (\d+) 0"),
+            ("head", r"^head_size = (\d+)"),
+            ("head", r"= [^=\n]*get_or words (\d+) 0"),
             ("head", r"= [^=\n]*from (\d+) \d+ words\)?;"),
             ("head", r"= [^=\n]*from \d+ (\d+) words\)?;"),
-            ("lent", r"^tallyOf words = counts \(getD words (\d+)"),
-            ("numbers", r"^numberOf \w+ = (\d+)"),
-            ("codes", r"^noPrice = (\d+)"),
-            ("codes", r"^byTable = (\d+)"),
+            ("lent", r"^tally_of words = counts \(get_or words (\d+)"),
+            ("numbers", r"^number_of \w+ = (\d+)"),
+            ("codes", r"^no_price = (\d+)"),
+            ("codes", r"^by_table = (\d+)"),
             ("codes_code", r"pub const BY_TABLE: u64 = (\d+);"),
             ("header", r"BY_TABLE \(UINT64_C\((\d+)\)"),
             ("header", r"BY_TABLE \(UINT64_C\(1\) << (\d+)\)"),
-            ("codes", r"^codeOf \(accepted n\) = (\d+)"),
+            ("codes", r"^code_of \(accepted n\) = (\d+)"),
             ("caller_numbers", r"cond \(eqb number (\d+)\)"),
             ("caller_numbers_code", r"pub const DESK: u32 = (\d+);"),
             ("orders", r"cond \(eqb k (\d+)\)"),
@@ -424,9 +425,9 @@ class Constants(Held):
             ("image", r"eqb \(length b\) \((\d+) \+ \d+ \*"),
             ("image", r"eqb \(length b\) \(\d+ \+ (\d+) \*"),
             ("header", r"IMAGE_BYTES_OF\(offers\) \((\d+) \+"),
-            ("sheet", r"^sheetSize words = (\d+) \+"),
-            ("sheet", r"^sheetSize words = \d+ \+ (\d+) \*"),
-            ("sheet", r"^sheetSize words = .* \+ (\d+) \* length words$"),
+            ("sheet", r"^sheet_size words = (\d+) \+"),
+            ("sheet", r"^sheet_size words = \d+ \+ (\d+) \*"),
+            ("sheet", r"^sheet_size words = .* \+ (\d+) \* length words$"),
             ("header", r"SHEET_BYTES_OF\(offers\) \((\d+) \+"),
             ("header", r"SHEET_BYTES_OF\(offers\) \(\d+ \+ (\d+) \*"),
             ("header", r"SIXTEENTHS\(n\) \(\(n\) >= (\d+)"),
@@ -443,8 +444,8 @@ class Constants(Held):
                 "CECHNUOL_OLDEST = 2,\n    CECHNUOL_CHECKPOINT = 1,",
             ),
             ("header", "CECHNUOL_COMMITTED = 0,\n    CECHNUOL_ROLLED_BACK = 1,", "CECHNUOL_COMMITTED = 1,\n    CECHNUOL_ROLLED_BACK = 0,"),
-            ("head", "head .oldest ∷ head .checkpoint ∷", "head .checkpoint ∷ head .oldest ∷"),
-            ("lent", "tally .committed ∷ tally .«rolled_back»", "tally .«rolled_back» ∷ tally .committed"),
+            ("head", "head.oldest ∷ head.checkpoint ∷", "head.checkpoint ∷ head.oldest ∷"),
+            ("lent", "tally.committed ∷ tally.rolled_back", "tally.rolled_back ∷ tally.committed"),
             ("caller_numbers", "(eqb number 0) Desk Foyer", "(eqb number 0) Foyer Desk"),
         ]
         for file, old, new in edits:
@@ -452,7 +453,7 @@ class Constants(Held):
 
     def test_a_name_that_one_side_alone_has(self):
         self.assertEqual(differing(self.edited("header", "    CECHNUOL_TIP = 3,", "    CECHNUOL_NEWEST = 3,")), ["NEWEST", "TIP"])
-        self.assertEqual(differing(self.edited("numbers", "numberOf BadImage = 15\n", "")), ["BAD_IMAGE"])
+        self.assertEqual(differing(self.edited("numbers", "number_of BadImage = 15\n", "")), ["BAD_IMAGE"])
 
 
 class Prototypes(Held):
@@ -495,10 +496,10 @@ class Comments(Held):
             ("header", "STATE_RANGE, TOO_DEEP, TABLE_FULL.", "STATE_RANGE, TABLE_FULL.", ["flush"]),
             ("header", "Refusals: LENGTHS, TOO_DEEP.", "Refusals: LENGTHS, UNSOUND, TOO_DEEP.", ["clear"]),
             ("header", "ORDER_NO_PRICE or PRICE_RANGE; then", "PRICE_RANGE; then", ["price_batch"]),
-            ("grounds", "ofReset Restart = 1 ∷ 2 ∷ 17 ∷ []", "ofReset Restart = 1 ∷ 2 ∷ 15 ∷ []", ["restart"]),
+            ("grounds", "of_reset Restart = 1 ∷ 2 ∷ 17 ∷ []", "of_reset Restart = 1 ∷ 2 ∷ 15 ∷ []", ["restart"]),
             ("grounds", "= 1 ∷ 20 ∷ 15 ∷ 16 ∷ []", "= 1 ∷ 15 ∷ 20 ∷ 16 ∷ []", ["load", "load_sheet"]),
-            ("grounds", "ofQuery (Write format) = 1 ∷ 2 ∷ 17 ∷ []", "ofQuery (Write format) = 1 ∷ 2 ∷ []", ["write_image", "write_sheet"]),
-            ("grounds", "ofBatch = 6 ∷ 7 ∷ 8 ∷ []", "ofBatch = 6 ∷ 8 ∷ 7 ∷ []", ["price_batch"]),
+            ("grounds", "of_query (Write format) = 1 ∷ 2 ∷ 17 ∷ []", "of_query (Write format) = 1 ∷ 2 ∷ []", ["write_image", "write_sheet"]),
+            ("grounds", "of_batch = 6 ∷ 7 ∷ 8 ∷ []", "of_batch = 6 ∷ 8 ∷ 7 ∷ []", ["price_batch"]),
         ]
         for file, old, new, calls in edits:
             self.assertEqual(otherwise_refused(self.edited(file, old, new)), calls, new)

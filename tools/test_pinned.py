@@ -93,12 +93,12 @@ class Statements(Copies):
 
     def test_a_definition_below_changed_by_one_character(self):
         edits = [
-            ("changes/specs/Lists.antt", "listB", "leb (length l) 64", "leb (length l) 63"),
-            ("layout/specs/Clauses.antt", "lengthsB", "leb table 8000", "leb table 8001"),
-            ("orders/specs/Orders.antt", "kindNamed", "leb k 31", "leb k 30"),
-            ("lent/specs/Codes.antt", "noPrice", "noPrice = 100", "noPrice = 101"),
-            ("sheet/specs/Sheet.antt", "seatBit", "2 ^ (31 - offer % 32)", "2 ^ (30 - offer % 32)"),
-            ("sheet/specs/Sheet.antt", "rowB", "eqb (tagIn b % 64) 0", "eqb (tagIn b % 32) 0"),
+            ("changes/specs/Lists.antt", "is_list", "leb (length l) 64", "leb (length l) 63"),
+            ("layout/specs/Clauses.antt", "are_lengths", "leb table 8000", "leb table 8001"),
+            ("orders/specs/Orders.antt", "kind_named", "leb k 31", "leb k 30"),
+            ("lent/specs/Codes.antt", "no_price", "no_price = 100", "no_price = 101"),
+            ("sheet/specs/Sheet.antt", "seat_bit", "2 ^ (31 - offer % 32)", "2 ^ (30 - offer % 32)"),
+            ("sheet/specs/Sheet.antt", "is_row", "eqb (tag_in b % 64) 0", "eqb (tag_in b % 32) 0"),
             ("lent/specs/Asked.antt", "flush", "Step (Flush state)", "Step (RollBack state)"),
             ("conditions/specs/Runs.antt", "Run3", "replicate 8 nothing", "replicate 9 nothing"),
         ]
@@ -146,16 +146,16 @@ class Meanings(Copies):
         self.says_else("conditions/specs/Condition2.antt Condition2",
                        (f"{CONDITIONS}specs/Condition2.antt", "{computed, expected}", "{computed, computed as expected}"))
         self.says_else("conditions/specs/Tallies.antt Tallies",
-                       (f"{CONDITIONS}specs/Tallies.antt", "committedBy, rolledBackBy, flushedBy",
-                        "committedBy, rolledBackBy as flushedBy, flushedBy as rolledBackBy"))
+                       (f"{CONDITIONS}specs/Tallies.antt", "committed_by, rolled_back_by, flushed_by",
+                        "committed_by, rolled_back_by as flushed_by, flushed_by as rolled_back_by"))
 
     def test_an_operator_in_place_of_another(self):
         self.says_else("conditions/specs/Ranges.antt Ranges",
-                       (f"{CONDITIONS}specs/Ranges.antt", "_^_, _≤_, _<_", "_^_, _<_ as _≤_, _<_"))
+                       (f"{CONDITIONS}specs/Ranges.antt", "◌^◌, ◌≤◌, ◌<◌", "◌^◌, ◌<◌ as ◌≤◌, ◌<◌"))
 
     def test_a_name_of_the_kit_in_place_of_another(self):
         self.says_else("conditions/specs/CLayout.antt CLayout",
-                       (f"{CONDITIONS}specs/CLayout.antt", "mathlib.Core.Path.{_≡_}", "lib.Other.{_≡_}"))
+                       (f"{CONDITIONS}specs/CLayout.antt", "std.specs.Prelude.{◌≡◌, []", "std.specs.Other.{◌≡◌}\nuse Rattle.std.specs.Prelude.{[]"))
 
     def test_a_condition_of_another_file(self):
         weak = "pub record Condition1 : Type 0 where\n"
@@ -169,15 +169,15 @@ class Meanings(Copies):
         found = self.with_file(f"{CONDITIONS}specs/Weak.antt", weak, (
             "crates/c_promises/src/lib.rt",
             "CCalls.{StoreKeeps, WordsKeep,",
-            "Weak.{StoreKeeps};\nghost use Rattle·conditions.specs.CCalls.{WordsKeep,",
+            "Weak.{StoreKeeps};\nghost use Rattle.conditions.specs.CCalls.{WordsKeep,",
         ))
         self.assertIn("c_promises/src/lib.rt flush says something else", found)
         self.assertNotIn("c_promises/src/lib.rt commit says something else", found)
 
     def test_an_import_that_cannot_be_read(self):
         path = f"{CONDITIONS}specs/Condition2.antt"
-        for line in ["use Rattle·moments.specs.{Moments.computed}", "use Rattle·moments.specs.Moments.{computed} -- as it is"]:
-            found = self.after((path, "use mathlib.Core.List.{List, map}", f"use mathlib.Core.List.{{List, map}}\n{line}"))
+        for line in ["use Rattle.moments.specs.{Moments.computed}", "use Rattle.moments.specs.Moments.{computed} -- as it is"]:
+            found = self.after((path, "use Rattle.moments.specs.Table.{twelve}", f"use Rattle.moments.specs.Table.{{twelve}}\n{line}"))
             self.assertEqual(len(found), 1, line)
             self.assertTrue(found[0].startswith(f"{path}: it cannot be told what this imports"), found)
 
@@ -187,15 +187,20 @@ class Functions(Copies):
 
     def test_a_contract_weakened(self):
         text = (self.root / self.STORE).read_text()
-        words = re.search(r"\n        × \(now \(words \.exit\)[^⌝]*\(issue caller slot\)\)", text)[0]
+        words = re.search(r"\n        × \(words\.new[^}]*\(issue caller slot\)\)", text)[0]
         self.says_else("cechnuol/src/store.rt cechnuol_issue", (self.STORE, words, ""))
-        self.says_else("unit/src/serve.rt serve", ("crates/unit/src/serve.rt", "Replies (now (tally .entry))", "Weaker (now (tally .entry))"))
+        self.says_else("unit/src/serve.rt serve", ("crates/unit/src/serve.rt", "Replies tally.old", "Weaker tally.old"))
 
     def test_a_requires_added(self):
-        ensures = "    ensures { λ r. ⌜ Tells (now (table .entry)) (now (journal .entry)) [] [] "
-        found = self.after((self.STORE, ensures, "    requires { ⌜ offer ≡ 5 ⌝ }\n" + ensures))
+        ensures = "    ensures { Tells table.now journal.now [] [] "
+        found = self.after((self.STORE, ensures, "    requires { offer ≡ 5 }\n" + ensures))
         self.assertIn("cechnuol/src/store.rt cechnuol_look_up says something else", found)
         self.assertIn(f"{self.STORE}: cechnuol_look_up has a `requires`, or no `ensures`", found)
+
+    def test_an_export_that_promises_less(self):
+        path = "crates/cechnuol_c/src/store.rt"
+        words = re.search(r"\n        × \(words\.new[^}]*\(issue caller slot\)\)", (self.root / path).read_text())[0]
+        self.assertIn(f"{path}: cechnuol_issue is not what it is in {self.STORE}", self.after((path, words, "")))
 
     def test_a_function_is_gone(self):
         self.assertIn("conditions/src/lib.rt hold is gone, or the conditions no longer rest on it",
@@ -223,23 +228,22 @@ class NoFault(Copies):
     def test_comments(self):
         self.assertEqual(self.after(
             (f"{CONDITIONS}specs/Runs.antt", "-- and what they leave\n", "-- and where they end, in other words\n"),
-            ("crates/lent/specs/Codes.antt", "noPrice = 100", "noPrice = 100 -- no ground has it"),
+            ("crates/lent/specs/Codes.antt", "no_price = 100", "no_price = 100 -- no ground has it"),
             ("crates/answers/src/call.rt", "pub enum Step {", "pub enum Step { // one of three"),
             ("crates/c_promises/src/lib.rt", "// `cechnuol_flush`.", "// The flush."),
         ), [])
 
     def test_layout(self):
         self.assertEqual(self.after(
-            ("crates/lent/specs/Codes.antt", "noPrice = 100", "noPrice =\n    100"),
-            (f"{CONDITIONS}src/lib.rt", "⌜ Condition1 × Condition2 × Condition3 ⌝", "⌜ Condition1\n        × Condition2 × Condition3 ⌝"),
+            ("crates/lent/specs/Codes.antt", "no_price = 100", "no_price =\n    100"),
+            (f"{CONDITIONS}src/lib.rt", "Condition1 × Condition2 × Condition3", "Condition1\n        × Condition2 × Condition3"),
         ), [])
 
     def test_imports(self):
         self.assertEqual(self.after(
             (f"{CONDITIONS}specs/Condition2.antt", "Moments.{computed, expected}", "Moments.{expected, computed}"),
-            (f"{CONDITIONS}specs/Condition2.antt", "use mathlib.Core.List.{List, map}", "use mathlib.Core.List.{List, map}\nuse mathlib.Core.Bool.{not}"),
-            (f"{CONDITIONS}specs/Tallies.antt", "use Prim.Native.Nat.{ℕ, _+_, _-_, min}",
-             "use Prim.Native.Nat.{min}\nuse Prim.Native.Nat.{ℕ, _+_, _-_}"),
+            (f"{CONDITIONS}specs/Condition2.antt", "use Rattle.moments.specs.Table.{twelve}", "use Rattle.moments.specs.Table.{twelve}\nuse Rattle.std.specs.Prelude.{not}"),
+            (f"{CONDITIONS}specs/Tallies.antt", "use Rattle.std.specs.Prelude.{◌≡◌, ", "use Rattle.std.specs.Prelude.{◌≡◌}\nuse Rattle.std.specs.Prelude.{"),
         ), [])
 
 

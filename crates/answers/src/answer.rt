@@ -5,7 +5,7 @@ ghost use Rattle.answers.specs.Answers.{said_by_since, said_by, is_granted, has_
 use crate::ground::{Ground, number};
 
 // What a check finds: no ground, or the first one that turns the call away.
-#[derive(Drop)]
+#[derive(Clone, Copy)]
 pub enum Check {
     Passed,
     Refused(Ground),
@@ -13,7 +13,7 @@ pub enum Check {
 
 // How fresh a quote is: the state to which the last step naming the offer leads, or that the table answered. The state has 64 bits, so that
 // it lies in an answer where a count does, and answers are copied by whole words.
-#[derive(Drop)]
+#[derive(Clone, Copy)]
 pub enum Since {
     State(u64),
     Table,
@@ -21,7 +21,7 @@ pub enum Since {
 
 // What a call answers: done, the price of a lookup or that there is none, each with since when, the count of the words or
 // bytes written, or why it was turned away. Price 0 is a price.
-#[derive(Drop)]
+#[derive(Clone, Copy)]
 pub enum Answer {
     Done,
     Price(u32, Since),
@@ -32,7 +32,7 @@ pub enum Answer {
 
 // What an answer comes to, whatever was asked: whether the call was accepted, its value if it has one, and since when, which is the
 // table's where no step was named.
-#[derive(Drop)]
+#[derive(Clone, Copy)]
 pub struct Status {
     pub accepted: bool,
     pub valued: bool,

@@ -4,7 +4,7 @@ ghost use Rattle.answers.specs.Numbers.{number_of};
 
 // A ground for turning a call away. In the papers' words the table is the book, the journal the change
 // memory, a slot a place, the checkpoint the anchor and a release a drop.
-#[derive(Drop)]
+#[derive(Clone, Copy)]
 pub enum Ground {
     // 1. The book's or the change memory's length is outside its range.
     Lengths,

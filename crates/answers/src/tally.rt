@@ -6,7 +6,7 @@ use crate::answer::{Answer, is_accepted};
 use crate::call::{Call, Step};
 
 // The steps committed, rolled back and flushed since the last clear, load or restart.
-#[derive(Drop)]
+#[derive(Clone, Copy)]
 pub struct Tally {
     pub committed: u64,
     pub rolled_back: u64,

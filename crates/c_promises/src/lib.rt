@@ -1,6 +1,8 @@
 // Each C function keeps the promise that the runs of the conditions are made of (conditions/specs/CCalls.antt), for the call that is
 // written out here. The functions here only call them: so the theorems are about those very functions, and a contract that says less, or
 // speaks of another call, is noticed.
+#![tactic(auto)]
+
 ghost use Rattle.std.specs.Prelude.{cond, eqb};
 ghost use Rattle.answers.specs.declared.call.Call.TheVariants.{Reset, Step, Read};
 ghost use Rattle.answers.specs.declared.call.Caller.TheVariants.{Desk, Foyer};

@@ -7,13 +7,7 @@ use batch::pricing::price_batch;
 use lent::codes::{code_of, value_of};
 
 // Prices the orders on the read set; the changes go to the start of `out`, and their count to `count`.
-#[unsafe(no_mangle)]
-pub extern "C" fn cechnuol_price_batch(
-    reads: &[u64],
-    orders: &[u64],
-    out: &mut [u64],
-    count: &mut u64,
-) -> u64
+pub fn cechnuol_price_batch(reads: &[u64], orders: &[u64], out: &mut [u64], count: &mut u64) -> u64
     ensures { (result ≡ code_of (answer (batch reads.now orders.now (length out.old))))
         × (out.new ≡ output (batch reads.now orders.now (length out.old)) out.old)
         × (count.new

@@ -14,8 +14,7 @@ use lent::codes::{code_of, since_of, value_of};
 use lent::storing::TALLY_WORDS;
 
 // The empty map as state 0, with a depth.
-#[unsafe(no_mangle)]
-pub extern "C" fn cechnuol_clear(
+pub fn cechnuol_clear(
     table: &mut [u64],
     journal: &mut [u64],
     head: &mut [u64; HEAD_WORDS],
@@ -30,8 +29,7 @@ pub extern "C" fn cechnuol_clear(
 }
 
 // Loads the image that the bytes are, with a depth.
-#[unsafe(no_mangle)]
-pub extern "C" fn cechnuol_load(
+pub fn cechnuol_load(
     table: &mut [u64],
     journal: &mut [u64],
     head: &mut [u64; HEAD_WORDS],
@@ -50,8 +48,7 @@ pub extern "C" fn cechnuol_load(
 }
 
 // Writes the image of the tip to the start of the bytes, and its length to `count`.
-#[unsafe(no_mangle)]
-pub extern "C" fn cechnuol_write_image(
+pub fn cechnuol_write_image(
     table: &[u64],
     journal: &[u64],
     head: &[u64; HEAD_WORDS],
@@ -77,8 +74,7 @@ pub extern "C" fn cechnuol_write_image(
 }
 
 // Writes the image of a state to the start of the bytes, and its length to `count`.
-#[unsafe(no_mangle)]
-pub extern "C" fn cechnuol_write_state_image(
+pub fn cechnuol_write_state_image(
     table: &[u64],
     journal: &[u64],
     head: &[u64; HEAD_WORDS],
@@ -106,8 +102,7 @@ pub extern "C" fn cechnuol_write_state_image(
 }
 
 // Loads the sheet that the bytes are, with a depth.
-#[unsafe(no_mangle)]
-pub extern "C" fn cechnuol_load_sheet(
+pub fn cechnuol_load_sheet(
     table: &mut [u64],
     journal: &mut [u64],
     head: &mut [u64; HEAD_WORDS],
@@ -126,8 +121,7 @@ pub extern "C" fn cechnuol_load_sheet(
 }
 
 // Writes the sheet of the tip to the start of the bytes, and its length to `count`.
-#[unsafe(no_mangle)]
-pub extern "C" fn cechnuol_write_sheet(
+pub fn cechnuol_write_sheet(
     table: &[u64],
     journal: &[u64],
     head: &[u64; HEAD_WORDS],
@@ -153,8 +147,7 @@ pub extern "C" fn cechnuol_write_sheet(
 }
 
 // Writes the sheet of a state to the start of the bytes, and its length to `count`.
-#[unsafe(no_mangle)]
-pub extern "C" fn cechnuol_write_state_sheet(
+pub fn cechnuol_write_state_sheet(
     table: &[u64],
     journal: &[u64],
     head: &[u64; HEAD_WORDS],
@@ -182,8 +175,7 @@ pub extern "C" fn cechnuol_write_state_sheet(
 }
 
 // Writes the image of the checkpoint to the start of the bytes and loads it back.
-#[unsafe(no_mangle)]
-pub extern "C" fn cechnuol_restart(
+pub fn cechnuol_restart(
     table: &mut [u64],
     journal: &mut [u64],
     head: &mut [u64; HEAD_WORDS],
@@ -210,8 +202,7 @@ pub extern "C" fn cechnuol_restart(
 }
 
 // Commits the list that the words are.
-#[unsafe(no_mangle)]
-pub extern "C" fn cechnuol_commit(
+pub fn cechnuol_commit(
     table: &mut [u64],
     journal: &mut [u64],
     head: &mut [u64; HEAD_WORDS],
@@ -229,8 +220,7 @@ pub extern "C" fn cechnuol_commit(
 }
 
 // Goes back to a state.
-#[unsafe(no_mangle)]
-pub extern "C" fn cechnuol_roll_back(
+pub fn cechnuol_roll_back(
     table: &mut [u64],
     journal: &mut [u64],
     head: &mut [u64; HEAD_WORDS],
@@ -250,8 +240,7 @@ pub extern "C" fn cechnuol_roll_back(
 }
 
 // Makes the table the map at a state.
-#[unsafe(no_mangle)]
-pub extern "C" fn cechnuol_flush(
+pub fn cechnuol_flush(
     table: &mut [u64],
     journal: &mut [u64],
     head: &mut [u64; HEAD_WORDS],
@@ -266,8 +255,7 @@ pub extern "C" fn cechnuol_flush(
 
 // Writes the price of an offer at a state to `price`, or finds none, whoever calls; and to `since` the state to which the last step
 // naming the offer leads, or that the table answered.
-#[unsafe(no_mangle)]
-pub extern "C" fn cechnuol_look_up(
+pub fn cechnuol_look_up(
     table: &[u64],
     journal: &[u64],
     head: &[u64; HEAD_WORDS],
@@ -294,8 +282,7 @@ pub extern "C" fn cechnuol_look_up(
 }
 
 // Issues a read of the list that the words are, in a slot of the caller's, and fills it.
-#[unsafe(no_mangle)]
-pub extern "C" fn cechnuol_issue(
+pub fn cechnuol_issue(
     table: &mut [u64],
     journal: &mut [u64],
     head: &mut [u64; HEAD_WORDS],
@@ -325,8 +312,7 @@ pub extern "C" fn cechnuol_issue(
 }
 
 // Forwards a read of the caller's to a state; the words are the read set.
-#[unsafe(no_mangle)]
-pub extern "C" fn cechnuol_forward(
+pub fn cechnuol_forward(
     table: &mut [u64],
     journal: &mut [u64],
     head: &mut [u64; HEAD_WORDS],
@@ -357,8 +343,7 @@ pub extern "C" fn cechnuol_forward(
 }
 
 // Closes a slot of the caller's (document 01: drop).
-#[unsafe(no_mangle)]
-pub extern "C" fn cechnuol_release(
+pub fn cechnuol_release(
     table: &mut [u64],
     journal: &mut [u64],
     head: &mut [u64; HEAD_WORDS],

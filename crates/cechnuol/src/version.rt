@@ -6,8 +6,7 @@ ghost use Rattle.cechnuol.specs.Version.{version};
 const VERSION: u64 = 6000000;
 
 // The version of this library.
-#[unsafe(no_mangle)]
-pub extern "C" fn cechnuol_version() -> u64
+pub fn cechnuol_version() -> u64
     ensures { result ≡ version }
 {
     VERSION

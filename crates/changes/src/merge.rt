@@ -1,5 +1,5 @@
 // Where an offer lies, seen from another.
-#[derive(Drop)]
+#[derive(Clone, Copy)]
 pub enum Side {
     Below,
     Same,

@@ -1,5 +1,5 @@
 // What a search for an offer finds.
-#[derive(Drop)]
+#[derive(Clone, Copy)]
 pub enum Found {
     Word(u64),
     Nothing,

@@ -1,4 +1,6 @@
 // Commit: a list is appended as the state after the tip.
+#![tactic(auto)]
+
 ghost use Rattle.std.specs.Prelude.{◌≡◌, ◌-◌, ◌≤◌, ◌<◌, eqb, ltb};
 ghost use Rattle.answers.specs.declared.answer.Answer.TheVariants.{Done};
 ghost use Rattle.answers.specs.Answers.{Gives, answered};

@@ -1,4 +1,6 @@
 // The composition of two lists.
+#![tactic(auto)]
+
 ghost use Rattle.std.specs.Prelude.{cond, ◌≡◌, ◌++◌, ◌+◌, ◌^◌, ◌<◌, ◌≤◌, ltb, length, drop};
 ghost use Rattle.entry.specs.Word.{offer_of};
 ghost use Rattle.changes.specs.Calculus.{compose as composed};

@@ -1,12 +1,14 @@
 // The entry word (document 01, "What the unit holds"): 64 bits, most significant first a kind of
 // 1 bit, an offer of 31 bits and a price of 32 bits. Kind 1 puts the price, or shows it in a table or
 // a read set; kind 0 removes it, or shows that there is none, and its price field is 0.
+#![tactic(auto)]
+
 ghost use Rattle.std.specs.Prelude.{◌≡◌, ◌*◌, ◌%◌, ◌^◌, ◌<◌, ◌&&◌, ◌==◌, nat_lt};
 ghost use Rattle.entry.specs.Word.{kind_of, offer_of, price_of, key_of, put_of, none_of, is_put, Put, is_valid, bit_of, top_of};
 
 use std::num::wrapping_sub_u32;
 
-#[derive(Drop)]
+#[derive(Clone, Copy)]
 pub struct Entry;
 
 impl Entry {

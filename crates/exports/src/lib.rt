@@ -1,2 +1,4 @@
 // Writing a state, as an image or a sheet: any from the checkpoint to the tip.
+#![tactic(auto)]
+
 pub mod write;

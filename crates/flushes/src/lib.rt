@@ -1,5 +1,7 @@
 // Flush: the table becomes the map at a named state, which is the checkpoint then, and the steps that no read needs
 // go.
+#![tactic(auto)]
+
 ghost use Rattle.std.specs.Prelude.{cond, ◌≡◌, ◌≤◌, ltb, length};
 ghost use Rattle.answers.specs.declared.ground.Ground.TheVariants.{TableFull};
 ghost use Rattle.answers.specs.declared.answer.Answer.TheVariants.{Done, Count, Refused};

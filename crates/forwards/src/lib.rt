@@ -1,4 +1,6 @@
 // Forward: a read set is brought to a named state, its slot closes, and the steps that only it needed go.
+#![tactic(auto)]
+
 ghost use Rattle.std.specs.Prelude.{◌≡◌};
 ghost use Rattle.answers.specs.declared.answer.Answer.TheVariants.{Done};
 ghost use Rattle.answers.specs.Answers.{Gives, answered};

@@ -1,4 +1,6 @@
 // The head of a store as 85 words, which a C program lends: whether words fit a head, the head that they hold, and a head put into them.
+#![tactic(auto)]
+
 ghost use Rattle.std.specs.Prelude.{◌≡◌, map, ◌++◌, ℕ, ◌+◌, ◌^◌, ◌≤◌, ltb, length, take, drop, set};
 ghost use Rattle.head_words.specs.HeadWords.{flag_of, word_of, number_in, mark_in, head_of, words_of, are_below, is_head};
 

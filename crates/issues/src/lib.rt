@@ -1,4 +1,6 @@
 // Issue: a list of kind 0 words is filled from the table, and a slot opens.
+#![tactic(auto)]
+
 ghost use Rattle.std.specs.Prelude.{◌≡◌};
 ghost use Rattle.answers.specs.declared.answer.Answer.TheVariants.{Done};
 ghost use Rattle.answers.specs.Answers.{Gives, answered};

@@ -1,5 +1,7 @@
 // The last change of an offer among some steps of the journal, and a read set brought forward by the last changes of its
 // offers.
+#![tactic(auto)]
+
 pub mod filter;
 
 ghost use Rattle.std.specs.Prelude.{◌≡◌, ◌+◌, ◌-◌};
@@ -24,7 +26,7 @@ use lists::search::find;
 const FEW_SEARCHES: usize = 16;
 
 // The last change of an offer among some steps: its word, and how many of the steps lead up to it, its own included.
-#[derive(Drop)]
+#[derive(Clone, Copy)]
 pub enum Last {
     Word(u64, usize),
     Nothing,

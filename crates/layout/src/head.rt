@@ -20,7 +20,7 @@ pub const JOURNAL_WORDS: usize = 4096;
 // The most words that the map at a state has: those of the table, and one for each word of the journal.
 pub const MAP_WORDS: usize = TABLE_WORDS + JOURNAL_WORDS;
 
-#[derive(Drop)]
+#[derive(Clone, Copy)]
 pub struct Head {
     // How many words of the table are used.
     pub used: usize,
@@ -40,7 +40,7 @@ pub struct Head {
 }
 
 // What a call answers, and the head after it.
-#[derive(Drop)]
+#[derive(Clone, Copy)]
 pub struct Reply {
     pub answer: Answer,
     pub head: Head,

@@ -1,9 +1,15 @@
 // The listing program (document 01, "Image and listing"): reads one image on standard input into a table of
 // 8,000 words and prints its state, or the number of the ground on which it is refused.
+#![tactic(auto)]
+
 mod report;
 
-use libc::{STDIN_FILENO, STDOUT_FILENO};
 use report::report;
+
+// The numbers of the descriptors of standard input and standard output.
+const STDIN_FILENO: i32 = 0;
+
+const STDOUT_FILENO: i32 = 1;
 
 fn main() {
     let mut input = [0u8; 64007];

@@ -1,4 +1,6 @@
 // The text of the listing (document 01, "Image and listing"): the map of a state, line by line, in bytes that the
 // caller lends.
+#![tactic(auto)]
+
 pub mod decimal;
 pub mod listing;

@@ -1,4 +1,6 @@
 // Lookup: an offer's price, or none, at a named state, and since when.
+#![tactic(auto)]
+
 ghost use Rattle.std.specs.Prelude.{◌≡◌, ◌+◌, ◌-◌, ◌<◌};
 ghost use Rattle.changes.specs.Calculus.{find as found, if_put, apply, compose_all};
 ghost use Rattle.changes.specs.Lists.{Map};

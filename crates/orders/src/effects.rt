@@ -11,7 +11,7 @@ use entry::Entry;
 const MAX_PRICE: u64 = (1 << Entry::PRICE_BITS) - 1;
 
 // What an order does: it puts or removes a price by an entry word, or it fails.
-#[derive(Drop)]
+#[derive(Clone, Copy)]
 pub enum Effect {
     Change(u64),
     Fails(Ground),

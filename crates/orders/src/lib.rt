@@ -2,6 +2,8 @@
 //
 // An order word has 64 bits, most significant first a kind of 8 bits, an amount of 25 bits and an
 // offer of 31 bits.
+#![tactic(auto)]
+
 ghost use Rattle.std.specs.Prelude.{◌≡◌};
 ghost use Rattle.orders.specs.Orders.{order_kind, order_amount, order_offer, is_allowed};
 
@@ -9,7 +11,7 @@ use entry::Entry;
 
 pub mod effects;
 
-#[derive(Drop)]
+#[derive(Clone, Copy)]
 pub struct Order;
 
 impl Order {

@@ -1,4 +1,6 @@
 // Release (document 01: drop): a slot closes, and the steps that only it needed go.
+#![tactic(auto)]
+
 ghost use Rattle.std.specs.Prelude.{◌≡◌};
 ghost use Rattle.answers.specs.declared.answer.Answer.TheVariants.{Done};
 ghost use Rattle.answers.specs.Answers.{Gives, answered};

@@ -1,5 +1,7 @@
 // Restart: the checkpoint's image is written into lent bytes and loaded back, so that the tip becomes the checkpoint and
 // all slots close. The depth stays.
+#![tactic(auto)]
+
 ghost use Rattle.std.specs.Prelude.{◌≡◌, length};
 ghost use Rattle.answers.specs.declared.answer.Answer.TheVariants.{Done};
 ghost use Rattle.answers.specs.Answers.{Gives, answered};

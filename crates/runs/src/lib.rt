@@ -1,4 +1,6 @@
 // The composition of a run of steps that lie one after another, each ending where its mark says.
+#![tactic(auto)]
+
 ghost use Rattle.std.specs.Prelude.{◌≡◌, ◌++◌, ◌+◌, ◌-◌, ◌<◌, ◌≤◌, length, take, drop};
 ghost use Rattle.changes.specs.Calculus.{compose as composed};
 ghost use Rattle.changes.specs.Runs.{start_of, step_of, run_words, Marked};

@@ -1,6 +1,8 @@
 // The sheet of a map and its state number (document 02, Q-5): prices by row, 32 seats to a row. A state number of 32 bits and a count of
 // rows of 32 bits, then for each row its number, a mask of its seats and a price for each set bit, all most significant byte first, in
 // bytes that the caller lends.
+#![tactic(auto)]
+
 pub mod reading;
 mod rows;
 pub mod writing;

@@ -12,7 +12,7 @@ use entry::Entry;
 const NUMBER_UNIT: u32 = 64;
 
 // How many offers a sheet has, or that the bytes are none.
-#[derive(Drop)]
+#[derive(Clone, Copy)]
 pub enum Offers {
     Count(usize),
     Broken,

@@ -18,7 +18,7 @@ const NUMBER_UNIT: u32 = 64;
 const NO_ROW: u32 = 0xFFFF_FFFF;
 
 // The words of one row at the start of a map's words: how many they are, and the mask of their seats.
-#[derive(Drop)]
+#[derive(Clone, Copy)]
 struct FirstRow {
     count: usize,
     mask: u32,

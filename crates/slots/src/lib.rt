@@ -1,4 +1,6 @@
 // Slots (document 01: reading places) that open and close, and whose they are.
+#![tactic(auto)]
+
 pub mod callers;
 
 ghost use Rattle.std.specs.Prelude.{◌≡◌, ◌<◌};

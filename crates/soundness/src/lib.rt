@@ -1,4 +1,6 @@
 // Whether a store is sound, and the grounds that several calls share: those of the store, of a state named and of one to be flushed to.
+#![tactic(auto)]
+
 ghost use Rattle.std.specs.Prelude.{◌≡◌};
 ghost use Rattle.answers.specs.Answers.{Checks};
 ghost use Rattle.answers.specs.First.{first};

@@ -1,4 +1,6 @@
 // The map at a state that a store holds, worked out in lent memory.
+#![tactic(auto)]
+
 pub mod sizes;
 
 ghost use Rattle.std.specs.Prelude.{◌≡◌, ◌+◌, length, take, drop};

@@ -1,4 +1,6 @@
 // Changes applied to a map, and the map written to a table.
+#![tactic(auto)]
+
 ghost use Rattle.std.specs.Prelude.{true, false, ◌≡◌, ◌++◌, ◌+◌, ◌-◌, ◌≤◌, max, length, drop, replicate};
 ghost use Rattle.entry.specs.Word.{Put};
 ghost use Rattle.changes.specs.Calculus.{side_of, by_side, apply as applied};

@@ -8,7 +8,7 @@ use calls::perform::perform;
 use layout::head::{Head, Reply};
 
 // The reply to a call, and the tally after it.
-#[derive(Drop)]
+#[derive(Clone, Copy)]
 pub struct Served {
     pub reply: Reply,
     pub tally: Tally,

@@ -8,7 +8,7 @@ use layout::head::Head;
 
 // What the counter hands from one call to the next: the memory of the store, a read set, the bytes of an image, the head
 // and the tally. Beside it what the last call answered.
-#[derive(Drop)]
+#[derive(Clone, Copy)]
 pub(crate) struct Counter {
     pub(crate) table: [u64; 4],
     pub(crate) journal: [u64; 16],

@@ -1,5 +1,7 @@
 // Shows a day at the counter, for a reader who has never heard of the unit: each line says in words what is asked of it and
 // what it answers. The prices, states and refusals are those that `unit::serve` and `price_batch` gave.
+#![tactic(auto)]
+
 mod counter;
 mod day;
 mod pricing;

@@ -1,7 +1,9 @@
 // What the program prints, in words. A line starts with its newline, so that whatever is printed next may go on with it.
 use answers::answer::{Answer, Since, ground_in};
 use entry::Entry;
-use libc::STDOUT_FILENO;
+
+// The number of the descriptor of standard output.
+const STDOUT_FILENO: i32 = 1;
 
 pub(crate) fn show_text(text: &[u8]) {
     io::write_all(STDOUT_FILENO, text);

@@ -8,7 +8,7 @@ use layout::head::{Head, Reply};
 use unit::serve::serve;
 
 // What a call leaves beside the memory.
-#[derive(Drop)]
+#[derive(Clone, Copy)]
 pub struct After {
     pub reply: Reply,
     pub tally: Tally,

@@ -1,4 +1,6 @@
 // Words copied, moved and cleared.
+#![tactic(auto)]
+
 ghost use Rattle.std.specs.Prelude.{◌≡◌, ◌++◌, ◌+◌, ◌-◌, ◌≤◌, length, take, drop, replicate};
 
 // Copies the source to the start of the target; the words behind it stay.
