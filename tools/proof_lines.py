@@ -2,10 +2,7 @@
 """Keeps lines of proofs and contracts within 140 columns.
 
     proof_lines.py --check           names every line of crates/ that is longer, but for imports, and fails if there is one
-    proof_lines.py FILE..            wraps the long lines of these files; in a clause with a long line, paths of
-                                     `.before` get names: `let c7 = c .before .. in`, `let args = c7 .. .args in`
-    proof_lines.py --paths FILE..    the way back: puts the paths where their names stand, so that `proof shorten`
-                                     finds them before an edit of the code
+    proof_lines.py FILE..            wraps the long lines of these files, but for imports, which `rt fmt` lays out
 
 Run `rt fmt` after it: where a line goes on, `rt fmt` sets the indent.
 """
@@ -15,13 +12,10 @@ import sys
 
 LIMIT = 140  # the columns that no line passes
 AIM = 120  # where a line that is wrapped ends, if it can
-STEP = 10  # a longer path is named in parts of so many steps
-OPENING, CLOSING = "([{⌜", ")]}⌝"
+OPENING, CLOSING = "([{", ")]}"
 OPERATORS = {"∙", "≡", "→", "×", "∷", "++", "&&", "≤", "<"}
 JOINED = {"=", ":", "let", "λ", "in", "+", "-", "*", "%", "^"}
-PATH = re.compile(r"(?<![\w'.·-])([a-z]\w*)((?: \.before){3,})( \.args)?(?![\w-])")
 IMPORT = re.compile(r" *(?:(?:ghost|pub|unfoldable) )*use ")
-NAME = re.compile(r"^ *let ([a-z]\d+|args\d?) = ([a-z]\w*(?: \.before)*(?: \.args)?) in$")
 
 
 def indent_of(line):
@@ -39,7 +33,7 @@ def breaks(text):
         elif char == " " and text[i + 1 : i + 2].strip():
             after = re.match(r"\S+", text[i + 1 :]).group(0)
             before = (re.findall(r"\S+$", text[:i].rstrip()) or [""])[0]
-            if after.startswith(".") and len(after) > 1 or after in (")", "}", "⌝"):
+            if after.startswith(".") and len(after) > 1 or after in (")", "}"):
                 continue
             if after in OPERATORS or before.endswith(";"):
                 found.append((i, depth, 0))
@@ -82,7 +76,7 @@ def clauses(text):
 
 
 def wrap_contract(line):
-    match = re.match(r"^( *)((?:requires|ensures) \{ (?:λ r\. )?⌜ )(.*)( ⌝ \})$", line)
+    match = re.match(r"^( *)((?:requires|ensures)(?: \w+)? \{ )(.*)( \})$", line)
     if not match:
         return None
     indent, opening = len(match.group(1)), match.group(2)
@@ -98,27 +92,13 @@ def wrap_contract(line):
     return lines
 
 
-def wrap_import(line):
-    match = re.match(r"^((?:ghost )?use .*\.)\{(.*)\}(;?)$", line)
-    if not match:
-        return None
-    lines, names = [], []
-    for name in match.group(2).split(", ") + [None]:
-        length = len(match.group(1)) + sum(len(n) + 2 for n in names) + len(name or "")
-        if names and (name is None or length > AIM):
-            lines.append(match.group(1) + "{" + ", ".join(names) + "}" + match.group(3))
-            names = []
-        names.append(name)
-    return lines
-
-
 def balanced(text):
     return sum(text.count(c) for c in OPENING) == sum(text.count(c) for c in CLOSING)
 
 
 def wrap_line(line):
     indent, text = indent_of(line), line.strip()
-    lines = wrap_contract(line) or wrap_import(line)
+    lines = wrap_contract(line)
     if lines:
         return lines
     defined = re.match(r"^([^\s:=(∙]+(?: [^=]*?)?) = (.*)$", text)
@@ -138,63 +118,16 @@ def blocks(lines):
         start = end
 
 
-def name_paths(block):
-    """A clause with a long line, its long paths named; None where there is nothing to name."""
-    head = re.match(r"^( *)([^\s:=]+)((?: [^\s=:]+)*) =(?: (.*))?$", block[0])
-    if not head or not any(len(line) > LIMIT for line in block):
-        return None
-    bound = head.group(3).split()
-    paths = {(m.group(1), m.group(2).count("."), bool(m.group(3))) for m in PATH.finditer("\n".join(block)) if m.group(1) in bound}
-    if not paths:
-        return None
-    body = block[1:] if head.group(4) is None else [" " * (len(head.group(1)) + 4) + head.group(4)] + block[1:]
-    first = block[0] if head.group(4) is None else block[0][: -len(head.group(4)) - 1]
-    indent, names, lets, reached = " " * indent_of(body[0]), {}, [], {}
-    for path in sorted(paths, key=lambda p: p[1:]):
-        variable, steps, args = path
-        name, done = reached.get(variable, (variable, 0))
-        while steps - done > STEP + 2:
-            lets.append(f"{indent}let {variable}{done + STEP} = {name}{' .before' * STEP} in")
-            name, done = f"{variable}{done + STEP}", done + STEP
-        count = sum(1 for other in names if other[2])
-        names[path] = ("args" if count == 0 else f"args{count + 1}") if args else f"{variable}{steps}"
-        lets.append(f"{indent}let {names[path]} = {name}{' .before' * (steps - done)}{' .args' if args else ''} in")
-        reached[variable] = (name, done) if args else (names[path], steps)
-
-    def named(match):
-        return names.get((match.group(1), match.group(2).count("."), bool(match.group(3))), match.group(0))
-
-    return [first] + lets + [re.sub(r"(?<=[ (])\((args\d?|[a-z]\d+)\)", r"\1", PATH.sub(named, line)) for line in body]
+def is_left(line):
+    """A line that is short enough, and an import or a comment, which are wrapped nowhere here."""
+    return len(line) <= LIMIT or IMPORT.match(line) or line.lstrip().startswith(("--", "//"))
 
 
 def wrap_all(lines):
     out = []
     for block in blocks(lines):
-        named = name_paths(block)
-        if named:
-            out += [part for line in named for part in (wrap_line(line) if len(line) > LIMIT else [line])]
-        elif len(block) > 1:
-            out += (wrap_line(block[0]) if len(block[0]) > LIMIT else block[:1]) + wrap_all(block[1:])
-        else:
-            comment = block[0].lstrip().startswith(("--", "//"))
-            out += wrap_line(block[0]) if len(block[0]) > LIMIT and not comment else block
-    return out
-
-
-def unname(lines):
-    """Names of paths taken out again, the paths in their place."""
-    out = []
-    for block in blocks(lines):
-        paths, rest = {}, []
-        for line in block:
-            for name, path in paths.items():
-                line = re.sub(rf"(?<![\w'.·-]){name}(?![\w'-])", path, line)
-            match = NAME.match(line)
-            if match and len(block) > 1:
-                paths[match.group(1)] = match.group(2)
-            else:
-                rest.append(line)
-        out += rest
+        out += block[:1] if is_left(block[0]) else wrap_line(block[0])
+        out += wrap_all(block[1:])
     return out
 
 
@@ -211,16 +144,14 @@ def main(words):
         found = list(long_lines())
         print("\n".join(f"{line}: above {LIMIT} columns" for line in found) or f"no line of crates/ is above {LIMIT} columns")
         return 1 if found else 0
-    change = unname if words[:1] == ["--paths"] else wrap_all
-    files = words[1:] if words[:1] == ["--paths"] else words
-    if not files:
+    if not words:
         print(__doc__, file=sys.stderr)
         return 2
-    for path in files:
+    for path in words:
         with open(path, encoding="utf-8") as file:
             lines = file.read().split("\n")
         with open(path, "w", encoding="utf-8") as file:
-            file.write("\n".join(change(lines)))
+            file.write("\n".join(wrap_all(lines)))
     return 0
 
 

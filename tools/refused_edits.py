@@ -12,11 +12,12 @@ also names what it must break. A file is one edit:
   # ..                                what the wrong program does
   # breaks: MODULE::FUNCTION          the function that is refused, without the crate's name
   # breaks: lemma FILE NAME           or the lemma of proofs/FILE.antt that fails
+  # and: ..                           another one that fails for its own sake, in either form
   file: .. old: .. new: ..            the replacements, as `rt` reads them, each of one line
 
-An edit that replaces text in the body of a function names that function: so no other can fail for it but by calling that one, whose
-contract stays. The log has to say of each edit that it was refused, and neither by a limit of the prover alone nor only because a proof file
-names what the edit took away.
+An edit that replaces text in the body of a function names that function and no other: none else can fail for it but by calling that one,
+whose contract stays. The log has to say of each edit that it was refused, neither by a limit of the prover alone nor only because a proof
+file names what the edit took away, and its line shows the first fact that failed: that has to be one of what the edit names.
 
 Exit status 1 where an edit is not refused so, or is not as it has to be.
 """
@@ -25,25 +26,32 @@ import pathlib
 import re
 import sys
 
-Edit = collections.namedtuple("Edit", "name says breaks replacements")
+Edit = collections.namedtuple("Edit", "name says breaks others replacements")
 Replacement = collections.namedtuple("Replacement", "file old new")
 
 SAID = re.compile(r"^(?:\[.*?\] )?rt: must-fail (?P<crate>\w+)/(?P<file>\S+?): (?P<text>.*)$")
 REFUSED = "refused, as it must be"
 WEAK = re.compile(r"\(only (?:because a proof file names what the edit took away|by a limit of the prover)")
 OK = re.compile(r"^(?:\[.*?\] )?rt: ok; .*$", re.M)
+NAMED = re.compile(r"lemma \S+ \S+|\w+(::\w+)*")
+# Where a line of the log has its first fact: a lemma's file, the answers to a function's goals, or a line of code.
+LEMMA_PLACE = re.compile(r": (?:\./)?proofs/(?P<file>[^\s:]+)\.antt:\d+:\d+: error: `(?P<lemma>[^`]*)`: ")
+PROOF_PLACE = re.compile(r": (?:\./)?proofs/(?P<folder>[^\s:]+)/(?:Answers|Invariants)\.antt:\d+:\d+: error: ")
+CODE_PLACE = re.compile(r": (?:note: )?(?:\./)?(?P<file>src/[^\s:]+\.rt):(?P<line>\d+):\d+: ")
 FUNCTION = re.compile(r'^(?P<in> *)(?:pub(?:\(crate\))? )?(?:extern "C" )?fn (?P<name>\w+)(?:<[^>]*>)?\(', re.M)
 
 
 def read_edit(text):
     """The edit of a file, and what is wrong with its form."""
-    name, says, breaks, replacements, file, old, faults = [], [], [], [], None, None, []
+    name, says, breaks, others, replacements, file, old, faults = [], [], [], [], [], None, None, []
     for line in text.splitlines():
         key, _, rest = line.partition(" ")
         if line.startswith("# edit: "):
             name.append(line[len("# edit: ") :].strip())
         elif line.startswith("# breaks: "):
             breaks.append(line[len("# breaks: ") :].strip())
+        elif line.startswith("# and: "):
+            others.append(line[len("# and: ") :].strip())
         elif key == "#":
             says.append(rest.strip())
         elif key == "file:":
@@ -61,13 +69,15 @@ def read_edit(text):
         faults.append("no comment says what the wrong program does")
     if len(breaks) != 1:
         faults.append(f"{len(breaks)} lines '# breaks:' where one is meant")
-    elif not re.fullmatch(r"lemma \S+ \S+|\w+(::\w+)*", breaks[0]):
-        faults.append("'# breaks:' names neither a function nor 'lemma FILE NAME'")
+    for named in breaks + others:
+        if not NAMED.fullmatch(named):
+            faults.append(f"'{named}' is neither a function nor 'lemma FILE NAME'")
     if not replacements:
         faults.append("it replaces nothing")
     if any(file is None or old is None for file, old, _ in replacements):
         faults.append("a 'new:' without its 'file:' or 'old:'")
-    return Edit(" ".join(name), " ".join(says), " ".join(breaks), replacements), faults
+    breaks, others = ([named for named in words if NAMED.fullmatch(named)] for words in (breaks, others))
+    return Edit(" ".join(name), " ".join(says), " ".join(breaks[:1]), others, replacements), faults
 
 
 def bodies(text):
@@ -80,35 +90,43 @@ def bodies(text):
 
 
 def place_faults(edit, text_of):
-    """Where a replacement is not that of one place in the crate as it stands, or is in the body of another function than the one named."""
-    texts = {}
+    """Where a replacement is not that of one place in the crate as it stands, or is in the body of another function than the one named; and
+    the texts with all replacements made."""
+    texts, faults = {}, []
     for file, old, new in edit.replacements:
         text = texts.setdefault(file, text_of(file) or "")
         if old is None or text.count(old) != 1:
-            yield f"'{old}' stands {text.count(old or '-')} times in {file}"
+            faults.append(f"'{old}' stands {text.count(old or '-')} times in {file}")
             continue
         at = text.index(old)
         inside = [name for name, start, end in bodies(text) if start <= at and at + len(old) <= end]
         if inside and edit.breaks and edit.breaks.split("::")[-1] not in inside:
-            yield f"'{old}' is in the body of {inside[0]}, and not of {edit.breaks}"
+            faults.append(f"'{old}' is in the body of {inside[0]}, and not of {edit.breaks}")
+        if inside and edit.others:
+            faults.append(f"'{old}' is in the body of {inside[0]}, and another name stands beside it")
         texts[file] = text.replace(old, new)
+    return faults, texts
 
 
-def named_fault(edit, home):
-    """Why what the edit names is not there, or None."""
-    if edit.breaks.startswith("lemma "):
-        _, file, lemma = edit.breaks.split()
-        text = read(home / "proofs" / f"{file}.antt")
-        if text is None or not re.search(rf"^ *(?:(?:pub|abbrev|unfoldable) )*{re.escape(lemma)} (?:\S.*)?:", text, re.M):
-            return f"proofs/{file}.antt has no {lemma}"
-    elif edit.breaks:
-        *modules, name = edit.breaks.split("::")
-        modules = [it for it in modules if not it[0].isupper()]
-        files = [home / "src" / "/".join(modules)] if modules else [home / "src" / "lib", home / "src" / "main"]
-        texts = [read(file.with_name(file.name + ".rt")) or "" for file in files]
-        if not any(found["name"] == name for text in texts for found in FUNCTION.finditer(text)):
-            return f"there is no function {edit.breaks}"
-    return None
+def files_of(function):
+    """The sources in which a function can stand, by its modules, and its name."""
+    *modules, name = function.split("::")
+    modules = [module for module in modules if not module[0].isupper()]
+    return [f"src/{'/'.join(modules)}.rt"] if modules else ["src/lib.rt", "src/main.rt"], name
+
+
+def named_faults(edit, text_of):
+    """What the edit names and is not there."""
+    for named in [edit.breaks, *edit.others]:
+        if named.startswith("lemma "):
+            _, file, lemma = named.split()
+            text = text_of(f"proofs/{file}.antt")
+            if text is None or not re.search(rf"^ *(?:(?:pub|abbrev|unfoldable) )*{re.escape(lemma)} (?:\S.*)?:", text, re.M):
+                yield f"proofs/{file}.antt has no {lemma}"
+        elif named:
+            files, name = files_of(named)
+            if not any(found["name"] == name for file in files for found in FUNCTION.finditer(text_of(file) or "")):
+                yield f"there is no function {named}"
 
 
 def said_in(log):
@@ -116,15 +134,36 @@ def said_in(log):
     return {(found["crate"], found["file"]): found["text"] for found in map(SAID.match, log.splitlines()) if found}
 
 
-def log_fault(text):
-    """Why a line of the log does not say that the edit was refused for what it does, or None."""
-    if text is None:
-        return "the log says nothing of it"
-    if not text.startswith(REFUSED):
-        return text[:200]
-    if WEAK.search(text):
-        return f"it is refused for another reason than its contract: {text[:200]}"
-    return None
+def function_at(text, line):
+    """The function of a source that has this line, from its first to its last, or None."""
+    at = len("".join(text.splitlines(keepends=True)[:line]))
+    heads = [head for head in FUNCTION.finditer(text) if head.start() < at]
+    return heads[-1]["name"] if heads else None
+
+
+def is_place_of(named, said, text_of):
+    """Whether what the log says has its first fact in what is named: a lemma, or a function's code or answers."""
+    if named.startswith("lemma "):
+        found = LEMMA_PLACE.search(said)
+        return bool(found) and named == f"lemma {found['file']} {found['lemma']}"
+    found = PROOF_PLACE.search(said)
+    if found:
+        return found["folder"].replace("+", "").replace("/", "::") == named
+    found = CODE_PLACE.search(said)
+    files, name = files_of(named)
+    return bool(found) and found["file"] in files and function_at(text_of(found["file"]) or "", int(found["line"])) == name
+
+
+def log_faults(edit, said, text_of):
+    """Why a line of the log does not say that the edit was refused for what it does."""
+    if said is None:
+        yield "the log says nothing of it"
+    elif not said.startswith(REFUSED):
+        yield said[:200]
+    elif WEAK.search(said):
+        yield f"it is refused for another reason than its contract: {said[:200]}"
+    elif not any(is_place_of(named, said, text_of) for named in [edit.breaks, *edit.others]):
+        yield f"what fails first is none of what it names: {said[:200]}"
 
 
 def read(path):
@@ -138,11 +177,12 @@ def check(root, log, crates):
         home, crate = path.parent.parent, path.parent.parent.name
         if crates and crate not in crates:
             continue
+        text_of = lambda file, home=home: read(home / file) if file else None
         edit, wrong = read_edit(path.read_text())
-        wrong += place_faults(edit, lambda file, home=home: read(home / file) if file else None)
-        wrong += [fault for fault in [named_fault(edit, home)] if fault]
+        misplaced, texts = place_faults(edit, text_of)
+        wrong += [*misplaced, *named_faults(edit, text_of)]
         if log is not None:
-            wrong += [fault for fault in [log_fault(said.get((crate, path.name)))] if fault]
+            wrong += log_faults(edit, said.get((crate, path.name)), lambda file: texts.get(file) or text_of(file))
         names.append(f"{crate}/{edit.name}")
         faults += [f"must-fail {crate}/{path.stem}: {fault}" for fault in wrong]
     faults += [f"must-fail {name}: two edits have this name" for name, n in collections.Counter(names).items() if n > 1]

@@ -39,6 +39,16 @@ old: seven = 7
 new: seven = 8
 """
 
+CONSTANT = """# edit: nine
+# the parts by nine
+# breaks: parts::low
+# and: parts::high
+# and: lemma Parts of-seven
+file: src/parts.rt
+old: u64 = 8
+new: u64 = 9
+"""
+
 REFUSED = "rt: must-fail sums/low.edit: refused, as it must be: note: src/parts.rt:4:1: it is not proved that what the function ensures holds"
 OK = "rt: ok; handles allowed: none; must-fail edits: 1 refused; every proof and must-fail edit was done in this run\n1 passed, 0 failed\n"
 
@@ -79,7 +89,8 @@ class Form(Repository):
         self.one("2 lines '# edit:'", LOW + "# edit: again\n")
         self.one("no comment says", LOW.replace("# the low part of the number after it\n", ""))
         self.one("a line that is none of an edit's: edit: x", LOW + "edit: x\n")
-        self.assertIn("must-fail sums/low: '# breaks:' names neither a function nor 'lemma FILE NAME'", self.faults(LOW.replace("parts::low", "the low part")))
+        self.assertIn("must-fail sums/low: 'the low part' is neither a function nor 'lemma FILE NAME'", self.faults(LOW.replace("parts::low", "the low part")))
+        self.assertIn("must-fail sums/low: 'lemma Parts' is neither a function nor 'lemma FILE NAME'", self.faults(CONSTANT.replace("parts::high", "lemma Parts")))
         self.assertIn("must-fail sums/low: it replaces nothing", self.faults("# edit: none\n# nothing\n# breaks: parts::low\n"))
 
     def test_the_text_stands_once(self):
@@ -91,11 +102,12 @@ class Form(Repository):
 
     def test_the_body_is_that_of_the_function_named(self):
         self.one("is in the body of low, and not of parts::high", LOW.replace("parts::low", "parts::high"))
-        constant = LOW.replace("old:     x % LIMIT", "old: u64 = 8").replace("new:     (x + 1) % LIMIT", "new: u64 = 9")
-        self.assertEqual(self.faults(constant.replace("parts::low", "parts::high")), [])
+        self.one("another name stands beside it", LOW.replace("# breaks: parts::low\n", "# breaks: parts::low\n# and: parts::high\n"))
+        self.assertEqual(self.faults(CONSTANT), [])
 
     def test_what_it_names_is_there(self):
-        self.one("there is no function parts::lower", LOW.replace("parts::low", "parts::lower").replace("old:     x % LIMIT", "old: u64 = 8"))
+        self.one("there is no function parts::lower", CONSTANT.replace("parts::low", "parts::lower"))
+        self.one("there is no function parts::higher", CONSTANT.replace("parts::high", "parts::higher"))
         self.one("has no of-eight", LEMMA.replace("of-seven", "of-eight"))
 
     def test_two_of_a_name(self):
@@ -107,6 +119,36 @@ class Log(Repository):
     def test_refused(self):
         self.assertEqual(self.faults(LOW, f"{REFUSED}\n{OK}"), [])
         self.assertEqual(self.faults(LOW, f"[edits 1 of 1] {REFUSED}\n{OK}"), [])
+
+    def test_where_a_function_fails(self):
+        at = lambda place: f"rt: must-fail sums/low.edit: refused, as it must be: {place}\n{OK}"
+        for edit, place in (
+            (LOW, "note: src/parts.rt:7:5: it is not proved that what the function ensures holds"),
+            (LOW, "./proofs/parts/low/Answers.antt:8:13: error: `returns`: as printed, the two types differ"),
+            (LOW, "./proofs/parts/+low/Invariants.antt:8:13: error: `decreases`: as printed, the two types differ"),
+            (CONSTANT, "note: src/parts.rt:10:1: it is not proved that what the function ensures holds"),
+            (CONSTANT, "./proofs/Parts.antt:2:11: error: `of-seven`: as printed, the two types differ"),
+        ):
+            self.assertEqual(self.faults(edit, at(place)), [], place)
+        for place in (
+            "note: src/parts.rt:10:1: it is not proved that what the function ensures holds",
+            "note: src/parts.rt:2:1: it is not proved that what the function ensures holds",
+            "note: src/others.rt:7:5: it is not proved that what the function ensures holds",
+            "./proofs/parts/high/Answers.antt:8:13: error: `returns`: as printed, the two types differ",
+            "./proofs/others/low/Answers.antt:8:13: error: `returns`: as printed, the two types differ",
+            "./proofs/Parts.antt:2:11: error: `of-seven`: as printed, the two types differ",
+            "a line of no place",
+        ):
+            self.one("what fails first is none of what it names", LOW, at(place))
+
+    def test_where_a_lemma_fails(self):
+        at = lambda place: f"rt: must-fail sums/seven.edit: refused, as it must be: {place}\n{OK}"
+        self.assertEqual(self.faults(LEMMA, at("./proofs/Parts.antt:2:11: error: `of-seven`: as printed, the two types differ"), "seven"), [])
+        for place in ("./proofs/Parts.antt:2:11: error: `of-eight`: as printed, the two types differ", "./proofs/Others.antt:2:11: error: `of-seven`: as printed",
+                      "./proofs/of-seven/Answers.antt:2:11: error: `of-seven`: as printed", "note: src/parts.rt:7:5: it is not proved that"):
+            found = self.faults(LEMMA, at(place), "seven")
+            self.assertEqual(len(found), 1, found)
+            self.assertIn("what fails first is none of what it names", found[0])
 
     def test_nothing_is_said(self):
         self.one("the log says nothing of it", LOW, OK)

@@ -17,7 +17,7 @@ use Rattle.answers.specs.declared.call.Query.{Query}
 use Rattle.answers.specs.declared.call.Reset.{Reset as ResetCall}
 use Rattle.answers.specs.declared.ground.Ground.TheVariants.{Lengths, Unsound}
 use Rattle.answers.specs.Answers.{said_by, is_accepted}
-use Rattle.answers.specs.Counts.{largest, resets, counts}
+use Rattle.answers.specs.Counts.{largest, resets}
 use Rattle.big_endian.specs.Bytes.{Byte}
 use Rattle.layout.specs.Clauses.{are_lengths}
 use Rattle.calls.specs.Lent.{Lent, lent, Left, check_of, settled_by}

@@ -1,8 +1,8 @@
 -- Lookups: the price at the state named, or none, and since when, proved.
 -- Assumes nothing.
 use mathlib.Core.Path.{◌≡◌, refl, sym, ap, subst, ◌∙◌}
-use mathlib.Core.Bool.{Bool, true}
-use mathlib.Core.List.{List, [], ◌∷◌}
+use mathlib.Core.Bool.{true}
+use mathlib.Core.List.{List, []}
 use Prim.Native.Nat.{ℕ, zero, suc, ◌+◌, ◌-◌, ◌≤◌, ◌<◌}
 use native.Mathlib.Omega.{arith}
 use lib.ListN.{length, get_or}
@@ -16,7 +16,6 @@ use Rattle.answers.specs.declared.answer.Check.TheVariants.{Passed, Refused}
 use Rattle.answers.specs.declared.answer.Since.{Since}
 use Rattle.answers.specs.declared.call.LookUp.{LookUp as Lookup}
 use Rattle.answers.specs.Answers.{When, by_step, by_book, said_by_since, said_by, when_in, is_accepted, answered}
-use Rattle.layout.specs.declared.head.Head.{Head}
 use Rattle.layout.specs.States.{step_index, steps_between}
 use Rattle.views.proofs.Laid.{run_count}
 use Rattle.last_changes.specs.declared.Last.{Last}
@@ -25,10 +24,9 @@ use Rattle.last_changes.specs.Last.{last_in}
 use Rattle.last_changes.proofs.Theorems.{Told, last_Told}
 use Rattle.lookups.specs.LookUp.{look_up_check, quote_of, since_of, since_here}
 use Rattle.lookups.proofs.LookUpAccepted.{LookUpOk, look_up_ok}
-use Rattle.unit.specs.Carried.{Carried, lent_to}
-use Rattle.calls.specs.Meaning.{performed}
+use Rattle.unit.specs.Carried.{Carried}
 use Rattle.conditions.specs.Written.{map_at}
-use Rattle.conditions.specs.Lookups.{looking_up, step_to, LastNaming, SinceIs, PriceIs, Lookups}
+use Rattle.conditions.specs.Lookups.{looking_up, step_to, SinceIs, PriceIs, Lookups}
 use Rattle.conditions.specs.Serving.{Seen, CallOfServe}
 
 -- a step of a run

@@ -1,6 +1,6 @@
 -- What holds of both formats: bytes and the number and map in them determine each other.
 -- Assumes nothing.
-use mathlib.Core.Path.{◌≡◌, refl, sym, ap, ◌∙◌}
+use mathlib.Core.Path.{◌≡◌, refl, ap, ◌∙◌}
 use mathlib.Core.Bool.{true}
 use mathlib.Core.List.{List}
 use Prim.Native.Nat.{ℕ, ◌^◌, ◌≤◌, ◌<◌}
@@ -34,7 +34,8 @@ has_number Image b e = omega (arith, (Image-facts b e).long)
 has_number Sheet b e = omega (arith, (Sheet-facts b e).long)
 
 -- What is written is accepted, and reads back as the same number and map.
-pub written_reads_back : (f : Format) (n : ℕ) (m : List ℕ) → n < 2 ^ 32 → length m < 2 ^ 16 → Map m → (is_of_format f (bytes_for f n m) ≡ true)
+pub written_reads_back : (f : Format) (n : ℕ) (m : List ℕ) → n < 2 ^ 32 → length m < 2 ^ 16 → Map m
+    → (is_of_format f (bytes_for f n m) ≡ true)
     × (number_in (bytes_for f n m) ≡ n) × (map_in f (bytes_for f n m) ≡ m)
 written_reads_back Image n m s l h = images.written_reads_back n m s l h
 written_reads_back Sheet n m s l h =

@@ -3,7 +3,7 @@
 use mathlib.Core.Path.{◌≡◌, refl, sym, ap, ap₂, subst, ◌∙◌}
 use mathlib.Core.Bool.{Bool, true, false, not, ◌&&◌}
 use mathlib.Core.List.{List, [], ◌∷◌, ◌++◌, map}
-use Prim.Native.Nat.{ℕ, suc, ◌+◌, ◌-◌, ◌^◌, ◌≤◌}
+use Prim.Native.Nat.{ℕ, suc, ◌-◌, ◌^◌, ◌≤◌}
 use native.Mathlib.Omega.{arith}
 use borrow.Author.Tests.{le-leb}
 use lib.Dec.{ltb, leb}
@@ -253,7 +253,8 @@ module _ (p : Plain) (f : Fit p) where
           next = stored p f _ (issue_leaves T J s.head (store_Shaped p f) reader list e).is (view_opened e) i;
         })
 
-    pub issue_Fit : first_of (read_tests p (Issue reader) list) ≡ accept → Fit (with_place p slot (reading p.checkpoint (map offer_of list)))
+    pub issue_Fit : first_of (read_tests p (Issue reader) list) ≡ accept
+        → Fit (with_place p slot (reading p.checkpoint (map offer_of list)))
     issue_Fit e = issue_fits (accepted_done _ (issue_checks ∙ e))
 
     -- what the issue filled shows the map at the checkpoint, with no list to bring it there
@@ -379,7 +380,8 @@ module _ (p : Plain) (f : Fit p) where
           reads_by (get_or p.places reader.slot closed) refl (sym (open_same p f reader.slot) ∙ forward_met.taken)
 
     pub forward_agrees : (list bytes : List ℕ)
-        → let call = calling (read (Forward reader state)) list bytes in store_transition s call words ≡ transition_by p call (checked p call)
+        → let call =
+        calling (read (Forward reader state)) list bytes in store_transition s call words ≡ transition_by p call (checked p call)
     forward_agrees list bytes =
         settle p (calling (read (Forward reader state)) list bytes) words forward_checks
         (λ e i. record {

@@ -6,7 +6,6 @@ use Rattle.answers.specs.declared.call.Call.{Call as UnitCall}
 use Rattle.answers.specs.declared.call.Caller.{Caller}
 use Rattle.answers.specs.declared.call.Caller.TheVariants.{Desk}
 use Rattle.answers.specs.declared.call.Call.TheVariants.{Step, Read, Ask}
-use Rattle.answers.specs.declared.call.Format.{Format}
 use Rattle.answers.specs.declared.call.Format.TheVariants.{Image, Sheet}
 use Rattle.answers.specs.declared.call.Query.{Query}
 use Rattle.answers.specs.declared.call.Query.TheVariants.{LookUp, Write, WriteState}

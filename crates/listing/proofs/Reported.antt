@@ -1,6 +1,6 @@
 -- What is known of an image that was loaded into the listing's table.
 -- Assumes nothing.
-use mathlib.Core.Path.{◌≡◌, refl, sym, ap, ap₂, subst, ◌∙◌}
+use mathlib.Core.Path.{◌≡◌, refl, sym, ap, ap₂, ◌∙◌}
 use mathlib.Core.List.{List, ◌++◌}
 use Prim.Native.Nat.{ℕ, ◌-◌, ◌≤◌, ◌<◌}
 use native.Mathlib.Omega.{arith}
@@ -12,13 +12,11 @@ use Rattle.answers.specs.declared.answer.Answer.TheVariants.{Done, Refused as Aw
 use Rattle.answers.specs.declared.answer.Check.{Check}
 use Rattle.answers.specs.declared.answer.Check.TheVariants.{Passed, Refused}
 use Rattle.answers.specs.declared.ground.Ground.{Ground}
-use Rattle.answers.specs.declared.ground.Ground.TheVariants.{Lengths}
 use Rattle.answers.specs.Answers.{answered}
 use Rattle.answers.specs.declared.call.Format.TheVariants.{Image}
 use Rattle.answers.specs.First.{first}
 use Rattle.answers.specs.Numbers.{number_of}
 use Rattle.answers.proofs.Firsts.{new_is}
-use Rattle.answers.proofs.Telling.{Unlike, not_refused}
 use Rattle.image.specs.Image.{number_in, words_in}
 use Rattle.layout.specs.declared.head.Head.{Head}
 use Rattle.views.specs.View.{padded}
@@ -31,12 +29,12 @@ use Rattle.listing.specs.Report.{report_of, by_check, Rendered}
 
 -- an answer that names no ground
 abbrev pub NoGround : Answer → Type 0
-NoGround answer = Unlike (Away Lengths) answer
+NoGround answer = (g : Ground) → answer ≡ Away g → ⊥
 
 -- what the check of a call found, told from its answer
 passed_of : {answer : Answer} (check : Check) → answer ≡ answered check Done → NoGround answer → check ≡ Passed
 passed_of Passed e h = refl
-passed_of (Refused g) e h = absurd (not_refused g (subst NoGround e h))
+passed_of (Refused g) e h = absurd (h g e)
 
 refused_of : {g : Ground} (check : Check) → Away g ≡ answered check Done → check ≡ Refused g
 refused_of Passed e = absurd (let z : ◌≡◌ {A = ℕ} 0 1 = cc in omega arith)

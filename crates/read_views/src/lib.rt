@@ -2,4 +2,3 @@
 // store, and what issue, forward and release make of it. Definitions and theorems only; the code stands in `lookups`,
 // `issues`, `forwards` and `releases`.
 #![tactic(auto)]
-

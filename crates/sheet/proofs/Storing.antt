@@ -1,14 +1,14 @@
 -- A sheet as it is stored: the state number and the count of rows, then row behind row.
 -- Assumes nothing.
 use mathlib.Core.Path.{◌≡◌, refl, sym, ap, ap₂, subst, ◌∙◌}
-use mathlib.Core.List.{List, [], ◌∷◌, ◌++◌, append_assoc, append-nil}
+use mathlib.Core.List.{List, [], ◌∷◌, ◌++◌, append_assoc}
 use Prim.Native.Nat.{ℕ, ◌+◌, ◌-◌, ◌*◌, ◌≤◌, ◌<◌}
 use native.Mathlib.Omega.{arith}
 use lib.ListN.{length, take, drop, length-append, length-drop, length-map, drop_of_length-le}
 use lib.Seq.{length-take-le, take_at, drop_at, get_or-take, drop-drop}
 use Rattle.words.proofs.Parts.{part}
 use Rattle.words.proofs.Writing.{Writing, start, unwritten}
-use Rattle.words.proofs.Pieces.{start_at, wrote_piece, completed}
+use Rattle.words.proofs.Pieces.{start_at, wrote_piece}
 use Rattle.entry.specs.Word.{offer_of, price_of}
 use Rattle.changes.specs.Lists.{From}
 use Rattle.big_endian.specs.Bytes.{bytes_of}

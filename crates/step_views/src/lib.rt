@@ -2,4 +2,3 @@
 // and flush make of the view of a store. Definitions and theorems only; the code stands in `commits`, `rollbacks` and
 // `flushes`.
 #![tactic(auto)]
-

@@ -1,0 +1,10 @@
+-- `last_changes::last_change` meets its contract: the steps that were searched have no word at the offer.
+-- Assumes nothing.
+use Rattle.last_changes.proofs.Seeking.{Seeking}
+use Rattle.last_changes.proofs.last_change.Given as goal
+
+abbrev pub invariant-loop-k : goal.invariant-loop-k
+invariant-loop-k l = Seeking l.journal l.ends l.from l.to l.offer l.k
+
+abbrev pub decreases-loop-k : goal.decreases-loop-k
+decreases-loop-k l = l.k

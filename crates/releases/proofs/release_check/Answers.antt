@@ -1,0 +1,32 @@
+-- `release_check` meets its contract.
+-- Assumes nothing.
+use mathlib.Core.Path.{◌∙◌, sym}
+use Rattle.answers.proofs.Firsts.{stops, goes_on, first-met, first_not, none_met}
+use Rattle.slots.proofs.Passed.{slot_ok}
+use mathlib.Core.Path.{ap}
+use mathlib.Core.Bool.{not}
+use Rattle.releases.proofs.release_check.Goals as goal
+
+pub returns-in_default : goal.returns-in_default
+returns-in_default c = stops _ _ c.store_check-store.ensures.0 c.in_default.is
+
+pub returns-in_default-range : goal.returns-in_default-range
+returns-in_default-range c = stops _ _ c.slot_check-range.ensures.0 c.in_default-range.is
+    ∙ sym (goes_on _ _ c.store_check-store.ensures.0 c.in-Passed.is)
+
+pub bounds-taken-slot : goal.bounds-taken-slot
+bounds-taken-slot c = let args = c.args in
+    slot_ok args.reader c.slot_check-range.ensures.0 c.in-Passed-range.is
+
+pub returns-then-not-taken-slot : goal.returns-then-not-taken-slot
+returns-then-not-taken-slot c = sym
+    (goes_on _ _ c.store_check-store.ensures.0 c.in-Passed.is
+    ∙ goes_on _ _ c.slot_check-range.ensures.0 c.in-Passed-range.is
+    ∙ first-met _ _ _ (ap not c.if-not-taken-slot.true))
+
+pub returns : goal.returns
+returns c = sym
+    (goes_on _ _ c.store_check-store.ensures.0 c.in-Passed.is
+    ∙ goes_on _ _ c.slot_check-range.ensures.0 c.in-Passed-range.is
+    ∙ first_not _ _ _ (ap not c.if-not-taken-slot.false)
+    ∙ none_met)

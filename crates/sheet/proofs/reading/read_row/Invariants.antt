@@ -1,0 +1,11 @@
+-- `reading::read_row` meets its contract: the words of the seats before are in the table, as many as are counted, and the bits that are
+-- left are those of the seats behind.
+-- Assumes nothing.
+use Rattle.sheet.proofs.RowReading.{RowReading}
+use Rattle.sheet.proofs.reading.read_row.Given as goal
+
+abbrev pub invariant-loop-rest : goal.invariant-loop-rest
+invariant-loop-rest l = RowReading l.bytes l.number l.mask l.prices_at l.table l.initial.table l.from l.rest l.i
+
+abbrev pub decreases-loop-rest : goal.decreases-loop-rest
+decreases-loop-rest l = l.rest
