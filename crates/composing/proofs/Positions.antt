@@ -42,7 +42,8 @@ module _ (l : List ℕ) (i w : ℕ) where
   there s e n = go (dec_lt i (length l))
     where
       go : Dec (i < length l) → (i < length l) × Sided (offer_of (get_or l i 0)) (offer_of w) s
-      go (yes h) = (h, subst (Sided (offer_of (get_or l i 0)) (offer_of w)) (sym (side_here h) ∙ e) (sided (offer_of (get_or l i 0)) (offer_of w)))
+      go (yes h) =
+          (h, subst (Sided (offer_of (get_or l i 0)) (offer_of w)) (sym (side_here h) ∙ e) (sided (offer_of (get_or l i 0)) (offer_of w)))
       go (no h) = absurd (n (sym e ∙ side_past (omega arith)))
 
   pub below_there : side_of (drop i l) w ≡ Below → (i < length l) × (offer_of (get_or l i 0) < offer_of w)

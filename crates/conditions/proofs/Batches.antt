@@ -188,7 +188,8 @@ module _ (o w : ℕ) (put : Put w) where
   raise_high : order_kind o ≡ 2 → 2 ^ 32 ≤ price_of w + order_amount o → effect o (Word w) ≡ Fails PriceRange
   raise_high e h = effect_as o (Word w) (kind_raises (order_kind o) e) ∙ raise_over (order_offer o) (order_amount o) w put h
 
-  cut_low : order_kind o ≡ 3 → order_amount o ≤ price_of w → effect o (Word w) ≡ Change (put_of (order_offer o) (price_of w - order_amount o))
+  cut_low : order_kind o ≡ 3 → order_amount o ≤ price_of w → effect o (Word w)
+      ≡ Change (put_of (order_offer o) (price_of w - order_amount o))
   cut_low e h = effect_as o (Word w) (kind_cuts (order_kind o) e) ∙ cut_fits (order_offer o) (order_amount o) w put h
 
   cut_deep : order_kind o ≡ 3 → price_of w < order_amount o → effect o (Word w) ≡ Fails PriceRange

@@ -157,7 +157,8 @@ pub ranges : Ranges
 ranges = record {
   lengths_in_range = in_lengths;
   no_table = λ journal. is_false (are_lengths 0 journal) (λ e. omega (arith, (lengths_facts 0 journal e).table_some));
-  table_too_long = λ table journal h. is_false (are_lengths table journal) (λ e. omega (arith, h, (lengths_facts table journal e).table_most));
+  table_too_long = λ table journal h. is_false (are_lengths table journal)
+      (λ e. omega (arith, h, (lengths_facts table journal e).table_most));
   no_journal = λ table. is_false (are_lengths table 0) (λ e. omega (arith, (lengths_facts table 0 e).journal_some));
   journal_too_long = λ table journal h.
       is_false (are_lengths table journal) (λ e. omega (arith, h, (lengths_facts table journal e).journal_most));

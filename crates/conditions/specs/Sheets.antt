@@ -45,5 +45,6 @@ pub record Sheets : Type 0 where
       → (s.reply ≡ t.reply) × (handed s ≡ handed t)
   pub c_load_alike : (m : Memory) (depth : ℕ) (words : List ℕ) (n : ℕ) (map : List ℕ) (r q : Result) → n < 2 ^ 32
       → length map < 2 ^ 16 → Map map
-      → CallOfC m (loading words (load_of depth Sheet (sheet_of n map))) r → CallOfC m (loading words (load_of depth Image (image_of n map))) q
+      → CallOfC m (loading words (load_of depth Sheet (sheet_of n map))) r
+      → CallOfC m (loading words (load_of depth Image (image_of n map))) q
       → (r.code ≡ q.code) × (r.memory ≡ q.memory)

@@ -78,7 +78,8 @@ rise_flag r v w small hv hw e = go (dec_lt v w)
 pub follow_flag : (a r v w : ℕ) → r < 2 ^ 32 → top_of a ≡ bit_of (is_valid w) → (r + offer_of w) % 2 ^ 32 ≡ offer_of v
     → top_of (bit_and a r) ≡ bit_of (is_valid w && ltb (offer_of v) (offer_of w))
 follow_flag a r v w small m e =
-    and_flags a r (is_valid w) (ltb (offer_of v) (offer_of w)) m (λ t. rise_flag r (offer_of v) (offer_of w) small (omega arith) (omega arith) e)
+    and_flags a r (is_valid w) (ltb (offer_of v) (offer_of w)) m
+    (λ t. rise_flag r (offer_of v) (offer_of w) small (omega arith) (omega arith) e)
 
 -- among words of kind 1 the difference of kinds and offers is that of the offers
 same_kind : (r v w : ℕ) → r < 2 ^ 32 → v < 2 ^ 31 → w < 2 ^ 31 → (r + (2 ^ 31 + w)) % 2 ^ 32 ≡ 2 ^ 31 + v → (r + w) % 2 ^ 32 ≡ v

@@ -78,6 +78,7 @@ module _ {test : ℕ → Bool} {orders : List ℕ} {k : ℕ} {all : Bool} (j : J
         rest =
             and_assoc all passes (list_all test (drop (k + 1) orders))
             ∙ ap (λ (p : Bool). all && (p && list_all test (drop (k + 1) orders))) e
-            ∙ ap (λ (r : Bool). all && r) (sym (ap (list_all test) (next orders k b) ∙ all_one test (get_or orders k 0) (drop (k + 1) orders)))
+            ∙ ap (λ (r : Bool). all && r) (sym
+            (ap (list_all test) (next orders k b) ∙ all_one test (get_or orders k 0) (drop (k + 1) orders)))
             ∙ j.rest;
       }

@@ -117,11 +117,16 @@ module _ (table journal : List ℕ) (head : Head) (state : ℕ) where
       (gives (t.told ∙ sym away), if_refused t.found _ _, if_refused t.found _ _)
 
   pub flush_done : {size : ℕ} → flush_check table journal head state ≡ Passed → size ≡ length (map_here table journal head state)
-      → {next end : Head} {left : List ℕ} → next ≡ flushed_head head size state → end ≡ trimmed_head next → left ≡ trimmed_journal next journal
+      → {next end : Head} {left : List ℕ} → next ≡ flushed_head head size state → end ≡ trimmed_head next → left
+      ≡ trimmed_journal next journal
       → Flushes Done end left
   flush_done e es n t l =
-      let is = n ∙ ap (λ (u : ℕ). flushed_head head u state) es in
-      (Gives-passed e refl, if_passed_lem e _ _ (t ∙ ap trimmed_head is), if_passed_lem e _ _ (l ∙ ap (λ (x : Head). trimmed_journal x journal) is))
+      let is = n ∙ ap (λ (u : ℕ). flushed_head head u state) es in (
+        Gives-passed e refl,
+        if_passed_lem e _ _ (t ∙ ap trimmed_head is),
+        if_passed_lem e _ _
+            (l ∙ ap (λ (x : Head). trimmed_journal x journal) is),
+      )
 
 -- a flush
 pub record FlushOk (table journal : List ℕ) (head : Head) (state : ℕ) : Type 0 where
@@ -160,7 +165,8 @@ zeros_on l used n h z =
     ∙ zeros_from (n - used) (length (drop used l))
     ∙ ap (λ (k : ℕ). replicate k 0) rest
 
-zeros_join : (l : List ℕ) (used : ℕ) (m : List ℕ) (n : ℕ) → n ≡ length m → (used ≤ length l) × (n ≤ length l) → are_zeros (drop used l) ≡ true
+zeros_join : (l : List ℕ) (used : ℕ) (m : List ℕ) (n : ℕ) → n ≡ length m → (used ≤ length l) × (n ≤ length l)
+    → are_zeros (drop used l) ≡ true
     → m ++ replicate (used - n) 0 ++ drop (max used n) l ≡ padded (length l) m
 zeros_join l used m n e h z =
     let zeros : used - n + (length l - max used n) ≡ length l - length m = omega (arith, h.0, h.1) in

@@ -47,7 +47,8 @@ flush_table table journal head state =
 -- "After flush, forward or drop the floor is worked out anew, steps below it go, the rest move to the start"
 abbrev pub flush_head : List ℕ → List ℕ → Head → ℕ → Head
 flush_head table journal head state =
-    if_passed (flush_check table journal head state) (trimmed_head (flushed_head head (length (map_here table journal head state)) state)) head
+    if_passed (flush_check table journal head state)
+    (trimmed_head (flushed_head head (length (map_here table journal head state)) state)) head
 
 abbrev pub flush_journal : List ℕ → List ℕ → Head → ℕ → List ℕ
 flush_journal table journal head state =

@@ -99,7 +99,8 @@ module _ (w : List ℕ) (long : length w ≡ head_size) (e : is_head w ≡ true)
 
   tip_back : number_in (get_or w 3 0) ≡ get_or w 3 0
   tip_back =
-      number_back (get_or w 3 0) (below_first limit (get_or w 3 0) _ (below_rest limit (get_or w 2 0) _ (below_rest limit (get_or w 1 0) _ states)))
+      number_back (get_or w 3 0) (below_first limit (get_or w 3 0) _
+      (below_rest limit (get_or w 2 0) _ (below_rest limit (get_or w 1 0) _ states)))
 
   numbers : (get_or w 0 0 ∷ number_in (get_or w 1 0) ∷ number_in (get_or w 2 0) ∷ number_in (get_or w 3 0) ∷ []) ++ drop 4 w ≡ w
   numbers =

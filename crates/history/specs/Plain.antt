@@ -297,7 +297,8 @@ changed p call = changed_by p call.named call.list
 
 -- "A refused call changes nothing."
 abbrev pub plain_transition : Plain → Call → Transition Plain
-plain_transition p call = record { response = response_by (checked p call) (given p call); next = left_by (checked p call) (changed p call) p }
+plain_transition p call =
+    record { response = response_by (checked p call) (given p call); next = left_by (checked p call) (changed p call) p }
 
 -- the load that begins a run: a depth, and an image's bytes or a sheet's
 pub record Load : Type 0 where

@@ -31,4 +31,5 @@ issue_head table journal head reader list = if_passed (issue_check table journal
 
 -- the list shows, for each of its offers, its price in the table, or none
 abbrev pub issue_list : List ℕ → List ℕ → Head → Reader → List ℕ → List ℕ
-issue_list table journal head reader list = if_passed (issue_check table journal head reader list) (read_of (take head.used table) list) list
+issue_list table journal head reader list =
+    if_passed (issue_check table journal head reader list) (read_of (take head.used table) list) list

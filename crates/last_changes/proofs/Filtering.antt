@@ -48,7 +48,8 @@ noted_stays f (w ∷ l) q e =
     ∙ noted_stays (set f (cell_of w) true) l q (set_stays f (cell_of w) q e)
 
 -- the cell of each word noted is set
-noted_at : (f : List Bool) (l : List ℕ) → length f ≡ 16384 → (i : ℕ) → i < length l → get_or (noted f l) (cell_of (get_or l i 0)) false ≡ true
+noted_at : (f : List Bool) (l : List ℕ) → length f ≡ 16384 → (i : ℕ) → i < length l
+    → get_or (noted f l) (cell_of (get_or l i 0)) false ≡ true
 noted_at f [] e i b = absurd (omega arith)
 noted_at f (w ∷ l) e zero b =
     ap (λ (g : List Bool). get_or g (cell_of w) false) (noted_more f w l)
@@ -120,7 +121,8 @@ module _ {journal ends : List ℕ} {from to : ℕ} (r : Rising journal ends from
 
 -- what none of the steps has, their composition has not
 none_in_run : (words ends : List ℕ) (offer n i : ℕ) → ((k : ℕ) → i ≤ k → k < i + n → From 0 (step_of words ends k))
-    → ((k : ℕ) → i ≤ k → k < i + n → find offer (step_of words ends k) ≡ Nothing) → find offer (compose_all (run_of words ends i n)) ≡ Nothing
+    → ((k : ℕ) → i ≤ k → k < i + n → find offer (step_of words ends k) ≡ Nothing)
+    → find offer (compose_all (run_of words ends i n)) ≡ Nothing
 unfolding run_of
 none_in_run words ends offer zero i h g = ap (find offer) compose_all-nil ∙ find_empty offer
 none_in_run words ends offer (suc n) i h g =

@@ -28,7 +28,8 @@ is_step journal ends k =
 
 -- "the lists of the held steps, oldest first, then zeros", "marks not in use are 0": so many lists with their marks
 abbrev pub is_journal : List ℕ → List ℕ → ℕ → Bool
-is_journal words ends n = all_of (all_below n (is_step words ends) ∷ are_zeros (drop (start_of ends n) words) ∷ are_zeros (drop n ends) ∷ [])
+is_journal words ends n =
+    all_of (all_below n (is_step words ends) ∷ are_zeros (drop (start_of ends n) words) ∷ are_zeros (drop n ends) ∷ [])
 
 -- "An open place records the anchor at its issue; a closed one records 0", "no open place's number above the anchor"
 abbrev pub is_slot : ℕ → List Bool → List ℕ → ℕ → Bool

@@ -19,7 +19,8 @@ module _ (passes : ℕ → Bool) (l : List ℕ) where
   unfolding are_pairs
   pairs_none a = refl
 
-  pub pairs_next : (a n : ℕ) → are_pairs passes l a (suc n) ≡ is_pair passes (get_or l a 0) (get_or l (a + 1) 0) && are_pairs passes l (a + 1) n
+  pub pairs_next : (a n : ℕ) → are_pairs passes l a (suc n) ≡ is_pair passes (get_or l a 0) (get_or l (a + 1) 0)
+      && are_pairs passes l (a + 1) n
   unfolding are_pairs
   pairs_next a n = refl
 
@@ -42,7 +43,8 @@ module _ (passes : ℕ → Bool) (l : List ℕ) where
   pub pairs_front : (a n k : ℕ) → k ≤ n → are_pairs passes l a n ≡ true → are_pairs passes l a k ≡ true
   pairs_front a n k h e =
       let sum : k + (n - k) ≡ n = omega arith in
-      (and_both (are_pairs passes l a k) (are_pairs passes l (a + k) (n - k)) (pairs_join a k (n - k) ∙ ap (are_pairs passes l a) sum ∙ e)).0
+      (and_both (are_pairs passes l a k) (are_pairs passes l (a + k) (n - k))
+      (pairs_join a k (n - k) ∙ ap (are_pairs passes l a) sum ∙ e)).0
 
   pub pairs_fail : (n a k : ℕ) → a + k ≤ n → are_pairs passes l a k ≡ false → are_pairs passes l 0 n ≡ false
   pairs_fail n a k h e =
@@ -70,7 +72,8 @@ module _ {passes : ℕ → Bool} {P : ℕ → Type 0} (t : Test passes P) (l : L
       subst (λ (k : ℕ). P (get_or l k 0)) position p
   pairs_last a (suc n) p e =
       let position : a + 1 + n ≡ a + suc n = omega arith in
-      let both = and_both (is_pair passes (get_or l a 0) (get_or l (a + 1) 0)) (are_pairs passes l (a + 1) n) (sym (pairs_next passes l a n) ∙ e) in
+      let both = and_both (is_pair passes (get_or l a 0) (get_or l (a + 1) 0)) (are_pairs passes l (a + 1) n)
+      (sym (pairs_next passes l a n) ∙ e) in
       let word = and_both (passes (get_or l (a + 1) 0)) (ltb (offer_of (get_or l a 0)) (offer_of (get_or l (a + 1) 0))) both.0 in
       subst (λ (k : ℕ). P (get_or l k 0)) position (pairs_last (a + 1) n (t.holds (get_or l (a + 1) 0) word.0) both.1)
 

@@ -31,7 +31,8 @@ module _ {passes : ℕ → Bool} {P : ℕ → Type 0} (t : Test passes P) (l : L
 
   pub joined :
       (good i m : ℕ) → Joined passes l good i → i < length l → P (get_or l 0 0)
-      → (P (get_or l (i - 1) 0) → top_of m ≡ bit_of (is_pair passes (get_or l (i - 1) 0) (get_or l i 0))) → Joined passes l (bit_and good m) (i + 1)
+      → (P (get_or l (i - 1) 0) → top_of m ≡ bit_of (is_pair passes (get_or l (i - 1) 0) (get_or l i 0)))
+      → Joined passes l (bit_and good m) (i + 1)
   joined good i m j h p e =
       let first : 0 + (i - 1) ≡ i - 1 = omega arith in
       let next : i ≡ i - 1 + 1 = omega (arith, j.some) in

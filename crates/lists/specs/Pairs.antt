@@ -10,4 +10,5 @@ is_pair passes before word = passes word && ltb (offer_of before) (offer_of word
 -- and so do n words in turn, the first of them the one behind a position
 unfoldable pub are_pairs : (ℕ → Bool) → List ℕ → ℕ → ℕ → Bool
 are_pairs passes words from zero = true
-are_pairs passes words from (suc n) = is_pair passes (get_or words from 0) (get_or words (from + 1) 0) && are_pairs passes words (from + 1) n
+are_pairs passes words from (suc n) =
+    is_pair passes (get_or words from 0) (get_or words (from + 1) 0) && are_pairs passes words (from + 1) n

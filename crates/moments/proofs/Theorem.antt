@@ -41,49 +41,62 @@ use Rattle.moments.specs.Table.{twelve}
 pub moments_follow : map computed twelve ≡ map expected twelve
 unfolding find compose puts apply compose_all is_rising is_map read_of over run_of first sixteenths put_at with_price effect
     kind_named is_allowed checked batch execute priced is_read all_orders_b bytes_of value_of word_bytes image_of words_of number_in
-    count_in words_in is_image is_sound all_below all_of are_zeros least trimmed_head trimmed_journal fresh_head with_step flushed_head cut_to
+    count_in words_in is_image is_sound all_below all_of are_zeros least trimmed_head trimmed_journal fresh_head
+    with_step flushed_head cut_to
     has_no_put opened closed_at store_responses state_bytes state_size last_in twelve
 moments_follow = refl
 
 -- and what document 02 says of desk and foyer
 pub callers_follow : map computed desk_and_foyer ≡ map expected desk_and_foyer
 unfolding find compose puts apply compose_all is_rising is_map read_of over run_of first bytes_of value_of word_bytes image_of words_of
-    number_in count_in words_in is_image is_sound all_below all_of are_zeros least trimmed_head trimmed_journal fresh_head has_no_put opened closed_at
+    number_in count_in words_in is_image is_sound all_below all_of are_zeros least trimmed_head trimmed_journal
+    fresh_head has_no_put opened closed_at
     store_responses last_in asking putting desk_and_foyer
 callers_follow = refl
 
 -- and of images and restarts
 pub images_follow : map computed images_of_states ≡ map expected images_of_states
-unfolding find compose puts apply compose_all is_rising is_map has_no_put read_of over run_of first bytes_of value_of word_bytes image_of words_of
-    number_in count_in words_in is_image is_sound all_below all_of are_zeros least trimmed_head trimmed_journal fresh_head with_step flushed_head opened
+unfolding find compose puts apply compose_all is_rising is_map has_no_put read_of over run_of first bytes_of value_of
+    word_bytes image_of words_of
+    number_in count_in words_in is_image is_sound all_below all_of are_zeros least trimmed_head trimmed_journal
+    fresh_head with_step flushed_head opened
     closed_at state_bytes state_size store_responses last_in images_of_states
 images_follow = refl
 
 -- and of sixteenths, with what document 01 says of the other orders
 pub batches_follow : map computed batches ≡ map expected batches
-unfolding find compose puts is_rising read_of over first sixteenths put_at with_price effect kind_named is_allowed checked batch execute priced
+unfolding find compose puts is_rising read_of over first sixteenths put_at with_price effect kind_named is_allowed
+    checked batch execute priced
     is_read all_orders_b batches
 batches_follow = refl
 
 -- and of lookups with since when
 pub since_follows : map computed since_when ≡ map expected since_when
-unfolding find compose puts apply compose_all is_rising is_map has_no_put read_of over run_of first bytes_of value_of word_bytes image_of words_of
-    number_in count_in words_in is_image is_sound all_below all_of are_zeros least trimmed_head trimmed_journal fresh_head with_step flushed_head cut_to opened
+unfolding find compose puts apply compose_all is_rising is_map has_no_put read_of over run_of first bytes_of value_of
+    word_bytes image_of words_of
+    number_in count_in words_in is_image is_sound all_below all_of are_zeros least trimmed_head trimmed_journal
+    fresh_head with_step flushed_head cut_to opened
     closed_at state_bytes state_size store_responses last_in since_when
 since_follows = refl
 
 -- and of row sheets
 pub sheets_follow : map computed sheets_of_states ≡ map expected sheets_of_states
-unfolding find compose puts apply compose_all is_rising is_map has_no_put read_of over run_of first bytes_of value_of word_bytes image_of words_of
-    number_in count_in words_in is_image ones_in set_bits rows_of seat_words words_of_rows number_bytes row_bytes rows_bytes sheet_of sheet_size row_count_in
-    numbers_in rows_in is_row are_rows are_bytes is_sheet sheet_words is_sound all_below all_of are_zeros least trimmed_head trimmed_journal fresh_head with_step
+unfolding find compose puts apply compose_all is_rising is_map has_no_put read_of over run_of first bytes_of value_of
+    word_bytes image_of words_of
+    number_in count_in words_in is_image ones_in set_bits rows_of seat_words words_of_rows number_bytes row_bytes
+    rows_bytes sheet_of sheet_size row_count_in
+    numbers_in rows_in is_row are_rows are_bytes is_sheet sheet_words is_sound all_below all_of are_zeros least
+    trimmed_head trimmed_journal fresh_head with_step
     flushed_head opened closed_at state_bytes state_size store_responses last_in sheets_of_states
 sheets_follow = refl
 
 -- and of the depth that must stay
 pub depths_follow : map computed depths ≡ map expected depths
-unfolding find compose puts apply compose_all is_rising is_map has_no_put read_of over run_of first bytes_of value_of word_bytes image_of words_of
-    number_in count_in words_in is_image ones_in set_bits rows_of seat_words words_of_rows number_bytes row_bytes rows_bytes sheet_of sheet_size row_count_in
-    numbers_in rows_in is_row are_rows are_bytes is_sheet sheet_words is_sound all_below all_of are_zeros least trimmed_head trimmed_journal fresh_head with_step
+unfolding find compose puts apply compose_all is_rising is_map has_no_put read_of over run_of first bytes_of value_of
+    word_bytes image_of words_of
+    number_in count_in words_in is_image ones_in set_bits rows_of seat_words words_of_rows number_bytes row_bytes
+    rows_bytes sheet_of sheet_size row_count_in
+    numbers_in rows_in is_row are_rows are_bytes is_sheet sheet_words is_sound all_below all_of are_zeros least
+    trimmed_head trimmed_journal fresh_head with_step
     flushed_head cut_to opened closed_at state_bytes state_size store_responses last_in depths
 depths_follow = refl

@@ -42,7 +42,8 @@ batches =
     -- each kind, of 1000, in one batch: 62.5 for each sixteenth
     ∷ priced
     (put_of 16 1000 ∷ put_of 17 1000 ∷ put_of 18 1000 ∷ put_of 19 1000 ∷ put_of 20 1000 ∷ put_of 21 1000 ∷ put_of 22 1000 ∷ put_of 23 1000
-    ∷ put_of 24 1000 ∷ put_of 25 1000 ∷ put_of 26 1000 ∷ put_of 27 1000 ∷ put_of 28 1000 ∷ put_of 29 1000 ∷ put_of 30 1000 ∷ put_of 31 1000 ∷ [])
+    ∷ put_of 24 1000 ∷ put_of 25 1000 ∷ put_of 26 1000 ∷ put_of 27 1000 ∷ put_of 28 1000 ∷ put_of 29 1000
+    ∷ put_of 30 1000 ∷ put_of 31 1000 ∷ [])
     (order_of 16 0 16 ∷ order_of 17 0 17 ∷ order_of 18 0 18 ∷ order_of 19 0 19 ∷ order_of 20 0 20 ∷ order_of 21 0 21 ∷ order_of 22 0 22
     ∷ order_of 23 0 23 ∷ order_of 24 0 24 ∷ order_of 25 0 25 ∷ order_of 26 0 26 ∷ order_of 27 0 27 ∷ order_of 28 0 28 ∷ order_of 29 0 29
     ∷ order_of 30 0 30 ∷ order_of 31 0 31 ∷ [])

@@ -48,7 +48,8 @@ least_closing c (closed ∷ ss) (suc k) = least_closing c ss k
 least_closing c (holding n ∷ ss) (suc k) = omega (arith, least_closing c ss k)
 
 -- an open slot holds its number
-pub slot_there : (ss : List Slot) (k : ℕ) → get_or (map open_of ss) k false ≡ true → get_or ss k closed ≡ holding (get_or (map issued_of ss) k 0)
+pub slot_there : (ss : List Slot) (k : ℕ) → get_or (map open_of ss) k false ≡ true → get_or ss k closed
+    ≡ holding (get_or (map issued_of ss) k 0)
 slot_there [] k e = absurd (let z : ◌≡◌ {A = ℕ} 0 1 = cc in omega arith)
 slot_there (closed ∷ ss) zero e = absurd (let z : ◌≡◌ {A = ℕ} 0 1 = cc in omega arith)
 slot_there (holding n ∷ ss) zero e = refl

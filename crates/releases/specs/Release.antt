@@ -19,7 +19,8 @@ abbrev pub release_check : List ℕ → List ℕ → Head → Reader → Check
 release_check table journal head reader = first (release_grounds table journal head reader)
 
 abbrev pub release_head : List ℕ → List ℕ → Head → Reader → Head
-release_head table journal head reader = if_passed (release_check table journal head reader) (trimmed_head (closed_at head reader.slot)) head
+release_head table journal head reader =
+    if_passed (release_check table journal head reader) (trimmed_head (closed_at head reader.slot)) head
 
 abbrev pub release_journal : List ℕ → List ℕ → Head → Reader → List ℕ
 release_journal table journal head reader =

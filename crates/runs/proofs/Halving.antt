@@ -41,7 +41,8 @@ compose_single {words} {ends} {i} {j} r h out spare last n en el =
     let marked : Marked words ends (i + 1) = subst (Marked words ends) h r.marked in
     let one : j - i ≡ 1 = omega arith in
     let list : compose_all (run_of words ends i (j - i)) ≡ step_of words ends i =
-    ap (λ (n : ℕ). compose_all (run_of words ends i n)) one ∙ ap compose_all (run_one words ends i) ∙ compose_all_one (step_of words ends i) in
+    ap (λ (n : ℕ). compose_all (run_of words ends i n)) one ∙ ap compose_all (run_one words ends i)
+    ∙ compose_all_one (step_of words ends i) in
     let long : length (step_of words ends i) ≡ n = step_length words ends (i + 1) marked i (omega arith) ∙ sym en in
     let total : run_words ends i j ≡ n = ap (run_words ends i) h ∙ sym en in
     record {

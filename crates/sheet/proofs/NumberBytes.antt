@@ -89,7 +89,8 @@ numbers_back (n ∷ l) rest h =
     ∙ numbers_more (length l) (bytes_of 4 n ++ (number_bytes l ++ rest))
     ∙ ap₂ ◌∷◌
     (ap value_of (take_at (bytes_of 4 n) (number_bytes l ++ rest) 4 (length_bytes 4 n)) ∙ value_of_bytes 4 n (h 0))
-    (ap (numbers_in (length l)) (drop_at (bytes_of 4 n) (number_bytes l ++ rest) 4 (length_bytes 4 n)) ∙ numbers_back l rest (λ i. h (suc i)))
+    (ap (numbers_in (length l)) (drop_at (bytes_of 4 n) (number_bytes l ++ rest) 4 (length_bytes 4 n))
+    ∙ numbers_back l rest (λ i. h (suc i)))
 
 -- bytes, to numbers and back
 pub number_bytes_back : (n : ℕ) (b : List ℕ) → 4 * n ≤ length b → All Byte b → number_bytes (numbers_in n b) ≡ take (4 * n) b

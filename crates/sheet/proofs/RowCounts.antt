@@ -22,7 +22,8 @@ begun last (r ∷ rs) = cond (eqb last r.number) (length rs) (suc (length rs))
 
 -- one word more in front
 begun-joined : (last w : ℕ) (rs : List Row)
-    → begun last (joined w rs) ≡ cond (eqb last (row_of (offer_of w))) (begun (row_of (offer_of w)) rs) (suc (begun (row_of (offer_of w)) rs))
+    → begun last (joined w rs) ≡ cond (eqb last (row_of (offer_of w))) (begun (row_of (offer_of w)) rs)
+    (suc (begun (row_of (offer_of w)) rs))
 unfolding begun
 begun-joined last w [] = refl
 begun-joined last w (r ∷ rs) =

@@ -84,7 +84,8 @@ module _ (n : ℕ) where
       ∙ ap suc (ones_before_word (offer_of w % 32 + 1) l k (omega arith) behind a.1 (omega arith))
 
   -- the price of a row's k-th word has place k
-  pub place_of_word : (l : List ℕ) (k : ℕ) → From 0 l → All (InRow n) l → k < length l → place_in (bits_of l) (offer_of (get_or l k 0) % 32) ≡ k
+  pub place_of_word : (l : List ℕ) (k : ℕ) → From 0 l → All (InRow n) l → k < length l
+      → place_in (bits_of l) (offer_of (get_or l k 0) % 32) ≡ k
   place_of_word l k f a h =
       place_ones (bits_of l) (offer_of (get_or l k 0) % 32) (bits_fit l f a)
       ∙ ones_before_word 0 l k (omega arith) (row_start l f a) a h

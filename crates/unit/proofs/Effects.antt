@@ -46,7 +46,8 @@ pub record Moves (count : Tally) (from to : Head) : Type 0 where
 pub data Effect (accepted resets_lem : Bool) (count : Tally) (from to : Head) : Type 0 where
   turned : accepted ≡ false → to ≡ from → Effect accepted resets_lem count from to
   began : accepted ≡ true → resets_lem ≡ true → to.tip ≡ to.checkpoint → Effect accepted resets_lem count from to
-  moved : accepted ≡ true → resets_lem ≡ false → (from.checkpoint ≤ from.tip → Moves count from to) → Effect accepted resets_lem count from to
+  moved : accepted ≡ true → resets_lem ≡ false → (from.checkpoint ≤ from.tip → Moves count from to)
+      → Effect accepted resets_lem count from to
 
 -- by its check, a call that makes the store anew, and one that moves the head
 module _ (l : Lent) (count : Tally) where

@@ -124,7 +124,8 @@ unfolding run_of
 cut_again words ends i [] x y l = refl
 cut_again words ends i (s ∷ ss) x y l = ap₂ ◌∷◌ (step_is l) (cut_again words ends (i + 1) ss x y (Laid-rest l))
 
-pub steps_pass : (words ends : List ℕ) (i : ℕ) (ss : List (List ℕ)) (x y : List ℕ) → Laid words ends i ss x y → All (λ d. is_list d ≡ true) ss
+pub steps_pass : (words ends : List ℕ) (i : ℕ) (ss : List (List ℕ)) (x y : List ℕ) → Laid words ends i ss x y
+    → All (λ d. is_list d ≡ true) ss
     → (k : ℕ) → k < length ss → is_step words ends (i + k) ≡ true
 unfolding All
 steps_pass words ends i [] x y l t k h = absurd (omega arith)
