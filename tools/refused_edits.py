@@ -136,9 +136,9 @@ def said_in(log):
 
 def function_at(text, line):
     """The function of a source that has this line, from its first to its last, or None."""
-    at = len("".join(text.splitlines(keepends=True)[:line]))
-    heads = [head for head in FUNCTION.finditer(text) if head.start() < at]
-    return heads[-1]["name"] if heads else None
+    starts = {found["name"]: text.count("\n", 0, found.start()) + 1 for found in FUNCTION.finditer(text)}
+    ends = {name: text.count("\n", 0, end) + 1 for name, _, end in bodies(text)}
+    return next((name for name, start in starts.items() if start <= line <= ends.get(name, 0)), None)
 
 
 def is_place_of(named, said, text_of):

@@ -133,6 +133,7 @@ class Log(Repository):
         for place in (
             "note: src/parts.rt:10:1: it is not proved that what the function ensures holds",
             "note: src/parts.rt:2:1: it is not proved that what the function ensures holds",
+            "note: src/parts.rt:9:1: it is not proved that what the function ensures holds",
             "note: src/others.rt:7:5: it is not proved that what the function ensures holds",
             "./proofs/parts/high/Answers.antt:8:13: error: `returns`: as printed, the two types differ",
             "./proofs/others/low/Answers.antt:8:13: error: `returns`: as printed, the two types differ",

@@ -1,6 +1,6 @@
 // Each C function keeps the promise that the runs of the conditions are made of (conditions/specs/CCalls.antt), for the call that is
-// written out here. The functions here only call them: so the theorems are about those very functions, and a contract that says less, or
-// speaks of another call, is noticed.
+// written out here. The functions here only call them, as the crate `cechnuol` has them: so the theorems are about those very functions,
+// and a contract that says less, or speaks of another call, is noticed. The exports of `cechnuol_c` call them too and have their clauses.
 #![tactic(auto)]
 
 ghost use Rattle.std.specs.Prelude.{cond, eqb};

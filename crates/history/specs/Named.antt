@@ -127,7 +127,7 @@ accepted_as (ask (LookUp asked)) value since words bytes = price value since
 accepted_as (ask (Write format)) value since words bytes = written value bytes
 accepted_as (ask (WriteState format state)) value since words bytes = written value bytes
 
--- a lookup says since when (`priced`, `without`), and no other call does
+-- a lookup says since when (`priced_by`, `without`), and no other call does
 abbrev pub response_to : Named → Said → List ℕ → List ℕ → Response
 response_to named (accepted value) words bytes = accepted_as named value by_book words bytes
 response_to named (refused_by n) words bytes = refused n
