@@ -38,7 +38,7 @@ NAMED = re.compile(r"lemma \S+ \S+|\w+(::\w+)*")
 LEMMA_PLACE = re.compile(r": (?:\./)?proofs/(?P<file>[^\s:]+)\.antt:\d+:\d+: error: `(?P<lemma>[^`]*)`: ")
 PROOF_PLACE = re.compile(r": (?:\./)?proofs/(?P<folder>[^\s:]+)/(?:Answers|Invariants)\.antt:\d+:\d+: error: ")
 CODE_PLACE = re.compile(r": (?:note: )?(?:\./)?(?P<file>src/[^\s:]+\.rt):(?P<line>\d+):\d+: ")
-FUNCTION = re.compile(r'^(?P<in> *)(?:pub(?:\(crate\))? )?(?:extern "C" )?fn (?P<name>\w+)(?:<[^>]*>)?\(', re.M)
+FUNCTION = re.compile(r'^(?P<in> *)(?:pub(?:\(crate\))? )?(?:extern "C" )?fn (?P<name>\w+)(?:<(?:[^<>]|<[^<>]*>)*>)?\(', re.M)
 
 
 def read_edit(text):
@@ -81,12 +81,13 @@ def read_edit(text):
 
 
 def bodies(text):
-    """The functions of a source as `rt fmt` lays it out: name, and where the body starts and ends."""
-    for head in FUNCTION.finditer(text):
-        start = re.compile(rf"^{head['in']}\{{$|^{head['in']}\S.* \{{$", re.M).search(text, head.start())
+    """The functions of a source as `rt fmt` lays it out: name, where the head starts, and where the body starts and ends."""
+    heads = list(FUNCTION.finditer(text))
+    for head, behind in zip(heads, [*(found.start() for found in heads[1:]), len(text)]):
+        start = re.compile(rf"^{head['in']}\{{$|^{head['in']}\S.* \{{$", re.M).search(text, head.start(), behind)
         end = start and re.compile(rf"^{head['in']}\}}$", re.M).search(text, start.end())
         if end:
-            yield head["name"], start.end(), end.start()
+            yield head["name"], head.start(), start.end(), end.start()
 
 
 def place_faults(edit, text_of):
@@ -99,7 +100,7 @@ def place_faults(edit, text_of):
             faults.append(f"'{old}' stands {text.count(old or '-')} times in {file}")
             continue
         at = text.index(old)
-        inside = [name for name, start, end in bodies(text) if start <= at and at + len(old) <= end]
+        inside = [name for name, _, start, end in bodies(text) if start <= at and at + len(old) <= end]
         if inside and edit.breaks and edit.breaks.split("::")[-1] not in inside:
             faults.append(f"'{old}' is in the body of {inside[0]}, and not of {edit.breaks}")
         if inside and edit.others:
@@ -134,11 +135,18 @@ def said_in(log):
     return {(found["crate"], found["file"]): found["text"] for found in map(SAID.match, log.splitlines()) if found}
 
 
+def first_line(text, start):
+    """The line with which a function begins: its first attribute's, which rt names for a fact at the return, or that of its head."""
+    lines = text[:start].split("\n")[:-1]
+    while lines and lines[-1].lstrip().startswith("#["):
+        lines.pop()
+    return len(lines) + 1
+
+
 def function_at(text, line):
     """The function of a source that has this line, from its first to its last, or None."""
-    starts = {found["name"]: text.count("\n", 0, found.start()) + 1 for found in FUNCTION.finditer(text)}
-    ends = {name: text.count("\n", 0, end) + 1 for name, _, end in bodies(text)}
-    return next((name for name, start in starts.items() if start <= line <= ends.get(name, 0)), None)
+    line_of = lambda at: text.count("\n", 0, at) + 1
+    return next((name for name, head, _, end in bodies(text) if first_line(text, head) <= line <= line_of(end)), None)
 
 
 def is_place_of(named, said, text_of):

@@ -198,7 +198,7 @@ def of_answers(numbers, codes):
 def hold_table_word(of):
     """The word that says that the table answered, which is one number in header, code and definition, and no number of 32 bits."""
     defined = number_in(of["codes"], "\nby_table = ", "\n")
-    sure(number_in(of["codes_code"], "pub const BY_TABLE: u64 = ", ";") == defined, "code and definition have one word for the table")
+    sure(1 << number_in(of["codes_code"], "pub const BY_TABLE: u64 = 1 << ", ";") == defined, "code and definition have one word for the table")
     sure(1 << number_in(of["header"], "#define CECHNUOL_BY_TABLE (UINT64_C(1) << ", ")\n") == defined, "the header has that word")
     sure(defined >= 1 << 32, "no state has that number")
 
@@ -413,7 +413,7 @@ class Constants(Held):
             ("numbers", r"^number_of \w+ = (\d+)"),
             ("codes", r"^no_price = (\d+)"),
             ("codes", r"^by_table = (\d+)"),
-            ("codes_code", r"pub const BY_TABLE: u64 = (\d+);"),
+            ("codes_code", r"pub const BY_TABLE: u64 = 1 << (\d+);"),
             ("header", r"BY_TABLE \(UINT64_C\((\d+)\)"),
             ("header", r"BY_TABLE \(UINT64_C\(1\) << (\d+)\)"),
             ("codes", r"^code_of \(accepted n\) = (\d+)"),

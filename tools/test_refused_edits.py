@@ -142,6 +142,11 @@ class Log(Repository):
         ):
             self.one("what fails first is none of what it names", LOW, at(place))
 
+    def test_a_functions_attribute_is_its_first_line(self):
+        self.write("crates/sums/src/parts.rt", SOURCE.replace("fn low", "#[inline]\n#[tactic(auto)]\nfn low"))
+        at = lambda line: f"rt: must-fail sums/low.edit: refused, as it must be: note: src/parts.rt:{line}:1: it is not proved\n{OK}"
+        self.assertEqual([line for line in range(1, 12) if not self.faults(LOW, at(line))], [4, 5, 6, 7, 8, 9, 10])
+
     def test_where_a_lemma_fails(self):
         at = lambda place: f"rt: must-fail sums/seven.edit: refused, as it must be: {place}\n{OK}"
         self.assertEqual(self.faults(LEMMA, at("./proofs/Parts.antt:2:11: error: `of-seven`: as printed, the two types differ"), "seven"), [])

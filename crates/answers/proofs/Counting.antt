@@ -4,13 +4,13 @@ use mathlib.Core.Path.{◌≡◌, refl, ap, ◌∙◌}
 use mathlib.Core.Bool.{Bool, true, false, cond}
 use Prim.Native.Nat.{ℕ, ◌+◌, ◌≤◌, min}
 use native.Mathlib.Omega.{arith}
-use Rattle.answers.specs.declared.answer.Answer.{Answer}
+use Rattle.answers.specs.Check.{Answered}
 use Rattle.answers.specs.declared.call.Call.{Call}
 use Rattle.answers.specs.declared.tally.Tally.{Tally}
 use Rattle.answers.specs.Answers.{is_accepted}
 use Rattle.answers.specs.Counts.{largest, resets, counts, counts_of, count_after, tally_after}
 
-module _ (answer : Answer) (call : Call) (count more : ℕ) where
+module _ (answer : Answered) (call : Call) (count more : ℕ) where
   pub count_refused : is_accepted answer ≡ false → count_after answer call count more ≡ count
   count_refused e = rw e refl
 
@@ -27,7 +27,7 @@ count_kept false anew count e h = refl
 count_kept true anew count e h = rw e (omega arith)
 
 -- a tally from its counts, of which each is worked out by itself
-pub tally_is : (tally : Tally) (checkpoint tip : ℕ) (call : Call) (answer : Answer) {more : Tally} {c r f : ℕ}
+pub tally_is : (tally : Tally) (checkpoint tip : ℕ) (call : Call) (answer : Answered) {more : Tally} {c r f : ℕ}
     → more ≡ counts_of checkpoint tip call
     → c ≡ count_after answer call tally.committed more.committed
     → r ≡ count_after answer call tally.rolled_back more.rolled_back

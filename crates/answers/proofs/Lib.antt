@@ -1,4 +1,3 @@
 pub mod Firsts
 pub mod Counting
-pub mod Telling
 pub mod Counted

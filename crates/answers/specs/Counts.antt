@@ -2,7 +2,7 @@
 -- the call; a count stops at its largest value. Clear, load and restart set it to zero."
 -- Assumes nothing.
 use Rattle.std.specs.Prelude.{Bool, true, false, cond, ℕ, ◌+◌, ◌-◌, min}
-use Rattle.answers.specs.declared.answer.Answer.{Answer}
+use Rattle.answers.specs.Check.{Answered}
 use Rattle.answers.specs.declared.call.Call.{Call}
 use Rattle.answers.specs.declared.call.Call.TheVariants.{Reset, Step, Read, Ask}
 use Rattle.answers.specs.declared.call.Step.{Step as StepCall}
@@ -37,10 +37,10 @@ counts_of checkpoint tip (Read read) = counts 0 0 0
 counts_of checkpoint tip (Ask query) = counts 0 0 0
 
 -- a count after a call that adds so many steps to it: "a count stops at its largest value", and a refused call leaves it as it came
-abbrev pub count_after : Answer → Call → ℕ → ℕ → ℕ
+abbrev pub count_after : Answered → Call → ℕ → ℕ → ℕ
 count_after answer call count more = cond (is_accepted answer) (cond (resets call) 0 (min (count + more) largest)) count
 
-abbrev pub tally_after : Tally → ℕ → ℕ → Call → Answer → Tally
+abbrev pub tally_after : Tally → ℕ → ℕ → Call → Answered → Tally
 tally_after tally checkpoint tip call answer =
     let more = counts_of checkpoint tip call in
     counts

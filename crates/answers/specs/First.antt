@@ -2,8 +2,8 @@
 -- Assumes nothing.
 use Rattle.std.specs.Prelude.{Bool, true, false, List, [], ◌∷◌}
 use Rattle.answers.specs.declared.ground.Ground.{Ground}
-use Rattle.answers.specs.declared.answer.Check.{Check}
-use Rattle.answers.specs.declared.answer.Check.TheVariants.{Passed, Refused}
+use Rattle.answers.specs.Check.{Check}
+use Rattle.std.specs.Prelude.{Ok, Err}
 
 -- a ground with the test that says whether it is met
 pub data Test : Type 0 where
@@ -11,11 +11,11 @@ pub data Test : Type 0 where
 
 -- "a call that meets no condition is accepted"
 unfoldable pub first : List Test → Check
-first [] = Passed
-first (met true r ∷ gs) = Refused r
+first [] = (Ok tt)
+first (met true r ∷ gs) = Err r
 first (met false r ∷ gs) = first gs
 
 -- one of two, by whether the call is accepted
 abbrev pub if_passed {ℓ} : {A : Type ℓ} → Check → A → A → A
-if_passed Passed new old = new
-if_passed (Refused r) new old = old
+if_passed (Ok tt) new old = new
+if_passed (Err r) new old = old

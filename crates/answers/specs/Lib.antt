@@ -1,3 +1,4 @@
+pub mod Check
 pub mod Numbers
 pub mod First
 pub mod Answers

@@ -2,40 +2,30 @@
 ghost use Rattle.std.specs.Prelude.{◌≡◌, ◌-◌};
 ghost use Rattle.answers.specs.Counts.{resets, step_counts, counts_of, count_after, tally_after};
 
-use crate::answer::{Answer, is_accepted};
+use crate::answer::Answer;
 use crate::call::{Call, Step};
+use crate::ground::Ground;
 
 // The steps committed, rolled back and flushed since the last clear, load or restart.
-#[derive(Clone, Copy)]
+#[derive(Clone, Copy, Debug, Default, PartialEq, Eq)]
 pub struct Tally {
     pub committed: u64,
     pub rolled_back: u64,
     pub flushed: u64,
 }
 
-// The largest value of a count.
-const LARGEST: u64 = 18446744073709551615;
-
 // Whether the call sets the tally to zero where it is accepted.
 fn resets(call: Call) -> bool
     ensures { result ≡ resets call }
 {
-    match call {
-        Call::Reset(_) => true,
-        Call::Step(_) => false,
-        Call::Read(_) => false,
-        Call::Ask(_) => false,
-    }
+    matches!(call, Call::Reset(_))
 }
 
 // How many states lie from one up to another; none where the other is lower.
 fn steps_between(from: u32, to: u32) -> u64
     ensures { result ≡ to - from }
 {
-    if to < from {
-        return 0;
-    }
-    (to - from) as u64
+    u64::from(to.saturating_sub(from))
 }
 
 // The tally of a call on the steps alone, if it is accepted with this checkpoint and tip.
@@ -45,18 +35,15 @@ fn step_counts(checkpoint: u32, tip: u32, step: Step) -> Tally
     match step {
         Step::Commit => Tally {
             committed: 1,
-            rolled_back: 0,
-            flushed: 0,
+            ..Tally::default()
         },
         Step::RollBack(state) => Tally {
-            committed: 0,
             rolled_back: steps_between(state, tip),
-            flushed: 0,
+            ..Tally::default()
         },
         Step::Flush(state) => Tally {
-            committed: 0,
-            rolled_back: 0,
             flushed: steps_between(checkpoint, state),
+            ..Tally::default()
         },
     }
 }
@@ -65,37 +52,33 @@ fn step_counts(checkpoint: u32, tip: u32, step: Step) -> Tally
 fn counts_of(checkpoint: u32, tip: u32, call: Call) -> Tally
     ensures { result ≡ counts_of checkpoint tip call }
 {
-    let none = Tally {
-        committed: 0,
-        rolled_back: 0,
-        flushed: 0,
-    };
     match call {
-        Call::Reset(_) => none,
         Call::Step(step) => step_counts(checkpoint, tip, step),
-        Call::Read(_) => none,
-        Call::Ask(_) => none,
+        _ => Tally::default(),
     }
 }
 
 // A count after a call, which adds so much to it where it is accepted.
-fn count_after(answer: Answer, call: Call, count: u64, more: u64) -> u64
+fn count_after(answer: Result<Answer, Ground>, call: Call, count: u64, more: u64) -> u64
     ensures { result ≡ count_after answer call count more }
 {
-    if !is_accepted(answer) {
+    if answer.is_err() {
         return count;
     }
     if resets(call) {
         return 0;
     }
-    if LARGEST - count < more {
-        return LARGEST;
-    }
-    count + more
+    count.saturating_add(more)
 }
 
 // The tally after a call, from the checkpoint and the tip before it.
-pub fn tally_after(tally: Tally, checkpoint: u32, tip: u32, call: Call, answer: Answer) -> Tally
+pub fn tally_after(
+    tally: Tally,
+    checkpoint: u32,
+    tip: u32,
+    call: Call,
+    answer: Result<Answer, Ground>,
+) -> Tally
     ensures { result ≡ tally_after tally checkpoint tip call answer }
 {
     let more = counts_of(checkpoint, tip, call);

@@ -6,16 +6,16 @@ use mathlib.Core.List.{List, [], ◌∷◌}
 use Prim.Native.Nat.{ℕ, ◌^◌, ◌<◌}
 use native.Mathlib.Omega.{arith}
 use Rattle.entry.specs.Word.{none_of}
-use Rattle.changes.specs.declared.search.Found.{Found}
-use Rattle.changes.specs.declared.search.Found.TheVariants.{Word, Nothing}
+use Rattle.changes.specs.Found.{Found}
+use Rattle.std.proofs.Common.{Some, None}
 use Rattle.changes.specs.Calculus.{find, compose, apply}
 use Rattle.changes.specs.Lists.{Changes, Map}
 use Rattle.changes.specs.ReadSets.{found_or, over}
 use Rattle.changes.proofs.Laws.{apply_twice, read_changed}
 use Rattle.changes.proofs.ReadWords.{find_read}
 use Rattle.changes.proofs.Single.{from_one, Changes-more}
-use Rattle.orders.specs.declared.effects.Effect.{Effect}
-use Rattle.orders.specs.declared.effects.Effect.TheVariants.{Change, Fails}
+use Rattle.orders.specs.Effect.{Effect}
+use Rattle.std.proofs.Common.{Ok, Err}
 use Rattle.orders.specs.Orders.{order_kind, order_amount, order_offer, Kind, lists, withdraws, raises, cuts, keeps, unknown, kind_named}
 use Rattle.execution.specs.Tests.{list_all, is_read, is_found}
 use Rattle.orders.specs.Effects.{with_price, effect_by, effect}
@@ -27,11 +27,11 @@ use Rattle.execution.proofs.Iterations.{seen, execute_none, execute_order}
 
 -- An order that finds a word that shows no price does what it does where it finds nothing.
 module _ (k : ℕ) (small : k < 2 ^ 31) where
-  none_shown : (f : ℕ → Effect) → with_price (Word (none_of k)) f ≡ with_price Nothing f
+  none_shown : (f : ℕ → Effect) → with_price (Some (none_of k)) f ≡ with_price None f
   unfolding with_price
   none_shown f = no_price (none_of k) f (λ e. omega arith)
 
-  none_by : (kind : Kind) (n amount : ℕ) → effect_by kind n amount k (Word (none_of k)) ≡ effect_by kind n amount k Nothing
+  none_by : (kind : Kind) (n amount : ℕ) → effect_by kind n amount k (Some (none_of k)) ≡ effect_by kind n amount k None
   none_by lists n amount = refl
   none_by withdraws n amount = refl
   none_by raises n amount = none_shown _
@@ -39,19 +39,19 @@ module _ (k : ℕ) (small : k < 2 ^ 31) where
   none_by keeps n amount = none_shown _
   none_by unknown n amount = refl
 
-pub effect_shown : (o : ℕ) (found : Found) → effect o (Word (found_or found (none_of (order_offer o)))) ≡ effect o found
+pub effect_shown : (o : ℕ) (found : Found) → effect o (Some (found_or found (none_of (order_offer o)))) ≡ effect o found
 unfolding effect
-effect_shown o (Word w) = refl
-effect_shown o Nothing = none_by (order_offer o) (omega arith) (kind_named (order_kind o)) (order_kind o) (order_amount o)
+effect_shown o (Some w) = refl
+effect_shown o None = none_by (order_offer o) (omega arith) (kind_named (order_kind o)) (order_kind o) (order_amount o)
 
 -- The changes so far with an order's word.
-pub joined : (o : ℕ) (found : Found) (d : List ℕ) (w : ℕ) → Changes d → effect o found ≡ Change w → Changes (compose d (w ∷ []))
+pub joined : (o : ℕ) (found : Found) (d : List ℕ) (w : ℕ) → Changes d → effect o found ≡ Ok w → Changes (compose d (w ∷ []))
 joined o found d w h e = Changes-more d w h (effect-Names o found w e).1
 
 -- Two executions go on alike where they do after each word that the order can give.
-alike : (e : Effect) (f g : ℕ → Executed) → ((w : ℕ) → e ≡ Change w → f w ≡ g w) → next e f ≡ next e g
-alike (Change w) f g h = h w refl
-alike (Fails ground) f g h = refl
+alike : (e : Effect) (f g : ℕ → Executed) → ((w : ℕ) → e ≡ Ok w → f w ≡ g w) → next e f ≡ next e g
+alike (Ok w) f g h = h w refl
+alike (Err ground) f g h = refl
 
 -- what an order on a map sees after changes
 abbrev pub sees : List ℕ → List ℕ → ℕ → Found
@@ -64,17 +64,17 @@ difference_is m orders = refl
 -- The read set shows what the map has, after the same changes.
 module _ (m reads : List ℕ) (map : Map m) (agrees : Agrees m reads) where
   shown_alike : (d : List ℕ) → Changes d → (o : ℕ) → is_read reads o ≡ true → seen reads d (order_offer o)
-      ≡ Word (found_or (sees m d (order_offer o)) (none_of (order_offer o)))
+      ≡ Some (found_or (sees m d (order_offer o)) (none_of (order_offer o)))
   unfolding is_read
   shown_alike d h o r = go (find (order_offer o) reads) refl r
     where
       go : (found : Found) → find (order_offer o) reads ≡ found → is_found found ≡ true → seen reads d (order_offer o)
-          ≡ Word (found_or (sees m d (order_offer o)) (none_of (order_offer o)))
-      go (Word v) e t =
+          ≡ Some (found_or (sees m d (order_offer o)) (none_of (order_offer o)))
+      go (Some v) e t =
           ap (λ (l : List ℕ). find (order_offer o) (over l d)) (sym agrees)
           ∙ ap (find (order_offer o)) (read_changed m d map h reads)
           ∙ find_read (order_offer o) (apply m d) reads v e
-      go Nothing e t = absurd (let z : ◌≡◌ {A = ℕ} 0 1 = cc in omega arith)
+      go None e t = absurd (let z : ◌≡◌ {A = ℕ} 0 1 = cc in omega arith)
 
   pub restricted : (d os : List ℕ) → Changes d → list_all (is_read reads) os ≡ true → execute (seen reads) d os ≡ execute (sees m) d os
   restricted d [] h r = execute_none (seen reads) d ∙ sym (execute_none (sees m) d)
@@ -96,8 +96,8 @@ unfolding execute_on_map
 map_order m o os = refl
 
 on_next : (f : List ℕ → List ℕ) (e : Effect) (g : ℕ → Executed) → on_done f (next e g) ≡ next e (λ w. on_done f (g w))
-on_next f (Change w) g = refl
-on_next f (Fails ground) g = refl
+on_next f (Ok w) g = refl
+on_next f (Err ground) g = refl
 
 pub applied : (m : List ℕ) → Map m → (d os : List ℕ) → Changes d → execute_on_map (apply m d) os ≡ on_done (apply m) (execute (sees m) d os)
 applied m map d [] h = map_none (apply m d) ∙ ap (on_done (apply m)) (sym (execute_none (sees m) d))

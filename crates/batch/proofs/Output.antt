@@ -10,14 +10,14 @@ use borrow.Author.Tests.{eq-eqb, ne_eqb}
 use lib.Dec.{eqb}
 use lib.ListN.{length}
 use Rattle.entry.specs.Word.{offer_of}
-use Rattle.changes.specs.declared.search.Found.{Found}
+use Rattle.changes.specs.Found.{Found}
 use Rattle.changes.specs.Calculus.{find, or_else, compose}
 use Rattle.changes.specs.Lists.{Changes}
 use Rattle.changes.proofs.Find.{find_empty, find_head, find_past}
 use Rattle.changes.proofs.Laws.{later_wins, compose-length}
 use Rattle.changes.proofs.Single.{from_one}
-use Rattle.orders.specs.declared.effects.Effect.{Effect}
-use Rattle.orders.specs.declared.effects.Effect.TheVariants.{Change, Fails}
+use Rattle.orders.specs.Effect.{Effect}
+use Rattle.std.proofs.Common.{Ok, Err}
 use Rattle.orders.specs.Orders.{order_offer}
 use Rattle.execution.specs.Tests.{is_found}
 use Rattle.orders.specs.Effects.{effect}
@@ -68,7 +68,7 @@ brings see d (o ∷ os) e h r =
     go : (f : Effect) → effect o (see d (order_offer o)) ≡ f → next f (λ w. execute see (compose d (w ∷ [])) os) ≡ done e
         → ((w : ℕ) → Changes (compose d (w ∷ [])) → execute see (compose d (w ∷ [])) os ≡ done e → Brings (compose d (w ∷ [])) os e)
         → Brings d (o ∷ os) e
-    go (Change w) i r' rest =
+    go (Ok w) i r' rest =
         let b = rest w (joined o (see d (order_offer o)) d w h i) r' in
         let at = (effect-Names o (see d (order_offer o)) w i).0 in
         record {
@@ -80,4 +80,4 @@ brings see d (o ∷ os) e h r =
               ∙ or_assoc (is_found (find k d)) (eqb (order_offer o) k) (is_named k os)
               ∙ ap (◌||◌ (is_found (find k d))) (sym (named_more k o os));
         }
-    go (Fails ground) i r' rest = absurd (let z : ◌≡◌ {A = ℕ} 0 1 = cc in omega arith)
+    go (Err ground) i r' rest = absurd (let z : ◌≡◌ {A = ℕ} 0 1 = cc in omega arith)

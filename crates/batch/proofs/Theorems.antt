@@ -8,15 +8,15 @@ use Prim.Native.Nat.{ℕ, ◌≤◌}
 use native.Mathlib.Omega.{arith}
 use lib.Dec.{leb}
 use lib.ListN.{length}
-use Rattle.changes.specs.declared.search.Found.{Found}
+use Rattle.changes.specs.Found.{Found}
 use Rattle.changes.specs.Calculus.{find, apply, puts}
 use Rattle.changes.specs.Lists.{Changes, Map}
 use Rattle.changes.proofs.Find.{find_empty}
 use Rattle.changes.proofs.Laws.{apply_zero}
 use Rattle.changes.proofs.ReadWords.{prices_Map, prices_shown}
 use Rattle.changes.proofs.Single.{Changes-none}
-use Rattle.answers.specs.declared.answer.Check.{Check}
-use Rattle.answers.specs.declared.answer.Check.TheVariants.{Passed, Refused}
+use Rattle.answers.specs.Check.{Check}
+use Rattle.std.proofs.Common.{Ok, Err}
 use Rattle.execution.specs.Tests.{list_all, is_read, is_found}
 use Rattle.execution.specs.Executing.{Executed, done, fails, priced, after}
 use Rattle.batch.specs.OnMaps.{difference, execute_on_map, on_done, Agrees, is_named}
@@ -76,25 +76,25 @@ only_through_reads m m' reads orders h h' a a' read = sym (equation_6 m reads or
 
 -- Of a batch that is accepted.
 data Accepts (reads orders d : List ℕ) : Type 0 where
-  accepts : checked reads orders ≡ Passed → priced reads orders ≡ done d → Accepts reads orders d
+  accepts : checked reads orders ≡ (Ok tt) → priced reads orders ≡ done d → Accepts reads orders d
 
 accepted_executes : (reads orders d : List ℕ) (room : ℕ) → batch reads orders room ≡ done d → Accepts reads orders d
 unfolding batch
 accepted_executes reads orders d room e = by-check (checked reads orders) refl e
   where
-    by-room : (b : Bool) (x : List ℕ) → priced reads orders ≡ done x → checked reads orders ≡ Passed
+    by-room : (b : Bool) (x : List ℕ) → priced reads orders ≡ done x → checked reads orders ≡ (Ok tt)
         → cond b (done x) (fails 17) ≡ done d → Accepts reads orders d
     by-room true x i c r = accepts c (i ∙ r)
     by-room false x i c r = absurd (let z : ◌≡◌ {A = ℕ} 0 1 = cc in omega arith)
 
-    by-execution : (executed : Executed) → priced reads orders ≡ executed → checked reads orders ≡ Passed
+    by-execution : (executed : Executed) → priced reads orders ≡ executed → checked reads orders ≡ (Ok tt)
         → fitting room executed ≡ done d → Accepts reads orders d
     by-execution (done x) i c r = by-room (leb (length x) room) x i c r
     by-execution (fails n) i c r = absurd (let z : ◌≡◌ {A = ℕ} 0 1 = cc in omega arith)
 
     by-check : (c : Check) → checked reads orders ≡ c → after c (fitting room (priced reads orders)) ≡ done d → Accepts reads orders d
-    by-check Passed c r = by-execution (priced reads orders) refl c r
-    by-check (Refused ground) c r = absurd (let z : ◌≡◌ {A = ℕ} 0 1 = cc in omega arith)
+    by-check (Ok tt) c r = by-execution (priced reads orders) refl c r
+    by-check (Err ground) c r = absurd (let z : ◌≡◌ {A = ℕ} 0 1 = cc in omega arith)
 
 module _ (reads orders d : List ℕ) (room : ℕ) (accepted : batch reads orders room ≡ done d) where
   -- its output applied to any map that agrees with the read set is what executing the orders on that map gives,

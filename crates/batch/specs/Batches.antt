@@ -1,11 +1,12 @@
 -- A batch: its refusals, in the order of the grounds, and its output (document 01, "Batches").
 -- Assumes nothing.
-use Rattle.std.specs.Prelude.{not, cond, List, [], ◌∷◌, ◌++◌, ℕ, leb, ltb, length, drop}
+use Rattle.std.specs.Prelude.{not, cond, List, [], ◌∷◌, ◌++◌, ℕ, leb, ltb, length, drop, Result, Ok, Err}
 use Rattle.changes.specs.Lists.{is_list}
+use Rattle.answers.specs.declared.ground.Ground.{Ground}
 use Rattle.answers.specs.declared.ground.Ground.TheVariants.{BadList, BadOrder, OfferNotRead, OutputShort}
 use Rattle.answers.specs.Answers.{Said, accepted, refused}
 use Rattle.answers.specs.Numbers.{number_of}
-use Rattle.answers.specs.declared.answer.Check.{Check}
+use Rattle.answers.specs.Check.{Check}
 use Rattle.answers.specs.First.{Test, met, first}
 use Rattle.orders.specs.Orders.{is_allowed}
 use Rattle.execution.specs.Tests.{is_read, list_all}
@@ -40,6 +41,11 @@ batch reads orders room = after (checked reads orders) (fitting room (priced rea
 abbrev pub answer : Executed → Said
 answer (done d) = accepted (length d)
 answer (fails n) = refused n
+
+-- what the code says in these words: the count of the words written, or the number of the ground
+abbrev pub said_by_count : Result ℕ Ground → Said
+said_by_count (Ok count) = accepted count
+said_by_count (Err reason) = refused (number_of reason)
 
 -- "later output words keep their values"; on a refusal all do
 abbrev pub output : Executed → List ℕ → List ℕ

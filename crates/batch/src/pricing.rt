@@ -1,85 +1,48 @@
 // Pricing a batch: the refusals, the execution, and the output.
 ghost use Rattle.std.specs.Prelude.{◌≡◌, length};
 ghost use Rattle.answers.specs.Answers.{said_by};
-ghost use Rattle.execution.specs.Executing.{done, priced};
-ghost use Rattle.batch.specs.Batches.{batch, answer, output, fitting};
-ghost use Rattle.execution.specs.Working.{flagged, Accepted, Room};
+ghost use Rattle.execution.specs.Executing.{done};
+ghost use Rattle.execution.specs.Working.{made};
+ghost use Rattle.batch.specs.Batches.{batch, answer, output, fitting, said_by_count};
 
 use crate::checking::{BATCH_ORDERS, check_batch};
-use answers::answer::{Answer, Check};
+use answers::answer::Answer;
 use answers::ground::Ground;
 use execution::executing::{count, execute, gather};
 use lists::rules::LIST_WORDS;
-use words::copy;
 
-// Writes the flagged words to the start of `out`, where there is room for them.
-fn write(words: &[u64], flags: &[bool], out: &mut [u64]) -> Answer
-    requires { length flags.now ≡ length words.now }
-    ensures { (said_by result ≡ answer (fitting (length out.old) (done (flagged words.now flags.now))))
-        × (out.new
-        ≡ output (fitting (length out.old) (done (flagged words.now flags.now)))
-        out.old) }
+// Writes the words that orders made to the start of `out`, where there is room for them.
+fn write(words: &[Option<u64>], out: &mut [u64]) -> Result<usize, Ground>
+    ensures { (said_by_count result ≡ answer (fitting (length out.old) (done (made words.now))))
+        × (out.new ≡ output (fitting (length out.old) (done (made words.now))) out.old) }
 {
-    let n = count(flags);
+    let n = count(words);
     if out.len() < n {
-        return Answer::Refused(Ground::OutputShort);
+        return Err(Ground::OutputShort);
     }
-    gather(words, flags, &mut out[..n]);
-    Answer::Count(n)
+    gather(words, &mut out[..n]);
+    Ok(n)
 }
 
-// Executes the orders at their positions in the lent memory, as many words and flags as the read set has, no flag set. Their
-// changes are written to the start of `out`, where there is room for them; the words behind them stay, and on a refusal all of
-// them.
-fn execute_in(
-    reads: &[u64],
-    orders: &[u64],
-    positions: &[usize],
-    words: &mut [u64],
-    flags: &mut [bool],
-    out: &mut [u64],
-) -> Answer
-    requires { Room reads.now orders.now positions.now words.old flags.old }
-    ensures { (said_by result ≡ answer (fitting (length out.old) (priced reads.now orders.now)))
-        × (out.new
-        ≡ output (fitting (length out.old) (priced reads.now orders.now)) out.old) }
+// The count of the words that the orders' changes are, written to the start of `out`, or the first ground that turns the batch away.
+#[tactic(auto, unfolding(crate::specs::Batches::batch))]
+fn price(reads: &[u64], orders: &[u64], out: &mut [u64]) -> Result<usize, Ground>
+    ensures { (said_by_count result ≡ answer (batch reads.now orders.now (length out.old)))
+        × (out.new ≡ output (batch reads.now orders.now (length out.old)) out.old) }
 {
-    copy(reads, words);
-    match execute(orders, positions, words, flags) {
-        Check::Refused(ground) => Answer::Refused(ground),
-        Check::Passed => write(words, flags, out),
-    }
-}
-
-// The same with memory of its own.
-fn changes_of(reads: &[u64], orders: &[u64], positions: &[usize], out: &mut [u64]) -> Answer
-    requires { Accepted reads.now orders.now positions.now }
-    ensures { (said_by result ≡ answer (fitting (length out.old) (priced reads.now orders.now)))
-        × (out.new
-        ≡ output (fitting (length out.old) (priced reads.now orders.now)) out.old) }
-{
-    let n = reads.len();
-    let mut words = [0u64; LIST_WORDS];
-    let mut flags = [false; LIST_WORDS];
-    execute_in(
-        reads,
-        orders,
-        positions,
-        &mut words[..n],
-        &mut flags[..n],
-        out,
-    )
+    let mut positions = [0; BATCH_ORDERS];
+    check_batch(reads, orders, &mut positions)?;
+    let mut memory = [None; LIST_WORDS];
+    let words = &mut memory[..reads.len()];
+    execute(reads, orders, &positions, words)?;
+    write(words, out)
 }
 
 // Prices a batch: on a read set, the orders' changes are written to the start of `out`, one word for each offer that
 // they name, and the words behind them stay; on a refusal all words stay.
-pub fn price_batch(reads: &[u64], orders: &[u64], out: &mut [u64]) -> Answer
+pub fn price_batch(reads: &[u64], orders: &[u64], out: &mut [u64]) -> Result<Answer, Ground>
     ensures { (said_by result ≡ answer (batch reads.now orders.now (length out.old)))
         × (out.new ≡ output (batch reads.now orders.now (length out.old)) out.old) }
 {
-    let mut positions = [0usize; BATCH_ORDERS];
-    match check_batch(reads, orders, &mut positions) {
-        Check::Refused(ground) => Answer::Refused(ground),
-        Check::Passed => changes_of(reads, orders, &positions, out),
-    }
+    price(reads, orders, out).map(Answer::Count)
 }

@@ -40,7 +40,7 @@ bytes_small (suc k) n = (omega arith, bytes_small k n)
 power_more : (k : ℕ) → 256 ^ suc k ≡ 256 * 256 ^ k
 power_more k = pow-succ' 256 k
 
-power_positive : (k : ℕ) → 0 < 256 ^ k
+pub power_positive : (k : ℕ) → 0 < 256 ^ k
 power_positive k = one-le-pow k 256 (omega arith)
 
 pub value_small : (l : List ℕ) → All Byte l → value_of l < 256 ^ length l
@@ -60,7 +60,7 @@ pub value_of_bytes : (k n : ℕ) → n < 256 ^ k → value_of (bytes_of k n) ≡
 value_of_bytes k n h = value_bytes k n ∙ mod-eq_of_lt h
 
 -- the bytes of some bytes' number, whatever stands before them
-shift : (q b p v : ℕ) → q * (256 * p) + (b * p + v) ≡ (q * 256 + b) * p + v
+pub shift : (q b p v : ℕ) → q * (256 * p) + (b * p + v) ≡ (q * 256 + b) * p + v
 shift q b p v = rw (← mul_assoc q 256 p, add-mul (q * 256) b p, add_assoc)
 
 bytes_behind : (q : ℕ) (l : List ℕ) → All Byte l → bytes_of (length l) (q * 256 ^ length l + value_of l) ≡ l

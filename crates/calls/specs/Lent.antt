@@ -1,8 +1,8 @@
 -- What is lent to a call, and what the call leaves of it.
 -- Assumes nothing.
 use Rattle.std.specs.Prelude.{◌≡◌, List, ℕ}
-use Rattle.answers.specs.declared.answer.Answer.{Answer}
-use Rattle.answers.specs.declared.answer.Check.{Check}
+use Rattle.answers.specs.Check.{Answered}
+use Rattle.answers.specs.Check.{Check}
 use Rattle.answers.specs.Answers.{answered, Gives}
 use Rattle.answers.specs.First.{Test, first, if_passed}
 use Rattle.layout.specs.declared.head.Head.{Head}
@@ -30,7 +30,7 @@ with_bytes l bytes = lent l.table l.journal l.words bytes l.head
 
 -- what a call answers, and what was lent as the call leaves it
 pub record Left : Type 0 where
-  pub answer : Answer
+  pub answer : Answered
   pub lent : Lent
 
 -- what a call means: the grounds that concern it, in their order, and what it answers and leaves where none is met
@@ -38,7 +38,7 @@ pub record Meaning : Type 0 where
   pub grounds : List Test
   pub accepted : Left
 
-abbrev pub means : List Test → Answer → Lent → Meaning
+abbrev pub means : List Test → Answered → Lent → Meaning
 means grounds answer l = record { grounds = grounds; accepted = record { answer = answer; lent = l } }
 
 -- "Checked in this order, those that concern the call"
@@ -48,7 +48,7 @@ check_of m = first m.grounds
 -- a query leaves the store as it is: what it means is its grounds, its answer, and what it leaves of the words and bytes
 pub record Asking : Type 0 where
   pub grounds : List Test
-  pub answer : Answer
+  pub answer : Answered
   pub words : List ℕ
   pub bytes : List ℕ
 
@@ -63,7 +63,7 @@ abbrev pub settled : Meaning → Lent → Left
 settled m l = settled_by (check_of m) m.accepted l
 
 -- The promise of a call: its answer is the one that is meant, and so is all that it leaves.
-abbrev pub Performs : Left → Answer → List ℕ → List ℕ → List ℕ → List ℕ → Head → Type 0
+abbrev pub Performs : Left → Answered → List ℕ → List ℕ → List ℕ → List ℕ → Head → Type 0
 Performs left answer table journal words bytes head =
     Gives answer left.answer
     × (table ≡ left.lent.table)

@@ -5,6 +5,7 @@ use Rattle.changes.specs.Calculus.{find, compose_all}
 use Rattle.changes.specs.ReadSets.{read_of, over}
 use Rattle.changes.specs.Runs.{start_of}
 use Rattle.answers.specs.declared.answer.Answer.TheVariants.{Done, Count}
+use Rattle.std.specs.Prelude.{Ok}
 use Rattle.answers.specs.First.{Test}
 use Rattle.answers.specs.declared.call.Call.{Call}
 use Rattle.answers.specs.declared.call.Call.TheVariants.{Reset, Step, Read, Ask}
@@ -41,18 +42,18 @@ module _ (l : Lent) where
   -- the calls that make a store anew
   abbrev pub reset_of : ResetCall → Meaning
   reset_of (Clear depth) =
-      means (fresh_grounds (length l.table) (length l.journal) depth) Done
+      means (fresh_grounds (length l.table) (length l.journal) depth) (Ok Done)
       (with_store l (replicate (length l.table) 0) (replicate (length l.journal) 0) (fresh_head 0 0 depth))
   reset_of (Load depth format) =
       let map = map_in format l.bytes in
-      means (load_grounds (length l.table) (length l.journal) depth format l.bytes) Done
+      means (load_grounds (length l.table) (length l.journal) depth format l.bytes) (Ok Done)
       (with_store l
       (padded (length l.table) map)
       (replicate (length l.journal) 0)
       (fresh_head (length map) (number_in l.bytes) depth))
   reset_of Restart =
       let image = restart_image l.table l.journal l.head in
-      means (restart_grounds l.table l.journal l.head (length l.bytes)) Done
+      means (restart_grounds l.table l.journal l.head (length l.bytes)) (Ok Done)
       (with_bytes
       (with_store l (padded (length l.table) (words_in image)) (replicate (length l.journal) 0)
       (fresh_head (count_in image) (number_in image) l.head.depth))
@@ -62,41 +63,41 @@ module _ (l : Lent) where
   abbrev pub step_of : StepCall → Meaning
   step_of Commit =
       let used = used_of l.head in
-      means (commit_grounds l.table l.journal l.head l.words) Done
+      means (commit_grounds l.table l.journal l.head l.words) (Ok Done)
       (with_store l l.table (with_list l.journal used l.words) (with_step l.head (held_of l.head) (used + length l.words)))
   step_of (RollBack state) =
       let kept = kept_of l.head state in
-      means (roll_grounds l.table l.journal l.head state) Done
+      means (roll_grounds l.table l.journal l.head state) (Ok Done)
       (with_store l l.table (cut_at l.journal (start_of l.head.ends kept)) (cut_to l.head kept state))
   step_of (Flush state) =
       let map = map_here l.table l.journal l.head state in
       let head = flushed_head l.head (length map) state in
-      means (flush_grounds l.table l.journal l.head state) Done
+      means (flush_grounds l.table l.journal l.head state) (Ok Done)
       (with_store l (padded (length l.table) map) (trimmed_journal head l.journal) (trimmed_head head))
 
   -- the calls that open and close slots
   abbrev pub read_call_of : ReadCall → Meaning
   read_call_of (Issue reader) =
-      means (issue_grounds l.table l.journal l.head reader l.words) Done
+      means (issue_grounds l.table l.journal l.head reader l.words) (Ok Done)
       (with_words
       (with_store l l.table l.journal (opened l.head reader.slot))
       (read_of (take l.head.used l.table) l.words))
   read_call_of (Forward reader state) =
       let head = closed_at l.head reader.slot in
-      means (forward_grounds l.table l.journal l.head reader state l.words) Done
+      means (forward_grounds l.table l.journal l.head reader state l.words) (Ok Done)
       (with_words
       (with_store l l.table (trimmed_journal head l.journal) (trimmed_head head))
       (over l.words (compose_all (steps_for l.journal l.head reader state))))
   read_call_of (Release reader) =
       let head = closed_at l.head reader.slot in
-      means (release_grounds l.table l.journal l.head reader) Done
+      means (release_grounds l.table l.journal l.head reader) (Ok Done)
       (with_store l l.table (trimmed_journal head l.journal) (trimmed_head head))
 
   -- the writing of a state
   abbrev pub writing : Format → List Test → ℕ → Asking
   writing format grounds state = record {
     grounds = grounds;
-    answer = Count (state_size format l.table l.journal l.head state);
+    answer = Ok (Count (state_size format l.table l.journal l.head state));
     words = l.words;
     bytes = state_over format l.table l.journal l.head state l.bytes;
   }

@@ -4,25 +4,26 @@ ghost use Rattle.calls.specs.Meaning.{query_left};
 
 use answers::answer::Answer;
 use answers::call::Query;
+use answers::ground::Ground;
 use exports::write::{write_state, write_tip};
-use layout::head::Head;
 use lookups::look_up;
+use soundness::StoreRef;
 
 pub fn ask(
-    table: &[u64],
-    journal: &[u64],
+    store: StoreRef,
     words: &mut [u64],
     bytes: &mut [u8],
-    head: Head,
     query: Query,
-) -> Answer
+) -> Result<Answer, Ground>
     ensures { Performs
-        (query_left (lent table.now journal.now words.old bytes.old head) query)
-        result table.now journal.now words.new bytes.new head }
+        (query_left (lent store.entry.table.now store.entry.journal.now words.old bytes.old store.entry.head.now) query)
+        result store.entry.table.now store.entry.journal.now words.new bytes.new store.entry.head.now }
 {
     match query {
-        Query::LookUp(asked) => look_up(table, journal, head, asked),
-        Query::Write(format) => write_tip(table, journal, head, format, bytes),
-        Query::WriteState(format, state) => write_state(table, journal, head, format, state, bytes),
+        Query::LookUp(asked) => look_up(store, asked),
+        Query::Write(format) => write_tip(store, format, bytes).map(Answer::Count),
+        Query::WriteState(format, state) => write_state(store, format, state, bytes).map(
+            Answer::Count,
+        ),
     }
 }

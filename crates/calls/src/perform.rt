@@ -6,33 +6,39 @@ use crate::ask::ask;
 use crate::read::read;
 use crate::reset::reset;
 use crate::step::step;
+use answers::answer::Answer;
 use answers::call::Call;
-use layout::head::{Head, Reply};
+use answers::ground::Ground;
+use layout::head::Head;
+use soundness::StoreRef;
 
-// Performs the call on the store that is lent.
+// Performs the call on the store that is lent. The calls are a closed set, and theorems and runs of calls name them by their values, so
+// they are told apart by `match`.
 pub fn perform(
     table: &mut [u64],
     journal: &mut [u64],
     words: &mut [u64],
     bytes: &mut [u8],
-    head: Head,
+    head: &mut Head,
     call: Call,
-) -> Reply
+) -> Result<Answer, Ground>
     ensures { Performs
-        (performed (lent table.old journal.old words.old bytes.old head) call)
-        result.answer table.new journal.new words.new bytes.new result.head }
+        (performed (lent table.old journal.old words.old bytes.old head.old) call)
+        result table.new journal.new words.new bytes.new head.new }
 {
     match call {
         Call::Reset(reset_call) => reset(table, journal, words, bytes, head, reset_call),
         Call::Step(step_call) => step(table, journal, words, bytes, head, step_call),
         Call::Read(read_call) => read(table, journal, words, bytes, head, read_call),
-        // A copy of its own, so that the other arms need not have the head in memory.
-        Call::Ask(query) => {
-            let kept = head;
-            Reply {
-                answer: ask(table, journal, words, bytes, kept, query),
+        Call::Ask(query) => ask(
+            StoreRef {
+                table,
+                journal,
                 head,
-            }
-        }
+            },
+            words,
+            bytes,
+            query,
+        ),
     }
 }

@@ -1,11 +1,14 @@
-// The calls that add steps, take them back and flush them.
+// The calls that add steps, take them back and flush them, told apart by `match` as in `perform`.
 ghost use Rattle.calls.specs.Lent.{lent, Performs};
 ghost use Rattle.calls.specs.Meaning.{step_left};
 
+use crate::done;
+use answers::answer::Answer;
 use answers::call::Step;
+use answers::ground::Ground;
 use commits::commit;
 use flushes::flush;
-use layout::head::{Head, Reply};
+use layout::head::Head;
 use rollbacks::roll_back;
 
 pub fn step(
@@ -13,16 +16,16 @@ pub fn step(
     journal: &mut [u64],
     words: &mut [u64],
     bytes: &mut [u8],
-    head: Head,
+    head: &mut Head,
     call: Step,
-) -> Reply
+) -> Result<Answer, Ground>
     ensures { Performs
-        (step_left (lent table.old journal.old words.old bytes.old head) call)
-        result.answer table.new journal.new words.new bytes.new result.head }
+        (step_left (lent table.old journal.old words.old bytes.old head.old) call)
+        result table.new journal.new words.new bytes.new head.new }
 {
     match call {
-        Step::Commit => commit(table, journal, head, words),
-        Step::RollBack(state) => roll_back(table, journal, head, state),
-        Step::Flush(state) => flush(table, journal, head, state),
+        Step::Commit => done(commit(table, journal, head, words)),
+        Step::RollBack(state) => done(roll_back(table, journal, head, state)),
+        Step::Flush(state) => done(flush(table, journal, head, state)),
     }
 }

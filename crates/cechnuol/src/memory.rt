@@ -8,14 +8,16 @@ ghost use Rattle.lent.specs.Lent.{Leaves, Serves, Asks, words_after};
 
 use answers::answer::Answer;
 use answers::call::{Call, Format, LookUp, Query};
+use answers::ground::Ground;
 use calls::ask::ask;
 use head_words::{HEAD_WORDS, is_head, unpack};
 use lent::codes::code_of;
 use lent::fit::{is_fit, unfit_answer};
-use lent::storing::{TALLY_WORDS, put_served, tally_in};
+use lent::storing::{TALLY_WORDS, put_head, put_tally, tally_in};
 use lookups::look_up;
+use soundness::StoreRef;
 use unit::direct::{serve_clear, serve_commit, serve_load};
-use unit::serve::serve_core;
+use unit::serve::serve;
 
 // Serves a call on lent memory.
 pub(crate) fn call_on(
@@ -26,7 +28,7 @@ pub(crate) fn call_on(
     head: &mut [u64; HEAD_WORDS],
     tally: &mut [u64; TALLY_WORDS],
     call: Call,
-) -> Answer
+) -> Result<Answer, Ground>
     ensures { Leaves table.old journal.old words.old bytes.old
         head.old tally.old call result table.new journal.new words.new
         bytes.new head.new tally.new }
@@ -34,18 +36,11 @@ pub(crate) fn call_on(
     if !is_fit(head, call) {
         return unfit_answer(table.len(), journal.len());
     }
-    let served = serve_core(
-        tally_in(tally),
-        table,
-        journal,
-        words,
-        bytes,
-        unpack(head),
-        call,
-    );
-    let reply = served.reply;
-    let answer = reply.answer;
-    put_served(head, tally, served);
+    let mut left = unpack(head);
+    let mut counts = tally_in(tally);
+    let answer = serve(&mut counts, table, journal, words, bytes, &mut left, call);
+    put_tally(tally, counts);
+    put_head(head, answer, left);
     answer
 }
 
@@ -56,14 +51,15 @@ pub(crate) fn clear_on(
     head: &mut [u64; HEAD_WORDS],
     tally: &mut [u64; TALLY_WORDS],
     depth: u32,
-) -> Answer
+) -> Result<Answer, Ground>
     ensures { Leaves table.old journal.old [] [] head.old tally.old (clear depth) result
         table.new journal.new [] [] head.new tally.new }
 {
-    let served = serve_clear(tally_in(tally), table, journal, unpack(head), depth);
-    let reply = served.reply;
-    let answer = reply.answer;
-    put_served(head, tally, served);
+    let mut left = unpack(head);
+    let mut counts = tally_in(tally);
+    let answer = serve_clear(&mut counts, table, journal, &mut left, depth);
+    put_tally(tally, counts);
+    put_head(head, answer, left);
     answer
 }
 
@@ -74,7 +70,7 @@ pub(crate) fn commit_on(
     list: &[u64],
     head: &mut [u64; HEAD_WORDS],
     tally: &mut [u64; TALLY_WORDS],
-) -> Answer
+) -> Result<Answer, Ground>
     ensures { Leaves table.now journal.old list.now [] head.old
         tally.old commit result table.now journal.new list.now []
         head.new tally.new }
@@ -82,10 +78,11 @@ pub(crate) fn commit_on(
     if !is_head(head) {
         return unfit_answer(table.len(), journal.len());
     }
-    let served = serve_commit(tally_in(tally), table, journal, list, unpack(head));
-    let reply = served.reply;
-    let answer = reply.answer;
-    put_served(head, tally, served);
+    let mut left = unpack(head);
+    let mut counts = tally_in(tally);
+    let answer = serve_commit(&mut counts, table, journal, list, &mut left);
+    put_tally(tally, counts);
+    put_head(head, answer, left);
     answer
 }
 
@@ -98,23 +95,16 @@ pub(crate) fn load_on(
     tally: &mut [u64; TALLY_WORDS],
     depth: u32,
     format: Format,
-) -> Answer
+) -> Result<Answer, Ground>
     ensures { Leaves table.old journal.old [] bytes.now head.old
         tally.old (load_as format depth) result table.new journal.new [] bytes.now
         head.new tally.new }
 {
-    let served = serve_load(
-        tally_in(tally),
-        table,
-        journal,
-        bytes,
-        unpack(head),
-        depth,
-        format,
-    );
-    let reply = served.reply;
-    let answer = reply.answer;
-    put_served(head, tally, served);
+    let mut left = unpack(head);
+    let mut counts = tally_in(tally);
+    let answer = serve_load(&mut counts, table, journal, bytes, &mut left, depth, format);
+    put_tally(tally, counts);
+    put_head(head, answer, left);
     answer
 }
 
@@ -161,14 +151,24 @@ pub(crate) fn ask_on(
     bytes: &mut [u8],
     head: &[u64; HEAD_WORDS],
     query: Query,
-) -> Answer
+) -> Result<Answer, Ground>
     ensures { Asks table.now journal.now words.old bytes.old
         head.now query result words.new bytes.new }
 {
     if !is_head(head) {
         return unfit_answer(table.len(), journal.len());
     }
-    ask(table, journal, words, bytes, unpack(head), query)
+    let head = &unpack(head);
+    ask(
+        StoreRef {
+            table,
+            journal,
+            head,
+        },
+        words,
+        bytes,
+        query,
+    )
 }
 
 // Answers a lookup, which is lent neither words nor bytes.
@@ -177,11 +177,19 @@ pub(crate) fn look_up_on(
     journal: &[u64],
     head: &[u64; HEAD_WORDS],
     asked: LookUp,
-) -> Answer
+) -> Result<Answer, Ground>
     ensures { Asks table.now journal.now [] [] head.now (LookUpOf asked) result [] [] }
 {
     if !is_head(head) {
         return unfit_answer(table.len(), journal.len());
     }
-    look_up(table, journal, unpack(head), asked)
+    let head = &unpack(head);
+    look_up(
+        StoreRef {
+            table,
+            journal,
+            head,
+        },
+        asked,
+    )
 }

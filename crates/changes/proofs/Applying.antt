@@ -8,8 +8,8 @@ use native.Mathlib.Omega.{arith}
 use borrow.Author.Tests.{eq-eqb, ne_eqb}
 use lib.ListN.{length}
 use Rattle.entry.specs.Word.{kind_of, offer_of, Put, Valid}
-use Rattle.changes.specs.declared.search.Found.{Found}
-use Rattle.changes.specs.declared.search.Found.TheVariants.{Word, Nothing}
+use Rattle.changes.specs.Found.{Found}
+use Rattle.std.proofs.Common.{Some, None}
 use Rattle.changes.specs.Calculus.{find, or_else, if_put, compose, puts, apply, compose_all, apply_all}
 use Rattle.changes.specs.Lists.{From, All, Changes, Map}
 use Rattle.changes.proofs.Compose.{compose_assoc}
@@ -19,9 +19,9 @@ use Rattle.changes.proofs.Merging.{puts-nil, puts_put, puts_other}
 use Rattle.changes.proofs.Rising.{from_cons, from_tail, From-nil, compose_rises, compose-All, puts_rises, puts-All}
 use Rattle.changes.proofs.Rising.{puts_of-puts, puts-length, compose-length, rising_ext}
 
-or_nothing : (f : Found) → or_else f Nothing ≡ f
-or_nothing (Word w) = refl
-or_nothing Nothing = refl
+or_nothing : (f : Found) → or_else f None ≡ f
+or_nothing (Some w) = refl
+or_nothing None = refl
 
 -- the later word wins for each offer
 pub find-compose : (k : ℕ) (a b : List ℕ) → (n : ℕ) → From n b → find k (compose a b) ≡ or_else (find k b) (find k a)
@@ -54,10 +54,10 @@ find-compose k =
     second v w a b i (yes e) = rw (find_head k w (compose (v ∷ a) b) e, find_head k w b e)
     second v w a b i (no e) = rw (find_past k w (compose (v ∷ a) b) e, find_past k w b e) i
 
-if_put_lem : (w : ℕ) → kind_of w ≡ 1 → if_put (Word w) ≡ Word w
+if_put_lem : (w : ℕ) → kind_of w ≡ 1 → if_put (Some w) ≡ Some w
 if_put_lem w e = rw (eq-eqb (kind_of w) 1 e)
 
-if_other : (w : ℕ) → (kind_of w ≡ 1 → ⊥) → if_put (Word w) ≡ Nothing
+if_other : (w : ℕ) → (kind_of w ≡ 1 → ⊥) → if_put (Some w) ≡ None
 if_other w n = rw (ne_eqb (kind_of w) 1 n)
 
 -- of the puts of a rising list is found what puts
@@ -79,18 +79,18 @@ module _ (k : ℕ) (m d : List ℕ) (hm : Map m) (hd : From 0 d) where
   found_in = find-puts k 0 (compose m d) (compose_rises m d 0 hm.rises hd) ∙ ap if_put (find-compose k m d 0 hd)
 
   -- "Applying a list puts or removes its offers and touches no other"
-  pub apply_puts : (w : ℕ) → find k d ≡ Word w → Put w → find k (apply m d) ≡ Word w
+  pub apply_puts : (w : ℕ) → find k d ≡ Some w → Put w → find k (apply m d) ≡ Some w
   apply_puts w e p = found_in ∙ ap (λ f. if_put (or_else f (find k m))) e ∙ if_put_lem w p
 
-  pub apply_removes : (w : ℕ) → find k d ≡ Word w → (Put w → ⊥) → find k (apply m d) ≡ Nothing
+  pub apply_removes : (w : ℕ) → find k d ≡ Some w → (Put w → ⊥) → find k (apply m d) ≡ None
   apply_removes w e p = found_in ∙ ap (λ f. if_put (or_else f (find k m))) e ∙ if_other w p
 
-  pub apply_leaves : find k d ≡ Nothing → find k (apply m d) ≡ find k m
+  pub apply_leaves : find k d ≡ None → find k (apply m d) ≡ find k m
   apply_leaves e = found_in ∙ ap (λ f. if_put (or_else f (find k m))) e ∙ go (find k m) refl
     where
       go : (f : Found) → find k m ≡ f → if_put f ≡ f
-      go (Word w) i = if_put_lem w (found_all Put k m hm.puts w i)
-      go Nothing i = refl
+      go (Some w) i = if_put_lem w (found_all Put k m hm.puts w i)
+      go None i = refl
 
 -- a map after changes is a map
 pub apply-Map : (m d : List ℕ) → From 0 m → From 0 d → Map (apply m d)
@@ -114,14 +114,14 @@ puts_before x b f g =
     ∙ ap if_put (sym (find-compose k x b 0 g))
     ∙ sym (find-puts k 0 _ after))
   where
-    again : (w : ℕ) → Dec (Put w) → if_put (if_put (Word w)) ≡ if_put (Word w)
+    again : (w : ℕ) → Dec (Put w) → if_put (if_put (Some w)) ≡ if_put (Some w)
     again w (yes p) = ap if_put (if_put_lem w p)
     again w (no p) = ap if_put (if_other w p) ∙ sym (if_other w p)
 
     once : (f g : Found) → if_put (or_else f (if_put g)) ≡ if_put (or_else f g)
-    once (Word w) g = refl
-    once Nothing (Word w) = again w (ℕ_discrete (kind_of w) 1)
-    once Nothing Nothing = refl
+    once (Some w) g = refl
+    once None (Some w) = again w (ℕ_discrete (kind_of w) 1)
+    once None None = refl
 
 -- applying one list and then another is applying their composition
 pub apply-compose : (m a b : List ℕ) → From 0 m → From 0 a → From 0 b → apply (apply m a) b ≡ apply m (compose a b)
@@ -129,7 +129,7 @@ unfolding apply
 apply-compose m a b f g h = puts_before (compose m a) b (compose_rises m a 0 f g) h ∙ ap puts (compose_assoc m a b)
 
 -- removing an offer that is not there changes nothing
-pub remove_absent : (m : List ℕ) (w : ℕ) → Map m → (Put w → ⊥) → find (offer_of w) m ≡ Nothing → apply m (w ∷ []) ≡ m
+pub remove_absent : (m : List ℕ) (w : ℕ) → Map m → (Put w → ⊥) → find (offer_of w) m ≡ None → apply m (w ∷ []) ≡ m
 remove_absent m w hm p e =
     rising_ext 0 _ _ (apply-Map m (w ∷ []) hm.rises alone).rises hm.rises (λ k. go k (ℕ_discrete (offer_of w) k))
   where

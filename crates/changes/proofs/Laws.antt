@@ -7,7 +7,7 @@ use mathlib.Core.List.{List, [], ◌∷◌, ◌++◌}
 use Prim.Native.Nat.{ℕ, ◌+◌, ◌≤◌}
 use lib.ListN.{length}
 use Rattle.entry.specs.Word.{offer_of, none_of, Put, Valid}
-use Rattle.changes.specs.declared.search.Found.TheVariants.{Word, Nothing}
+use Rattle.std.proofs.Common.{Some, None}
 use Rattle.changes.specs.Calculus.{find, or_else, compose, apply, compose_all, apply_all}
 use Rattle.changes.specs.Lists.{is_rising, From, All, Changes, Map}
 use Rattle.changes.specs.ReadSets.{read_of, over}
@@ -22,17 +22,17 @@ use Rattle.changes.proofs.Running
 
 -- "Applying a list puts or removes its offers and touches no other;"
 module _ (k : ℕ) (m d : List ℕ) (hm : Map m) (hd : From 0 d) where
-  pub apply_puts : (w : ℕ) → find k d ≡ Word w → Put w → find k (apply m d) ≡ Word w
+  pub apply_puts : (w : ℕ) → find k d ≡ Some w → Put w → find k (apply m d) ≡ Some w
   apply_puts = Applying.apply_puts k m d hm hd
 
-  pub apply_removes : (w : ℕ) → find k d ≡ Word w → (Put w → ⊥) → find k (apply m d) ≡ Nothing
+  pub apply_removes : (w : ℕ) → find k d ≡ Some w → (Put w → ⊥) → find k (apply m d) ≡ None
   apply_removes = Applying.apply_removes k m d hm hd
 
-  pub apply_leaves : find k d ≡ Nothing → find k (apply m d) ≡ find k m
+  pub apply_leaves : find k d ≡ None → find k (apply m d) ≡ find k m
   apply_leaves = Applying.apply_leaves k m d hm hd
 
 -- "removing an absent offer changes nothing."
-pub remove_absent : (m : List ℕ) (w : ℕ) → Map m → (Put w → ⊥) → find (offer_of w) m ≡ Nothing → apply m (w ∷ []) ≡ m
+pub remove_absent : (m : List ℕ) (w : ℕ) → Map m → (Put w → ⊥) → find (offer_of w) m ≡ None → apply m (w ∷ []) ≡ m
 remove_absent = Applying.remove_absent
 
 -- "Composition has the later word win for each offer, may pass 64 words, is associative, and has the empty list as its zero."

@@ -7,7 +7,7 @@ use native.Mathlib.Decide.{dec_lt}
 use native.Mathlib.Omega.{arith}
 use borrow.Author.Tests.{lt-ltb, le-ltb, eq-eqb, ne_eqb}
 use Rattle.entry.specs.Word.{kind_of, offer_of}
-use Rattle.changes.specs.declared.merge.Side.TheVariants.{Below, Same, Above}
+use Rattle.std.specs.declared.cmp.Ordering.TheVariants.{Less, Equal, Greater}
 use Rattle.changes.specs.Calculus.{side, compose, puts}
 
 -- where one number lies, seen from another
@@ -24,13 +24,13 @@ lies m n = go (dec_lt m n) (dec_lt n m)
     go (no l) (yes h) = higher h
     go (no l) (no h) = equal (omega arith)
 
-pub side_below : (m n : ℕ) → m < n → side m n ≡ Below
+pub side_below : (m n : ℕ) → m < n → side m n ≡ Less
 side_below m n h = rw (lt-ltb m n h)
 
-pub side_same : (m n : ℕ) → m ≡ n → side m n ≡ Same
+pub side_same : (m n : ℕ) → m ≡ n → side m n ≡ Equal
 side_same m n e = rw (le-ltb m n (omega arith), le-ltb n m (omega arith))
 
-pub side_above : (m n : ℕ) → n < m → side m n ≡ Above
+pub side_above : (m n : ℕ) → n < m → side m n ≡ Greater
 side_above m n h = rw (le-ltb m n (omega arith), lt-ltb n m h)
 
 -- Something of two lists, from the ends of a merge and the three ways in which the heads lie.

@@ -11,8 +11,8 @@ use lib.Seq.{ext_get_or}
 use borrow.Author.Tests.{eq-eqb, ne_eqb}
 use Rattle.entry.specs.Word.{kind_of, offer_of, none_of, Valid}
 use Rattle.entry.proofs.Laws.{none_word}
-use Rattle.changes.specs.declared.search.Found.{Found}
-use Rattle.changes.specs.declared.search.Found.TheVariants.{Word}
+use Rattle.changes.specs.Found.{Found}
+use Rattle.std.proofs.Common.{Some}
 use Rattle.changes.specs.Calculus.{find, if_put, puts}
 use Rattle.changes.specs.Lists.{From, All, Changes, Map}
 use Rattle.changes.specs.ReadSets.{found_or, read_of, over}
@@ -60,15 +60,15 @@ shown_offer : (m : List ℕ) (w : ℕ) → offer_of (found_or (find (offer_of w)
 unfolding read_of
 shown_offer m w = let e = read_offers m (w ∷ []) in cc
 
-pub find_read : (k : ℕ) (m ws : List ℕ) (v : ℕ) → find k ws ≡ Word v → find k (read_of m ws) ≡ Word (found_or (find k m) (none_of k))
+pub find_read : (k : ℕ) (m ws : List ℕ) (v : ℕ) → find k ws ≡ Some v → find k (read_of m ws) ≡ Some (found_or (find k m) (none_of k))
 unfolding read_of
 find_read k m [] v e = absurd (let z : ◌≡◌ {A = ℕ} 0 1 = cc (find_empty k) in omega arith)
 find_read k m (w ∷ ws) v e = go (find_read k m ws v) (ℕ_discrete (offer_of w) k)
   where
-    go : (find k ws ≡ Word v → find k (read_of m ws) ≡ Word (found_or (find k m) (none_of k))) → Dec (offer_of w ≡ k)
-        → find k (read_of m (w ∷ ws)) ≡ Word (found_or (find k m) (none_of k))
+    go : (find k ws ≡ Some v → find k (read_of m ws) ≡ Some (found_or (find k m) (none_of k))) → Dec (offer_of w ≡ k)
+        → find k (read_of m (w ∷ ws)) ≡ Some (found_or (find k m) (none_of k))
     go i (yes o) =
-        find_head k _ (read_of m ws) (shown_offer m w ∙ o) ∙ ap (λ (n : ℕ). Word (found_or (find n m) (none_of n))) o
+        find_head k _ (read_of m ws) (shown_offer m w ∙ o) ∙ ap (λ (n : ℕ). Some (found_or (find n m) (none_of n))) o
     go i (no o) =
         find_past k _ (read_of m ws) (λ z. o (sym (shown_offer m w) ∙ z)) ∙ i (sym (find_past k w ws o) ∙ e)
 
@@ -89,10 +89,10 @@ Valid-at [] h i b = absurd (omega arith)
 Valid-at (w ∷ ws) h zero b = h.0
 Valid-at (w ∷ ws) h (suc i) b = Valid-at ws h.1 i (omega arith)
 
-or_none : (w : ℕ) → Valid w → found_or (if_put (Word w)) (none_of (offer_of w)) ≡ w
+or_none : (w : ℕ) → Valid w → found_or (if_put (Some w)) (none_of (offer_of w)) ≡ w
 or_none w v = go (ℕ_discrete (kind_of w) 1)
   where
-    go : Dec (kind_of w ≡ 1) → found_or (if_put (Word w)) (none_of (offer_of w)) ≡ w
+    go : Dec (kind_of w ≡ 1) → found_or (if_put (Some w)) (none_of (offer_of w)) ≡ w
     go (yes e) = rw (eq-eqb (kind_of w) 1 e)
     go (no n) =
         let removes : kind_of w ≡ 0 = omega (arith, v.0) in

@@ -8,8 +8,8 @@ use native.Mathlib.Omega.{arith}
 use lib.ListN.{length, drop, get_or, length-map, drop_of_length-le}
 use Rattle.entry.specs.Word.{kind_of, offer_of, none_of, Put, Valid}
 use Rattle.entry.proofs.Laws.{none_word, offer_small, offer_built}
-use Rattle.changes.specs.declared.search.Found.{Found}
-use Rattle.changes.specs.declared.search.Found.TheVariants.{Word, Nothing}
+use Rattle.changes.specs.Found.{Found}
+use Rattle.std.proofs.Common.{Some, None}
 use Rattle.changes.specs.Calculus.{find, or_else, compose, apply}
 use Rattle.changes.specs.Lists.{From, All, Changes, Map}
 use Rattle.changes.specs.ReadSets.{found_or, read_of, over}
@@ -35,8 +35,8 @@ or_offer : (k : ℕ) (l : List ℕ) (w : ℕ) → offer_of w ≡ k → offer_of 
 or_offer k l w e = go (find k l) refl
   where
     go : (f : Found) → find k l ≡ f → offer_of (found_or f w) ≡ k
-    go (Word v) i = found_offer k l v i
-    go Nothing i = e
+    go (Some v) i = found_offer k l v i
+    go None i = e
 
 shown_offer : (m : List ℕ) (w : ℕ) → offer_of (shown m w) ≡ offer_of w
 shown_offer m w = or_offer (offer_of w) m (none_of (offer_of w)) (none_offer w)
@@ -81,7 +81,7 @@ module _ (m d : List ℕ) (hm : Map m) (hd : Changes d) where
       k : ℕ
       k = offer_of w
 
-      put : (v : ℕ) → find (offer_of w) d ≡ Word v → Dec (Put v) → v ≡ shown (apply m d) w
+      put : (v : ℕ) → find (offer_of w) d ≡ Some v → Dec (Put v) → v ≡ shown (apply m d) w
       put v e (yes p) = sym (ap (λ (f : Found). found_or f (none_of (offer_of w))) (apply_puts (offer_of w) m d hm hd.rises v e p))
       put v e (no p) =
           let valid : Valid v = found_all Valid (offer_of w) d hd.valid v e in
@@ -91,8 +91,8 @@ module _ (m d : List ℕ) (hm : Map m) (hd : Changes d) where
           ∙ sym (ap (λ (f : Found). found_or f (none_of (offer_of w))) (apply_removes (offer_of w) m d hm hd.rises v e p))
 
       go : (f : Found) → find (offer_of w) d ≡ f → found_or f (shown m w) ≡ shown (apply m d) w
-      go (Word v) e = put v e (ℕ_discrete (kind_of v) 1)
-      go Nothing e = sym (ap (λ (f : Found). found_or f (none_of (offer_of w))) (apply_leaves (offer_of w) m d hm hd.rises e))
+      go (Some v) e = put v e (ℕ_discrete (kind_of v) 1)
+      go None e = sym (ap (λ (f : Found). found_or f (none_of (offer_of w))) (apply_leaves (offer_of w) m d hm hd.rises e))
 
   pub read_changed : (ws : List ℕ) → over (read_of m ws) d ≡ read_of (apply m d) ws
   unfolding read_of over
@@ -106,8 +106,8 @@ over-compose [] a b f = refl
 over-compose (w ∷ rs) a b f = ap₂ ◌∷◌ one (over-compose rs a b f)
   where
     pick : (f g : Found) → found_or f (found_or g w) ≡ found_or (or_else f g) w
-    pick (Word v) g = refl
-    pick Nothing g = refl
+    pick (Some v) g = refl
+    pick None g = refl
 
     one : changed b (changed a w) ≡ changed (compose a b) w
     one =
@@ -153,8 +153,8 @@ All-over [] d h g = tt
 All-over (w ∷ rs) d h g = (go (find (offer_of w) d) refl, All-over rs d h.1 g)
   where
     go : (f : Found) → find (offer_of w) d ≡ f → Valid (found_or f w)
-    go (Word v) e = found_all Valid (offer_of w) d g v e
-    go Nothing e = h.0
+    go (Some v) e = found_all Valid (offer_of w) d g v e
+    go None e = h.0
 
 pub over-Changes : (rs d : List ℕ) → Changes rs → Changes d → Changes (over rs d)
 over-Changes rs d h g =
@@ -169,10 +169,10 @@ all_read m [] h = tt
 all_read m (w ∷ ws) h = (go (find (offer_of w) m) refl, all_read m ws h)
   where
     go : (f : Found) → find (offer_of w) m ≡ f → Valid (found_or f (none_of (offer_of w)))
-    go (Word v) e =
+    go (Some v) e =
         let put : Put v = found_all Put (offer_of w) m h v e in
         (omega arith, λ z. absurd (omega arith))
-    go Nothing e = (omega arith, λ z. omega arith)
+    go None e = (omega arith, λ z. omega arith)
 
 pub read_Changes : (m ws : List ℕ) → Map m → From 0 ws → Changes (read_of m ws)
 read_Changes m ws h f =

@@ -2,39 +2,39 @@
 -- Assumes nothing.
 use Rattle.std.specs.Prelude.{cond, List, [], ◌∷◌, ℕ, ltb, eqb}
 use Rattle.entry.specs.Word.{offer_of, is_put}
-use Rattle.changes.specs.declared.merge.Side.{Side}
-use Rattle.changes.specs.declared.merge.Side.TheVariants.{Below, Same, Above}
-use Rattle.changes.specs.declared.search.Found.{Found}
-use Rattle.changes.specs.declared.search.Found.TheVariants.{Word, Nothing}
+use Rattle.std.specs.declared.cmp.Ordering.{Ordering}
+use Rattle.std.specs.declared.cmp.Ordering.TheVariants.{Less, Equal, Greater}
+use Rattle.changes.specs.Found.{Found}
+use Rattle.std.specs.Prelude.{Some, None}
 
 -- the word of a list at an offer
 unfoldable pub find : ℕ → List ℕ → Found
-find k [] = Nothing
-find k (w ∷ l) = cond (eqb (offer_of w) k) (Word w) (find k l)
+find k [] = None
+find k (w ∷ l) = cond (eqb (offer_of w) k) (Some w) (find k l)
 
 -- the first of two searches that found something
 abbrev pub or_else : Found → Found → Found
-or_else (Word w) f = Word w
-or_else Nothing f = f
+or_else (Some w) f = Some w
+or_else None f = f
 
 -- what was found, if it is of kind 1
 abbrev pub if_put : Found → Found
-if_put (Word w) = cond (is_put w) (Word w) Nothing
-if_put Nothing = Nothing
+if_put (Some w) = cond (is_put w) (Some w) None
+if_put None = None
 
 -- where a number lies, seen from another
-abbrev pub side : ℕ → ℕ → Side
-side m n = cond (ltb m n) Below (cond (ltb n m) Above Same)
+abbrev pub side : ℕ → ℕ → Ordering
+side m n = cond (ltb m n) Less (cond (ltb n m) Greater Equal)
 
 -- where the first offer of some words lies, seen from a word's offer; where there is none, above
-unfoldable pub side_of : List ℕ → ℕ → Side
-side_of [] w = Above
+unfoldable pub side_of : List ℕ → ℕ → Ordering
+side_of [] w = Greater
 side_of (v ∷ l) w = side (offer_of v) (offer_of w)
 
-abbrev pub by_side {ℓ} : {A : Type ℓ} → Side → A → A → A → A
-by_side Below x y z = x
-by_side Same x y z = y
-by_side Above x y z = z
+abbrev pub by_side {ℓ} : {A : Type ℓ} → Ordering → A → A → A → A
+by_side Less x y z = x
+by_side Equal x y z = y
+by_side Greater x y z = z
 
 -- "Composition has the later word win for each offer": a merge in which the word of b, the later list, replaces that of a
 unfoldable pub compose : List ℕ → List ℕ → List ℕ

@@ -1,3 +1,4 @@
+pub mod Found
 pub mod Lists
 pub mod Calculus
 pub mod ReadSets

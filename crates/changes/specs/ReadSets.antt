@@ -3,14 +3,14 @@
 -- Assumes nothing.
 use Rattle.std.specs.Prelude.{List, map, ℕ}
 use Rattle.entry.specs.Word.{offer_of, none_of}
-use Rattle.changes.specs.declared.search.Found.{Found}
-use Rattle.changes.specs.declared.search.Found.TheVariants.{Word, Nothing}
+use Rattle.changes.specs.Found.{Found}
+use Rattle.std.specs.Prelude.{Some, None}
 use Rattle.changes.specs.Calculus.{find}
 
 -- the word that was found, or else another
 abbrev pub found_or : Found → ℕ → ℕ
-found_or (Word v) w = v
-found_or Nothing w = w
+found_or (Some v) w = v
+found_or None w = w
 
 -- the read set of a map at the offers of a list: for each the word that shows its price, or none
 unfoldable pub read_of : List ℕ → List ℕ → List ℕ

@@ -4,7 +4,7 @@
 use Rattle.std.specs.Prelude.{not, List, [], ◌∷◌, ◌++◌, ℕ, ◌+◌, ◌-◌, ltb, eqb, length, take, drop, set}
 use Rattle.changes.specs.Lists.{is_list}
 use Rattle.changes.specs.Runs.{start_of}
-use Rattle.answers.specs.declared.answer.Check.{Check}
+use Rattle.answers.specs.Check.{Check}
 use Rattle.answers.specs.declared.ground.Ground.TheVariants.{BadList, LastState, StepsFull, JournalFull}
 use Rattle.answers.specs.First.{Test, met, first, if_passed}
 use Rattle.layout.specs.declared.head.Head.{Head}

@@ -3,7 +3,7 @@
 use mathlib.Core.Bool.{cond}
 use mathlib.Core.Path.{◌≡◌, ap, ◌∙◌}
 use mathlib.Core.List.{List, ◌∷◌}
-use Prim.Native.Nat.{ℕ, ◌+◌, ◌-◌, ◌≤◌, ◌<◌}
+use Prim.Native.Nat.{ℕ, ◌+◌, ◌≤◌, ◌<◌}
 use native.Mathlib.Omega.{arith}
 use borrow.Author.Tests.{lt-ltb, le-ltb}
 use lib.Dec.{ltb}
@@ -12,7 +12,7 @@ use Rattle.entry.specs.Word.{offer_of}
 use Rattle.changes.specs.Calculus.{compose}
 use Rattle.changes.proofs.Merging.{Lies, lower, equal, higher, lies, compose-nil, nil-compose}
 use Rattle.composing.proofs.Positions.{compose_at_below, compose_at_same, compose_at_above}
-use Rattle.words.proofs.Writing.{Writing, start, stored}
+use Rattle.words.proofs.Writing.{Writing, stored}
 
 -- i words of the earlier and j of the later list are passed, and k words are written
 pub record Composing (a b out out₀ : List ℕ) (i j k : ℕ) : Type 0 where
@@ -21,9 +21,6 @@ pub record Composing (a b out out₀ : List ℕ) (i j k : ℕ) : Type 0 where
   pub few : k ≤ i + j
   pub room : length a + length b ≤ length out
   pub writing : Writing out out₀ k (compose (drop i a) (drop j b)) (compose a b)
-
-pub composing : (a b out : List ℕ) → length a + length b ≤ length out → Composing a b out out 0 0 0
-composing a b out h = record { i_in = omega arith; j_in = omega arith; few = omega arith; room = h; writing = start out (compose a b) }
 
 module _ {a b out out₀ : List ℕ} {i j k : ℕ} (c : Composing a b out out₀ i j k) where
   -- a word is stored that comes first in what is left, and the positions go on
@@ -50,7 +47,7 @@ module _ {a b out out₀ : List ℕ} {i j k : ℕ} (c : Composing a b out out₀
     module _ (x p q : ℕ) (ex : x ≡ cond (ltb (offer_of v) (offer_of w)) v w)
         (ep : p ≡ cond (ltb (offer_of w) (offer_of v)) i (i + 1)) (eq : q ≡ cond (ltb (offer_of v) (offer_of w)) j (j + 1)) where
       abbrev Iteration : Type 0
-      Iteration = Composing a b (set out k x) out₀ p q (k + 1) × ((length a - p) + (length b - q) < (length a - i) + (length b - j))
+      Iteration = Composing a b (set out k x) out₀ p q (k + 1)
 
       pub iteration : Iteration
       iteration = go (lies (offer_of v) (offer_of w))
@@ -58,13 +55,13 @@ module _ {a b out out₀ : List ℕ} {i j k : ℕ} (c : Composing a b out out₀
           go : Lies (offer_of v) (offer_of w) → Iteration
           go (lower e) =
               rw (ex, ep, eq, lt-ltb (offer_of v) (offer_of w) e, le-ltb (offer_of w) (offer_of v) (omega arith))
-              (taken v (i + 1) j (omega arith) c.j_in (omega arith) (compose_at_below a b i j g h e), omega arith)
+              (taken v (i + 1) j (omega arith) c.j_in (omega arith) (compose_at_below a b i j g h e))
           go (equal e) =
               rw (ex, ep, eq, le-ltb (offer_of v) (offer_of w) (omega arith), le-ltb (offer_of w) (offer_of v) (omega arith))
-              (taken w (i + 1) (j + 1) (omega arith) (omega arith) (omega arith) (compose_at_same a b i j g h e), omega arith)
+              (taken w (i + 1) (j + 1) (omega arith) (omega arith) (omega arith) (compose_at_same a b i j g h e))
           go (higher e) =
               rw (ex, ep, eq, le-ltb (offer_of v) (offer_of w) (omega arith), lt-ltb (offer_of w) (offer_of v) e)
-              (taken w i (j + 1) c.i_in (omega arith) (omega arith) (compose_at_above a b i j g h e), omega arith)
+              (taken w i (j + 1) c.i_in (omega arith) (omega arith) (compose_at_above a b i j g h e))
 
   pub left_earlier : length b ≤ j → compose (drop i a) (drop j b) ≡ drop i a
   left_earlier h = ap (compose (drop i a)) (drop_of_length-le b h) ∙ compose-nil (drop i a)

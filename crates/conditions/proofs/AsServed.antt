@@ -5,12 +5,12 @@ use mathlib.Core.Bool.{Bool, true, false, cond}
 use mathlib.Core.List.{List}
 use Prim.Native.Nat.{ℕ}
 use native.Mathlib.Omega.{arith}
-use Rattle.answers.specs.declared.answer.Answer.{Answer}
+use Rattle.answers.specs.Check.{Answered}
 use Rattle.answers.specs.declared.call.Call.{Call}
 use Rattle.answers.specs.declared.call.Call.TheVariants.{Reset, Step, Read, Ask}
 use Rattle.answers.specs.declared.call.Query.{Query}
 use Rattle.answers.specs.Answers.{Said, is_accepted}
-use Rattle.layout.specs.declared.head.Reply.{Reply}
+use Rattle.unit.specs.Serve.{Reply}
 use Rattle.calls.specs.Meaning.{performed}
 use Rattle.head_words.specs.HeadWords.{head_of, words_of, is_head}
 use Rattle.head_words.proofs.Theorems.{words_back}
@@ -41,7 +41,7 @@ module _ (m : Memory) (words bytes : List ℕ) (r : Result) (s : Seen) where
         words = words_are m words bytes r call p fit ∙ sym serves.4;
         bytes = bytes_are m words bytes r call p fit ∙ sym serves.5;
         head = p.0.3
-            ∙ ap (λ (a : Answer). cond (is_accepted a)
+            ∙ ap (λ (a : Answered). cond (is_accepted a)
             (words_of (performed (lent_to (carried_in m) (lending call words bytes)) call).lent.head)
             m.head) (answer_on m words bytes call fit)
             ∙ sym (ap (λ (x : Reply). cond (is_accepted x.answer) (words_of x.head) m.head) serves.0.0);

@@ -9,22 +9,21 @@ use borrow.Author.Tests.{eqb-true, not-false}
 use lib.Dec.{eqb, ltb, leb}
 use lib.ListN.{length}
 use Rattle.entry.specs.Word.{is_put, Put, price_of, put_of, none_of}
-use Rattle.changes.specs.declared.search.Found.{Found}
-use Rattle.changes.specs.declared.search.Found.TheVariants.{Word, Nothing}
+use Rattle.changes.specs.Found.{Found}
+use Rattle.std.proofs.Common.{Some, None}
 use Rattle.changes.specs.Calculus.{find, compose}
 use Rattle.changes.specs.Lists.{is_list}
 use Rattle.changes.specs.ReadSets.{over}
 use Rattle.changes.proofs.ListTest.{and_both}
-use Rattle.answers.specs.declared.answer.Check.{Check}
-use Rattle.answers.specs.declared.answer.Check.TheVariants.{Passed, Refused}
+use Rattle.answers.specs.Check.{Check}
+use Rattle.std.proofs.Common.{Ok, Err}
 use Rattle.answers.specs.declared.ground.Ground.{Ground}
 use Rattle.answers.specs.declared.ground.Ground.TheVariants.{BadList, BadOrder, OfferNotRead, OrderNoPrice, PriceRange}
 use Rattle.answers.specs.Answers.{ground_in, said_by_check}
 use Rattle.answers.specs.First.{met, first}
 use Rattle.answers.specs.Numbers.{number_of}
 use Rattle.answers.proofs.Firsts.{passed_not}
-use Rattle.orders.specs.declared.effects.Effect.{Effect}
-use Rattle.orders.specs.declared.effects.Effect.TheVariants.{Change, Fails}
+use Rattle.orders.specs.Effect.{Effect}
 use Rattle.orders.specs.Orders.{Kind, lists, withdraws, raises, cuts, keeps, unknown, kind_named, order_kind, order_amount}
 use Rattle.orders.specs.Orders.{order_offer, allowed_with, is_allowed}
 use Rattle.orders.specs.Effects.{put_at, with_price, sixteenths, effect_by, effect}
@@ -45,32 +44,32 @@ abbrev nine_or_ten : ℕ → Bool
 nine_or_ten n = eqb n 9 || eqb n 10
 
 abbrev number_in : Effect → ℕ
-number_in (Change w) = 0
-number_in (Fails ground) = number_of ground
+number_in (Ok w) = 0
+number_in (Err ground) = number_of ground
 
 number_is : (n m : ℕ) → fails n ≡ fails m → n ≡ m
 number_is n m e = cc
 
 abbrev FailsSo : Effect → Type 0
-FailsSo e = (ground : Ground) → e ≡ Fails ground → nine_or_ten (number_of ground) ≡ true
+FailsSo e = (ground : Ground) → e ≡ Err ground → nine_or_ten (number_of ground) ≡ true
 
 -- a test that fails by one of the two, or goes on
-by_test : (t : Bool) (f : Effect) (g : Ground) → nine_or_ten (number_of g) ≡ true → FailsSo f → FailsSo (cond t f (Fails g))
+by_test : (t : Bool) (f : Effect) (g : Ground) → nine_or_ten (number_of g) ≡ true → FailsSo f → FailsSo (cond t f (Err g))
 by_test true f g n h ground e = h ground e
 by_test false f g n h ground e = ap (λ (x : Effect). nine_or_ten (number_in x)) (sym e) ∙ n
 
-changed : (w : ℕ) → FailsSo (Change w)
+changed : (w : ℕ) → FailsSo (Ok w)
 changed w ground e = absurd (let z : ◌≡◌ {A = ℕ} 0 1 = cc in omega arith)
 
 put_fails : (offer price : ℕ) → FailsSo (put_at offer price)
 unfolding put_at
-put_fails offer price = by_test (ltb price (2 ^ 32)) (Change (put_of offer price)) PriceRange refl (changed (put_of offer price))
+put_fails offer price = by_test (ltb price (2 ^ 32)) (Ok (put_of offer price)) PriceRange refl (changed (put_of offer price))
 
 with_price_lem : (found : Found) (f : ℕ → Effect) → ((price : ℕ) → FailsSo (f price)) → FailsSo (with_price found f)
 unfolding with_price
-with_price_lem (Word w) f h = by_test (is_put w) (f (price_of w)) OrderNoPrice refl (h (price_of w))
-with_price_lem Nothing f h =
-    by_test false (Fails OrderNoPrice) OrderNoPrice refl (λ ground e. ap (λ (x : Effect). nine_or_ten (number_in x)) (sym e))
+with_price_lem (Some w) f h = by_test (is_put w) (f (price_of w)) OrderNoPrice refl (h (price_of w))
+with_price_lem None f h =
+    by_test false (Err OrderNoPrice) OrderNoPrice refl (λ ground e. ap (λ (x : Effect). nine_or_ten (number_in x)) (sym e))
 
 by_kind : (named : Kind) (kind amount offer : ℕ) (found : Found) → allowed_with named amount ≡ true
     → FailsSo (effect_by named kind amount offer found)
@@ -79,7 +78,7 @@ by_kind withdraws kind amount offer found y = changed (none_of offer)
 by_kind raises kind amount offer found y =
     with_price_lem found (λ price. put_at offer (price + amount)) (λ price. put_fails offer (price + amount))
 by_kind cuts kind amount offer found y =
-    with_price_lem found (λ price. cond (leb amount price) (put_at offer (price - amount)) (Fails PriceRange))
+    with_price_lem found (λ price. cond (leb amount price) (put_at offer (price - amount)) (Err PriceRange))
     (λ price. by_test (leb amount price) (put_at offer (price - amount)) PriceRange refl (put_fails offer (price - amount)))
 by_kind keeps kind amount offer found y =
     with_price_lem found (λ price. put_at offer (sixteenths kind amount price)) (λ price. put_fails offer (sixteenths kind amount price))
@@ -92,8 +91,8 @@ effect_fails o found y = by_kind (kind_named (order_kind o)) (order_kind o) (ord
 -- the first order that fails
 next-fails : (f : Effect) (rest : ℕ → Executed) (n : ℕ) → FailsSo f → ((w : ℕ) → rest w ≡ fails n → nine_or_ten n ≡ true)
     → next f rest ≡ fails n → nine_or_ten n ≡ true
-next-fails (Change w) rest n h go e = go w e
-next-fails (Fails ground) rest n h go e = ap nine_or_ten (sym (number_is (number_of ground) n e)) ∙ h ground refl
+next-fails (Ok w) rest n h go e = go w e
+next-fails (Err ground) rest n h go e = ap nine_or_ten (sym (number_is (number_of ground) n e)) ∙ h ground refl
 
 execute-fails : (see : List ℕ → ℕ → Found) (d os : List ℕ) (n : ℕ) → list_all is_allowed os ≡ true → execute see d os ≡ fails n
     → nine_or_ten n ≡ true
@@ -105,15 +104,15 @@ execute-fails see d (o ∷ os) n y e =
     (effect_fails o (see d (order_offer o)) b.0) (λ w. execute-fails see (compose d (w ∷ [])) os n b.1) e
 
 -- over 64 orders are ground 6, whether the read set is a list or not
-over_64 : (reads orders : List ℕ) → 65 ≤ length orders → checked reads orders ≡ Refused BadList
+over_64 : (reads orders : List ℕ) → 65 ≤ length orders → checked reads orders ≡ Err BadList
 over_64 reads orders h = go (is_list reads) refl
   where
-    go : (t : Bool) → is_list reads ≡ t → checked reads orders ≡ Refused BadList
+    go : (t : Bool) → is_list reads ≡ t → checked reads orders ≡ Err BadList
     go true e = stop_many reads orders e (omega arith)
     go false e = stop_list reads orders e
 
 -- a batch that passed has orders of known kinds
-allowed : (reads orders : List ℕ) → checked reads orders ≡ Passed → list_all is_allowed orders ≡ true
+allowed : (reads orders : List ℕ) → checked reads orders ≡ (Ok tt) → list_all is_allowed orders ≡ true
 unfolding checked
 allowed reads orders e =
     let a = passed_not _ _ _ e in
@@ -160,13 +159,13 @@ unfolding is_allowed
 other_kinds o = other_allowed (kind_named (order_kind o)) (order_amount o)
 
 -- ground 9
-none_shown : (found : Found) (f : ℕ → Effect) → is_shown found ≡ false → with_price found f ≡ Fails OrderNoPrice
+none_shown : (found : Found) (f : ℕ → Effect) → is_shown found ≡ false → with_price found f ≡ Err OrderNoPrice
 unfolding with_price
-none_shown (Word w) f e = rw e refl
-none_shown Nothing f e = refl
+none_shown (Some w) f e = rw e refl
+none_shown None f e = refl
 
 none_by_kind : (named : Kind) (kind amount offer : ℕ) (found : Found) → alters named ≡ true → is_shown found ≡ false
-    → effect_by named kind amount offer found ≡ Fails OrderNoPrice
+    → effect_by named kind amount offer found ≡ Err OrderNoPrice
 none_by_kind lists kind amount offer found y e = absurd (let z : ◌≡◌ {A = ℕ} 0 1 = cc in omega arith)
 none_by_kind withdraws kind amount offer found y e = absurd (let z : ◌≡◌ {A = ℕ} 0 1 = cc in omega arith)
 none_by_kind raises kind amount offer found y e = none_shown found _ e
@@ -175,35 +174,35 @@ none_by_kind keeps kind amount offer found y e = none_shown found _ e
 none_by_kind unknown kind amount offer found y e = absurd (let z : ◌≡◌ {A = ℕ} 0 1 = cc in omega arith)
 
 without_a_price : (o : ℕ) (found : Found) → alters (kind_named (order_kind o)) ≡ true → is_shown found ≡ false
-    → effect o found ≡ Fails OrderNoPrice
+    → effect o found ≡ Err OrderNoPrice
 unfolding effect
 without_a_price o found = none_by_kind (kind_named (order_kind o)) (order_kind o) (order_amount o) (order_offer o) found
 
 -- what orders make of a price that is shown
 module _ (o w : ℕ) (put : Put w) where
   raise_low : order_kind o ≡ 2 → price_of w + order_amount o < 2 ^ 32
-      → effect o (Word w) ≡ Change (put_of (order_offer o) (price_of w + order_amount o))
-  raise_low e h = effect_as o (Word w) (kind_raises (order_kind o) e) ∙ raise_fits (order_offer o) (order_amount o) w put h
+      → effect o (Some w) ≡ Ok (put_of (order_offer o) (price_of w + order_amount o))
+  raise_low e h = effect_as o (Some w) (kind_raises (order_kind o) e) ∙ raise_fits (order_offer o) (order_amount o) w put h
 
-  raise_high : order_kind o ≡ 2 → 2 ^ 32 ≤ price_of w + order_amount o → effect o (Word w) ≡ Fails PriceRange
-  raise_high e h = effect_as o (Word w) (kind_raises (order_kind o) e) ∙ raise_over (order_offer o) (order_amount o) w put h
+  raise_high : order_kind o ≡ 2 → 2 ^ 32 ≤ price_of w + order_amount o → effect o (Some w) ≡ Err PriceRange
+  raise_high e h = effect_as o (Some w) (kind_raises (order_kind o) e) ∙ raise_over (order_offer o) (order_amount o) w put h
 
-  cut_low : order_kind o ≡ 3 → order_amount o ≤ price_of w → effect o (Word w)
-      ≡ Change (put_of (order_offer o) (price_of w - order_amount o))
-  cut_low e h = effect_as o (Word w) (kind_cuts (order_kind o) e) ∙ cut_fits (order_offer o) (order_amount o) w put h
+  cut_low : order_kind o ≡ 3 → order_amount o ≤ price_of w → effect o (Some w)
+      ≡ Ok (put_of (order_offer o) (price_of w - order_amount o))
+  cut_low e h = effect_as o (Some w) (kind_cuts (order_kind o) e) ∙ cut_fits (order_offer o) (order_amount o) w put h
 
-  cut_deep : order_kind o ≡ 3 → price_of w < order_amount o → effect o (Word w) ≡ Fails PriceRange
-  cut_deep e h = effect_as o (Word w) (kind_cuts (order_kind o) e) ∙ cut_under (order_offer o) (order_amount o) w put h
+  cut_deep : order_kind o ≡ 3 → price_of w < order_amount o → effect o (Some w) ≡ Err PriceRange
+  cut_deep e h = effect_as o (Some w) (kind_cuts (order_kind o) e) ∙ cut_under (order_offer o) (order_amount o) w put h
 
   keeps_share : 16 ≤ order_kind o → order_kind o ≤ 31
-      → effect o (Word w) ≡ Change (put_of (order_offer o) (sixteenths (order_kind o) (order_amount o) (price_of w)))
+      → effect o (Some w) ≡ Ok (put_of (order_offer o) (sixteenths (order_kind o) (order_amount o) (price_of w)))
   keeps_share l h =
-      effect_as o (Word w) (kind_keeps (order_kind o) l h) ∙ keep_fits (order_offer o) (order_amount o) w put (order_kind o) _ refl
+      effect_as o (Some w) (kind_keeps (order_kind o) l h) ∙ keep_fits (order_offer o) (order_amount o) w put (order_kind o) _ refl
       (sixteenths_small (order_kind o) (order_amount o) (price_of w) h (omega arith) (omega arith))
 
 -- the number by which a batch is refused
 tested_number : (a b c d : Bool) (ground : Ground)
-    → first (met a BadList ∷ met b BadList ∷ met c BadOrder ∷ met d OfferNotRead ∷ []) ≡ Refused ground → number_of ground ≤ 8
+    → first (met a BadList ∷ met b BadList ∷ met c BadOrder ∷ met d OfferNotRead ∷ []) ≡ Err ground → number_of ground ≤ 8
 unfolding first
 tested_number true b c d ground e = omega (arith, ap (λ (k : Check). ground_in (said_by_check k)) e)
 tested_number false true c d ground e = omega (arith, ap (λ (k : Check). ground_in (said_by_check k)) e)
@@ -211,7 +210,7 @@ tested_number false false true d ground e = omega (arith, ap (λ (k : Check). gr
 tested_number false false false true ground e = omega (arith, ap (λ (k : Check). ground_in (said_by_check k)) e)
 tested_number false false false false ground e = omega (arith, ap (λ (k : Check). ground_in (said_by_check k)) e)
 
-stopped_number : (reads orders : List ℕ) (ground : Ground) → checked reads orders ≡ Refused ground → number_of ground ≤ 8
+stopped_number : (reads orders : List ℕ) (ground : Ground) → checked reads orders ≡ Err ground → number_of ground ≤ 8
 unfolding checked
 stopped_number reads orders =
     tested_number (not (is_list reads)) (ltb 64 (length orders)) (not (list_all is_allowed orders)) (not (list_all (is_read reads) orders))
@@ -224,7 +223,7 @@ low_number n e = go (eqb n 9) refl (eqb n 10) refl e
     go false i true j e = (omega (arith, eqb-true n 10 j), omega (arith, eqb-true n 10 j))
     go false i false j e = absurd (let z : ◌≡◌ {A = ℕ} 0 1 = cc in omega arith)
 
-priced-fails : (reads orders : List ℕ) (n : ℕ) → checked reads orders ≡ Passed → priced reads orders ≡ fails n → nine_or_ten n ≡ true
+priced-fails : (reads orders : List ℕ) (n : ℕ) → checked reads orders ≡ (Ok tt) → priced reads orders ≡ fails n → nine_or_ten n ≡ true
 unfolding priced
 priced-fails reads orders n c p = execute-fails (λ d offer. find offer (over reads d)) [] orders n (allowed reads orders c) p
 
@@ -236,7 +235,7 @@ short_fails room n d = go (leb (length d) room)
     go false e = (omega (arith, number_is 17 n e), omega (arith, number_is 17 n e))
 
 module _ (reads orders : List ℕ) (room n : ℕ) (e : batch reads orders room ≡ fails n) where
-  by_executed : (executed : Executed) → priced reads orders ≡ executed → checked reads orders ≡ Passed → (1 ≤ n) × (n ≤ 17)
+  by_executed : (executed : Executed) → priced reads orders ≡ executed → checked reads orders ≡ (Ok tt) → (1 ≤ n) × (n ≤ 17)
   by_executed (fails k) p c =
       let same = number_is k n (sym (batch_executes reads orders room c ∙ ap (fitting room) p) ∙ e) in
       let low = low_number k (priced-fails reads orders k c p) in
@@ -244,8 +243,8 @@ module _ (reads orders : List ℕ) (room n : ℕ) (e : batch reads orders room �
   by_executed (done d) p c = short_fails room n d (sym (batch_executes reads orders room c ∙ ap (fitting room) p) ∙ e)
 
   by_check : (c : Check) → checked reads orders ≡ c → (1 ≤ n) × (n ≤ 17)
-  by_check Passed c = by_executed (priced reads orders) refl c
-  by_check (Refused ground) c =
+  by_check (Ok tt) c = by_executed (priced reads orders) refl c
+  by_check (Err ground) c =
       let same = number_is (number_of ground) n (sym (batch_stopped reads orders room c) ∙ e) in
       (omega (arith, same, (number_range ground).0), omega (arith, same, stopped_number reads orders ground c))
 

@@ -7,16 +7,17 @@ use Prim.Native.Nat.{ℕ, ◌+◌, ◌≤◌, min}
 use native.Mathlib.Omega.{arith}
 use lib.ListN.{length}
 use Rattle.changes.specs.Lists.{All}
-use Rattle.answers.specs.declared.answer.Answer.{Answer}
-use Rattle.answers.specs.declared.answer.Answer.TheVariants.{Done, Price, NoPrice, Count, Refused as Away}
-use Rattle.answers.specs.declared.answer.Check.{Check}
-use Rattle.answers.specs.declared.answer.Check.TheVariants.{Passed, Refused}
+use Rattle.answers.specs.Check.{Answered}
+use Rattle.answers.specs.declared.answer.Answer.TheVariants.{Done, Quoted, Count}
+use Rattle.answers.specs.Check.{Check}
+use Rattle.std.proofs.Common.{Ok, Err}
 use Rattle.answers.specs.declared.call.Call.{Call}
 use Rattle.answers.specs.declared.call.Call.TheVariants.{Reset, Step, Read, Ask}
 use Rattle.answers.specs.declared.call.Query.{Query}
 use Rattle.answers.specs.declared.call.Reset.{Reset as ResetCall}
 use Rattle.answers.specs.declared.ground.Ground.TheVariants.{Lengths, Unsound}
-use Rattle.answers.specs.Answers.{said_by, is_accepted}
+use Rattle.std.proofs.Common.{Option, Some, None}
+use Rattle.answers.specs.Answers.{said_by, is_accepted, said_by_price, said_by_since, When, is_granted}
 use Rattle.answers.specs.Counts.{largest, resets}
 use Rattle.big_endian.specs.Bytes.{Byte}
 use Rattle.layout.specs.Clauses.{are_lengths}
@@ -87,14 +88,14 @@ module _ (m : Memory) (w b : List ℕ) (call : Call) (fit : is_fit m.head call �
   pub head_on : (is_accepted left.answer ≡ false → words_of (head_of m.head) ≡ m.head)
       → head_after m.table m.journal w b m.head m.tally call ≡ words_of left.lent.head
   head_on back =
-      ap (λ (a : Answer). cond (is_accepted a) (words_of left.lent.head) m.head) answer_on
+      ap (λ (a : Answered). cond (is_accepted a) (words_of left.lent.head) m.head) answer_on
       ∙ head_by (is_accepted left.answer) refl back
 
 -- what such a function answers, and the memory that it leaves
 module _ (m : Memory) (words bytes : List ℕ) (r : Result) (call : Call) (p : ChangesStore m words bytes r call)
     (fit : is_fit m.head call ≡ true) where
   pub code_is : r.code ≡ code_of (said_by (performed (lent_to (carried_in m) (lending call words bytes)) call).answer)
-  code_is = p.0.0 ∙ ap (λ (a : Answer). code_of (said_by a)) (answer_on m words bytes call fit)
+  code_is = p.0.0 ∙ ap (λ (a : Answered). code_of (said_by a)) (answer_on m words bytes call fit)
 
   pub words_are : r.words ≡ (performed (lent_to (carried_in m) (lending call words bytes)) call).lent.words
   words_are = p.1 ∙ words_on m words bytes call fit
@@ -103,7 +104,7 @@ module _ (m : Memory) (words bytes : List ℕ) (r : Result) (call : Call) (p : C
   bytes_are = p.2 ∙ bytes_on m words bytes call fit
 
   pub since_is : r.since ≡ since_of (said_by (performed (lent_to (carried_in m) (lending call words bytes)) call).answer) r.since_before
-  since_is = p.4 ∙ ap (λ (a : Answer). since_of (said_by a) r.since_before) (answer_on m words bytes call fit)
+  since_is = p.4 ∙ ap (λ (a : Answered). since_of (said_by a) r.since_before) (answer_on m words bytes call fit)
 
   pub memory_is : (is_accepted (performed (lent_to (carried_in m) (lending call words bytes)) call).answer ≡ false
       → words_of (head_of m.head) ≡ m.head)
@@ -124,13 +125,13 @@ module _ (m : Memory) (words bytes : List ℕ) (r : Result) (query : Query) (p :
   reads = lent_to (carried_in m) (lending (Ask query) words bytes)
 
   pub code_asked : r.code ≡ code_of (said_by (performed reads (Ask query)).answer)
-  code_asked = p.0.0 ∙ ap (λ (a : Answer). code_of (said_by a)) (chosen fit _ _)
+  code_asked = p.0.0 ∙ ap (λ (a : Answered). code_of (said_by a)) (chosen fit _ _)
 
   pub value_asked : r.value ≡ value_of (said_by (performed reads (Ask query)).answer) r.before
-  value_asked = p.0.1 ∙ ap (λ (a : Answer). value_of (said_by a) r.before) (chosen fit _ _)
+  value_asked = p.0.1 ∙ ap (λ (a : Answered). value_of (said_by a) r.before) (chosen fit _ _)
 
   pub since_asked : r.since ≡ since_of (said_by (performed reads (Ask query)).answer) r.since_before
-  since_asked = p.4 ∙ ap (λ (a : Answer). since_of (said_by a) r.since_before) (chosen fit _ _)
+  since_asked = p.4 ∙ ap (λ (a : Answered). since_of (said_by a) r.since_before) (chosen fit _ _)
 
   pub words_asked : r.words ≡ (performed reads (Ask query)).lent.words
   words_asked = p.1 ∙ chosen fit _ _
@@ -175,8 +176,8 @@ query_left l query = go (check_of (meaning l (Ask query)))
     go : (c : Check)
         → let left = (settled_by c (meaning l (Ask query)).accepted l).lent in
         (left.table ≡ l.table) × (left.journal ≡ l.journal) × (left.head ≡ l.head)
-    go Passed = (refl, refl, refl)
-    go (Refused ground) = (refl, refl, refl)
+    go (Ok tt) = (refl, refl, refl)
+    go (Err ground) = (refl, refl, refl)
 
 query_next : (k : Carried) (query : Query) (words bytes : List ℕ) → Of64Bits k.tally
     → next k (lending (Ask query) words bytes) ≡ k
@@ -233,20 +234,23 @@ stands_after m k a r w c = record {
 }
 
 -- an answer by its code
-pub code_accepted : (answer : Answer) → code_of (said_by answer) ≡ 0 → is_accepted answer ≡ true
-code_accepted Done e = refl
-code_accepted (Price p since) e = refl
-code_accepted (NoPrice since) e = refl
-code_accepted (Count n) e = refl
-code_accepted (Away ground) e = absurd (omega (arith, (number_range ground).0))
+quote_accepted : (price : Option ℕ) (since : When) → is_granted (said_by_price price since) ≡ true
+quote_accepted (Some p) since = refl
+quote_accepted None since = refl
+
+pub code_accepted : (answer : Answered) → code_of (said_by answer) ≡ 0 → is_accepted answer ≡ true
+code_accepted (Ok Done) e = refl
+code_accepted (Ok (Quoted quote)) e = quote_accepted quote.price (said_by_since quote.since)
+code_accepted (Ok (Count n)) e = refl
+code_accepted (Err ground) e = absurd (omega (arith, (number_range ground).0))
 
 -- a call that sets all anew and is accepted has a head whose words fit, or does not look at them
 module _ (m : Memory) (words bytes : List ℕ) (r : Result) where
-  pub unfit_code : (t : Bool) (a : Answer) → code_of (said_by (cond t a (unfit (length m.table) (length m.journal)))) ≡ 0 → t ≡ true
+  pub unfit_code : (t : Bool) (a : Answered) → code_of (said_by (cond t a (unfit (length m.table) (length m.journal)))) ≡ 0 → t ≡ true
   unfit_code true a e = refl
   unfit_code false a e = absurd (go (are_lengths (length m.table) (length m.journal)) e)
     where
-      go : (t : Bool) → code_of (said_by (cond t (Away Unsound) (Away Lengths))) ≡ 0 → ⊥
+      go : (t : Bool) → code_of (said_by (cond t (Err Unsound) (Err Lengths))) ≡ 0 → ⊥
       go true e = omega arith
       go false e = omega arith
 

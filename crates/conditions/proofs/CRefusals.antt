@@ -8,15 +8,17 @@ use native.Mathlib.Omega.{arith}
 use borrow.Author.Tests.{ne_eqb}
 use lib.Dec.{eqb}
 use lib.ListN.{length, drop}
-use Rattle.answers.specs.declared.answer.Answer.{Answer}
-use Rattle.answers.specs.declared.answer.Answer.TheVariants.{Done, Price, NoPrice, Count, Refused as Away}
+use Rattle.answers.specs.Check.{Answered}
+use Rattle.answers.specs.declared.answer.Answer.TheVariants.{Done, Quoted, Count}
+use Rattle.std.proofs.Common.{Err}
 use Rattle.answers.specs.declared.call.Call.{Call}
 use Rattle.answers.specs.declared.call.Call.TheVariants.{Reset, Step, Read, Ask}
 use Rattle.answers.specs.declared.call.Query.{Query}
 use Rattle.answers.specs.declared.ground.Ground.{Ground}
 use Rattle.answers.specs.declared.ground.Ground.TheVariants.{Lengths, Unsound}
-use Rattle.answers.specs.Answers.{said_by, ground_in, is_accepted}
-use Rattle.answers.specs.declared.answer.Check.TheVariants.{Passed}
+use Rattle.std.proofs.Common.{Option, Some, None}
+use Rattle.answers.specs.Answers.{said_by, ground_in, is_accepted, said_by_price, said_by_since, When, is_granted}
+use Rattle.std.proofs.Common.{Ok}
 use Rattle.answers.specs.First.{Test, met, first}
 use Rattle.answers.specs.Numbers.{number_of}
 use Rattle.layout.specs.Clauses.{are_lengths}
@@ -42,19 +44,23 @@ use Rattle.conditions.proofs.Batches.{batch_number, batches}
 use Rattle.conditions.proofs.Refusals.{number_range, granted, left_as_came, by_tests, number_by_tests}
 
 -- a code that is neither 0 nor that of no price
-pub record Turned (answer : Answer) : Type 0 where
+pub record Turned (answer : Answered) : Type 0 where
   pub not_accepted : is_accepted answer ≡ false
   pub least : 1 ≤ code_of (said_by answer)
   pub most : code_of (said_by answer) ≤ highest
   pub value : (old : ℕ) → value_of (said_by answer) old ≡ old
   pub since : (old : ℕ) → since_of (said_by answer) old ≡ old
 
-turned : (answer : Answer) → (code_of (said_by answer) ≡ 0 → ⊥) → (code_of (said_by answer) ≡ no_price → ⊥) → Turned answer
-turned Done z h = absurd (z refl)
-turned (Price p since) z h = absurd (z refl)
-turned (NoPrice since) z h = absurd (h refl)
-turned (Count n) z h = absurd (z refl)
-turned (Away ground) z h = record {
+no_turn : (price : Option ℕ) (since : When) → (code_of (said_by_price price since) ≡ 0 → ⊥)
+    → (code_of (said_by_price price since) ≡ no_price → ⊥) → ⊥
+no_turn (Some p) since z h = z refl
+no_turn None since z h = h refl
+
+turned : (answer : Answered) → (code_of (said_by answer) ≡ 0 → ⊥) → (code_of (said_by answer) ≡ no_price → ⊥) → Turned answer
+turned (Ok Done) z h = absurd (z refl)
+turned (Ok (Quoted quote)) z h = absurd (no_turn quote.price (said_by_since quote.since) z h)
+turned (Ok (Count n)) z h = absurd (z refl)
+turned (Err ground) z h = record {
   not_accepted = refl;
   least = (number_range ground).0;
   most = (number_range ground).1;
@@ -74,7 +80,7 @@ pub record AsItCame (m : Memory) (words bytes : List ℕ) (r : Result) : Type 0 
 
 module _ (m : Memory) (words bytes : List ℕ) (r : Result) (z : r.code ≡ 0 → ⊥) (h : r.code ≡ no_price → ⊥) where
   module _ (call : Call) (p : ChangesStore m words bytes r call) (three : length m.tally ≡ 3) where
-    abbrev to : Answer
+    abbrev to : Answered
     to = answer_to m.table m.journal words bytes m.head m.tally call
 
     told : Turned to
@@ -125,7 +131,7 @@ module _ (m : Memory) (words bytes : List ℕ) (r : Result) (z : r.code ≡ 0 �
     changed_as = changed_by (is_fit m.head call) refl
 
   module _ (query : Query) (p : AnswersQuery m words bytes r query) where
-    abbrev to_query : Answer
+    abbrev to_query : Answered
     to_query = answer_to_query m.table m.journal words bytes m.head query
 
     told_query : Turned to_query
@@ -173,13 +179,18 @@ number_low ground =
     let range = number_range ground in
     (ne_eqb (number_of ground) 0 (λ e. omega (arith, range.0, e)), ne_eqb (number_of ground) no_price (λ e. omega (arith, range.1, e)))
 
-code_says : (answer : Answer) → (accepted_code (code_of (said_by answer)) ≡ is_accepted answer)
+quote_says : (price : Option ℕ) (since : When)
+    → (accepted_code (code_of (said_by_price price since)) ≡ is_granted (said_by_price price since))
+    × (ground_code (code_of (said_by_price price since)) ≡ ground_in (said_by_price price since))
+quote_says (Some p) since = (refl, refl)
+quote_says None since = (refl, refl)
+
+code_says : (answer : Answered) → (accepted_code (code_of (said_by answer)) ≡ is_accepted answer)
     × (ground_code (code_of (said_by answer)) ≡ ground_in (said_by answer))
-code_says Done = (refl, refl)
-code_says (Price p since) = (refl, refl)
-code_says (NoPrice since) = (refl, refl)
-code_says (Count n) = (refl, refl)
-code_says (Away ground) =
+code_says (Ok Done) = (refl, refl)
+code_says (Ok (Quoted quote)) = quote_says quote.price (said_by_since quote.since)
+code_says (Ok (Count n)) = (refl, refl)
+code_says (Err ground) =
     let low = number_low ground in
     (rw low.0 low.1, rw low.1 refl)
 
@@ -195,10 +206,10 @@ module _ (m : Memory) (words bytes : List ℕ) (r : Result) where
   -- and else ground 1 or 2
   code-unfit : (call : Call) → Promise m words bytes r call → is_fit m.head call ≡ false
       → r.code ≡ code_of (said_by (unfit (length m.table) (length m.journal)))
-  code-unfit (Reset call) p e = p.0.0 ∙ ap (λ (a : Answer). code_of (said_by a)) (passed e _ _)
-  code-unfit (Step call) p e = p.0.0 ∙ ap (λ (a : Answer). code_of (said_by a)) (passed e _ _)
-  code-unfit (Read call) p e = p.0.0 ∙ ap (λ (a : Answer). code_of (said_by a)) (passed e _ _)
-  code-unfit (Ask query) p e = p.0.0 ∙ ap (λ (a : Answer). code_of (said_by a)) (passed e _ _)
+  code-unfit (Reset call) p e = p.0.0 ∙ ap (λ (a : Answered). code_of (said_by a)) (passed e _ _)
+  code-unfit (Step call) p e = p.0.0 ∙ ap (λ (a : Answered). code_of (said_by a)) (passed e _ _)
+  code-unfit (Read call) p e = p.0.0 ∙ ap (λ (a : Answered). code_of (said_by a)) (passed e _ _)
+  code-unfit (Ask query) p e = p.0.0 ∙ ap (λ (a : Answered). code_of (said_by a)) (passed e _ _)
 
 module _ (m : Memory) (a : Asked) (r : Result) (c : CallOfC m a r) where
   abbrev l : Lent
@@ -219,7 +230,7 @@ module _ (m : Memory) (a : Asked) (r : Result) (c : CallOfC m a r) where
   pub c_unfit : is_fit m.head a.call ≡ false → r.code ≡ cond (are_lengths (length m.table) (length m.journal)) 2 1
   c_unfit e = code-unfit m a.words a.bytes r a.call c.promise e ∙ either (are_lengths (length m.table) (length m.journal))
     where
-      either : (t : Bool) → code_of (said_by (cond t (Away Unsound) (Away Lengths))) ≡ cond t 2 1
+      either : (t : Bool) → code_of (said_by (cond t (Err Unsound) (Err Lengths))) ≡ cond t 2 1
       either true = refl
       either false = refl
 
@@ -242,7 +253,7 @@ module _ (reads orders out out' : List ℕ) (code before count : ℕ) (p : Price
   c_batch_refused = by_executed (batch reads orders (length out)) refl
 
 -- a batch that meets none of its grounds passes them
-none_passed : (gs : List Test) → none_met gs ≡ true → first gs ≡ Passed
+none_passed : (gs : List Test) → none_met gs ≡ true → first gs ≡ (Ok tt)
 unfolding first none_met
 none_passed [] e = refl
 none_passed (met true ground ∷ gs) e = absurd (let z : ◌≡◌ {A = ℕ} 0 1 = cc in omega arith)

@@ -9,14 +9,16 @@ use borrow.Author.Tests.{ne_eqb}
 use lib.Dec.{eqb}
 use lib.ListN.{length}
 use Rattle.layout.specs.Clauses.{are_lengths}
-use Rattle.answers.specs.declared.answer.Answer.{Answer}
-use Rattle.answers.specs.declared.answer.Answer.TheVariants.{Done, Price, NoPrice, Count, Refused}
+use Rattle.answers.specs.Check.{Answered}
+use Rattle.answers.specs.declared.answer.Answer.TheVariants.{Done, Quoted, Count}
+use Rattle.std.proofs.Common.{Err, Ok}
 use Rattle.answers.specs.declared.call.Call.TheVariants.{Reset, Step, Read}
 use Rattle.answers.specs.declared.call.Read.{Read as ReadCall}
 use Rattle.answers.specs.declared.call.Read.TheVariants.{Issue, Forward, Release}
 use Rattle.answers.specs.declared.call.Reset.TheVariants.{Load as LoadCall}
 use Rattle.answers.specs.declared.ground.Ground.{Ground}
-use Rattle.answers.specs.Answers.{When, by_step, by_book, Said, accepted, refused as refused_by, priced, without, said_by}
+use Rattle.std.proofs.Common.{Option, Some, None}
+use Rattle.answers.specs.Answers.{When, by_step, by_book, Said, accepted, refused as refused_by, priced, without, said_by, said_by_price, said_by_since}
 use Rattle.answers.specs.Answers.{is_granted, has_value, value_in, when_in, is_accepted}
 use Rattle.answers.specs.Numbers.{number_of}
 use Rattle.unit.specs.Carried.{Carried, lent_to, next}
@@ -57,16 +59,23 @@ refused_code named ground value since words bytes =
 
 -- what a C program is told is what `serve` would have replied: where an accepted call is told alike, and since when
 module _ (named : Named) (value : ℕ) (since : When) (words bytes words' bytes' : List ℕ) where
-  told_by_code : (answer : Answer)
+  told_quote : (price : Option ℕ) (by : When)
+      → (has_value (said_by_price price by) ≡ true → accepted_as named value since words bytes
+      ≡ accepted_as named (value_in (said_by_price price by)) since words' bytes')
+      → (is_granted (said_by_price price by) ≡ true → since ≡ when_in (said_by_price price by))
+      → by_code named (code_of (said_by_price price by)) value since words bytes ≡ response_to named (said_by_price price by) words' bytes'
+  told_quote (Some p) by same told = same refl ∙ ap (λ (w : When). accepted_as named p w words' bytes') (told refl)
+  told_quote None by same told = ap unpriced (told refl)
+
+  told_by_code : (answer : Answered)
       → (has_value (said_by answer) ≡ true → accepted_as named value since words bytes
       ≡ accepted_as named (value_in (said_by answer)) since words' bytes')
       → (is_accepted answer ≡ true → since ≡ when_in (said_by answer))
       → by_code named (code_of (said_by answer)) value since words bytes ≡ response_to named (said_by answer) words' bytes'
-  told_by_code Done same told = same refl ∙ ap (λ (w : When). accepted_as named 0 w words' bytes') (told refl)
-  told_by_code (Price p by) same told = same refl ∙ ap (λ (w : When). accepted_as named p w words' bytes') (told refl)
-  told_by_code (NoPrice by) same told = ap unpriced (told refl)
-  told_by_code (Count n) same told = same refl ∙ ap (λ (w : When). accepted_as named n w words' bytes') (told refl)
-  told_by_code (Refused ground) same told = refused_code named ground value since words bytes
+  told_by_code (Ok Done) same told = same refl ∙ ap (λ (w : When). accepted_as named 0 w words' bytes') (told refl)
+  told_by_code (Ok (Quoted quote)) same told = told_quote quote.price (said_by_since quote.since) same told
+  told_by_code (Ok (Count n)) same told = same refl ∙ ap (λ (w : When). accepted_as named n w words' bytes') (told refl)
+  told_by_code (Err ground) same told = refused_code named ground value since words bytes
 
 -- the value of a call that is no query is not told
 unvalued : (call : ReadCall) (value value' : ℕ) (since : When) (words bytes : List ℕ)

@@ -11,8 +11,8 @@ use lib.Dec.{eqb, leb, ltb}
 use lib.ListN.{length, get_or, replicate}
 use lib.Seq.{length-take-le}
 use Rattle.answers.specs.declared.answer.Answer.TheVariants.{Done}
-use Rattle.answers.specs.declared.answer.Check.{Check}
-use Rattle.answers.specs.declared.answer.Check.TheVariants.{Passed, Refused}
+use Rattle.answers.specs.Check.{Check}
+use Rattle.std.proofs.Common.{Ok, Err}
 use Rattle.answers.specs.declared.call.Call.{Call}
 use Rattle.answers.specs.declared.call.Call.TheVariants.{Reset, Step, Read, Ask}
 use Rattle.answers.specs.declared.call.Read.TheVariants.{Issue, Forward, Release}
@@ -26,7 +26,7 @@ use Rattle.answers.specs.Numbers.{number_of}
 use Rattle.answers.proofs.Firsts.{first-met, first_not, first_past, first_stops, none_met, passed_not}
 use Rattle.changes.proofs.ListTest.{and_both}
 use Rattle.layout.specs.declared.head.Head.{Head}
-use Rattle.layout.specs.declared.head.Reply.{Reply}
+use Rattle.unit.specs.Serve.{Reply}
 use Rattle.layout.specs.Clauses.{are_lengths, is_table, are_numbers, is_journal, are_slots}
 use Rattle.layout.specs.States.{held_of, map_here}
 use Rattle.layout.specs.Tests.{all_of}
@@ -70,7 +70,7 @@ use Rattle.conditions.proofs.Refusals.{begins, granted, number_by_tests}
 use Rattle.conditions.proofs.Serves.{meant, passed, Done as Made, done, seen_of, serves_seen, next_is}
 
 -- what a call says by its check
-said_by_lem : (k : Carried) (a : Asked) (s : Seen) → CallOfServe k a s → {g : Ground} → check_of (meant k a) ≡ Refused g
+said_by_lem : (k : Carried) (a : Asked) (s : Seen) → CallOfServe k a s → {g : Ground} → check_of (meant k a) ≡ Err g
     → said_by s.reply.answer ≡ refused (number_of g)
 said_by_lem k a s serves e = serves.0.1 ∙ ap (λ (c : Check). said_by (answered c (meant k a).accepted.answer)) e
 
@@ -132,8 +132,8 @@ kept_by l (Ask query) e = refl
 
 kept_checked : (c : Check) (made : Left) (l : Lent) → made.lent.head.depth ≡ l.head.depth
     → (settled_by c made l).lent.head.depth ≡ l.head.depth
-kept_checked Passed made l e = e
-kept_checked (Refused g) made l e = refl
+kept_checked (Ok tt) made l e = e
+kept_checked (Err g) made l e = refl
 
 depth_kept : (k : Carried) (a : Asked) (s : Seen) → tests_store a.call ≡ true → CallOfServe k a s
     → s.reply.head.depth ≡ k.head.depth
@@ -186,7 +186,7 @@ anchor_accepted k words bytes s i serves =
     let map = ap length (map_at_checkpoint k.table k.journal k.head sound) in
     let fits = length-take-le k.head.used k.table sound.used_in in
     ap (λ (r : Reply). is_accepted r.answer) serves.0.0
-    ∙ ap (λ (x : Check). is_accepted (answered x Done))
+    ∙ ap (λ (x : Check). is_accepted (answered x (Ok Done)))
     (first_not _ _ _ (ap not i.lengths)
     ∙ first_not _ _ _ (ap not i.sound)
     ∙ first_not _ _ _ (le-ltb c c (omega arith))
@@ -201,7 +201,7 @@ rollback_accepted : (k : Carried) (state : ℕ) (words bytes : List ℕ) (s : Se
     → CallOfServe k (lending (Step (RollBack state)) words bytes) s → is_accepted s.reply.answer ≡ true
 rollback_accepted k state words bytes s i low high serves =
     ap (λ (r : Reply). is_accepted r.answer) serves.0.0
-    ∙ ap (λ (x : Check). is_accepted (answered x Done))
+    ∙ ap (λ (x : Check). is_accepted (answered x (Ok Done)))
     (first_not _ _ _ (ap not i.lengths)
     ∙ first_not _ _ _ (ap not i.sound)
     ∙ first_not _ _ _ (le-ltb state k.head.checkpoint low)
@@ -248,7 +248,7 @@ module _ (k : Carried) (state : ℕ) (words bytes : List ℕ) (s : Seen) (serves
 
   -- an accepted flush to another state than the checkpoint leaves as many steps as the depth
   module _ (shaped : Shaped k.head) (y : is_accepted s.reply.answer ≡ true) (other : state ≡ k.head.checkpoint → ⊥) where
-    check : flush_check k.table k.journal k.head state ≡ Passed
+    check : flush_check k.table k.journal k.head state ≡ (Ok tt)
     check = passed k (flushing state words bytes) s serves y
 
     ok : FlushOk k.table k.journal k.head state
@@ -319,8 +319,8 @@ left_out : (before : List Test) (t : Bool) (g : Ground) (rest : List Test) → t
 left_out before t g rest not-met = go (first before) refl
   where
     go : (c : Check) → first before ≡ c → first (before ++ (met t g ∷ rest)) ≡ first (before ++ rest)
-    go Passed e = first_past before _ e ∙ first_not t g rest not-met ∙ sym (first_past before rest e)
-    go (Refused r) e = first_stops before _ e ∙ sym (first_stops before rest e)
+    go (Ok tt) e = first_past before _ e ∙ first_not t g rest not-met ∙ sym (first_past before rest e)
+    go (Err r) e = first_stops before _ e ∙ sym (first_stops before rest e)
 
 -- depth 0 bars no state up to the tip, and asks nothing of a clear and of a head
 bars_none : (head : Head) (state : ℕ) → head.depth ≡ 0 → state ≤ head.tip → is_barred head state ≡ false

@@ -5,15 +5,15 @@ use mathlib.Core.List.{List}
 use Prim.Native.Nat.{ℕ, ◌+◌, ◌-◌, ◌≤◌, min}
 use native.Mathlib.Omega.{arith}
 use lib.ListN.{length}
-use Rattle.answers.specs.declared.answer.Check.{Check}
-use Rattle.answers.specs.declared.answer.Check.TheVariants.{Passed, Refused}
+use Rattle.answers.specs.Check.{Check}
+use Rattle.std.proofs.Common.{Ok, Err}
 use Rattle.answers.specs.declared.call.Call.TheVariants.{Step}
 use Rattle.answers.specs.declared.call.Step.TheVariants.{Flush}
 use Rattle.answers.specs.declared.ground.Ground.{Ground}
 use Rattle.answers.specs.Answers.{is_accepted, answered}
 use Rattle.answers.specs.Counts.{largest, counts}
 use Rattle.answers.proofs.Firsts.{new_is}
-use Rattle.layout.specs.declared.head.Reply.{Reply}
+use Rattle.unit.specs.Serve.{Reply}
 use Rattle.layout.specs.States.{map_here}
 use Rattle.views.specs.Laid.{padded}
 use Rattle.views.specs.Trim.{trimmed_head, trimmed_journal}
@@ -39,7 +39,7 @@ module _ (k : Carried) (words bytes : List ℕ) (s : Seen) (shaped : Shaped k.he
   abbrev flush : Asked
   flush = lending (Step (Flush k.head.checkpoint)) words bytes
 
-  accepted : flush_check k.table k.journal k.head k.head.checkpoint ≡ Passed → Untouched k flush s
+  accepted : flush_check k.table k.journal k.head k.head.checkpoint ≡ (Ok tt) → Untouched k flush s
   accepted e =
       let d = done k flush s serves e in
       let state = k.head.checkpoint in
@@ -63,7 +63,7 @@ module _ (k : Carried) (words bytes : List ℕ) (s : Seen) (shaped : Shaped k.he
         d.bytes,
       )
 
-  refused : (ground : Ground) → flush_check k.table k.journal k.head k.head.checkpoint ≡ Refused ground → Untouched k flush s
+  refused : (ground : Ground) → flush_check k.table k.journal k.head k.head.checkpoint ≡ Err ground → Untouched k flush s
   refused ground e =
       (came k flush s serves
       (ap (λ (r : Reply). is_accepted r.answer) serves.0.0
@@ -73,5 +73,5 @@ module _ (k : Carried) (words bytes : List ℕ) (s : Seen) (shaped : Shaped k.he
   flush_to_the_anchor = go (flush_check k.table k.journal k.head k.head.checkpoint) refl
     where
       go : (x : Check) → flush_check k.table k.journal k.head k.head.checkpoint ≡ x → Untouched k flush s
-      go Passed e = accepted e
-      go (Refused ground) e = refused ground e
+      go (Ok tt) e = accepted e
+      go (Err ground) e = refused ground e

@@ -8,8 +8,8 @@ use native.Mathlib.Omega.{arith}
 use lib.ListN.{length, take, drop, set, replicate, length-set, length-map, length-append, length-replicate, length-take, length-drop}
 use Rattle.changes.specs.Lists.{All}
 use Rattle.changes.proofs.Each.{all_take}
-use Rattle.answers.specs.declared.answer.Check.{Check}
-use Rattle.answers.specs.declared.answer.Check.TheVariants.{Passed, Refused}
+use Rattle.answers.specs.Check.{Check}
+use Rattle.std.proofs.Common.{Ok, Err}
 use Rattle.answers.specs.declared.call.Call.{Call}
 use Rattle.answers.specs.declared.call.Call.TheVariants.{Reset, Step, Read, Ask}
 use Rattle.answers.specs.declared.call.Read.TheVariants.{Issue, Forward, Release}
@@ -168,13 +168,13 @@ number_is : (table journal : List ℕ) (head : Head) → head.checkpoint < limit
 unfolding state_bytes
 number_is table journal head small = image_number head.checkpoint (map_here table journal head head.checkpoint) small
 
-by_check : (l : Lent) (c : Check) (made : Left) → Fits l.head → (c ≡ Passed → Fits made.lent.head)
+by_check : (l : Lent) (c : Check) (made : Left) → Fits l.head → (c ≡ (Ok tt) → Fits made.lent.head)
     → Fits (settled_by c made l).lent.head
-by_check l Passed made f g = g refl
-by_check l (Refused ground) made f g = f
+by_check l (Ok tt) made f g = g refl
+by_check l (Err ground) made f g = f
 
 module _ (l : Lent) (f : Fits l.head) (bytes : All Byte l.bytes) where
-  accepted-Fits : (call : Call) → check_of (meaning l call) ≡ Passed → Fits (meaning l call).accepted.lent.head
+  accepted-Fits : (call : Call) → check_of (meaning l call) ≡ (Ok tt) → Fits (meaning l call).accepted.lent.head
   accepted-Fits (Reset (Clear depth)) e =
       fits_fresh 0 0 depth (omega arith) (omega (arith, (fresh_passed (length l.table) (length l.journal) depth [] e).0.1))
   accepted-Fits (Reset (Load depth format)) e =

@@ -5,11 +5,11 @@ use mathlib.Core.Bool.{Bool, true, false, ◌&&◌}
 use mathlib.Core.List.{List, [], ◌∷◌, ◌++◌}
 use Prim.Native.Nat.{ℕ}
 use native.Mathlib.Omega.{arith}
-use Rattle.changes.specs.declared.search.Found.{Found}
+use Rattle.changes.specs.Found.{Found}
 use Rattle.changes.specs.Calculus.{find, compose}
 use Rattle.changes.specs.ReadSets.{over}
-use Rattle.orders.specs.declared.effects.Effect.{Effect}
-use Rattle.orders.specs.declared.effects.Effect.TheVariants.{Change, Fails}
+use Rattle.orders.specs.Effect.{Effect}
+use Rattle.std.proofs.Common.{Ok, Err}
 use Rattle.orders.specs.Orders.{order_offer}
 use Rattle.orders.specs.Effects.{effect}
 use Rattle.execution.specs.Executing.{Executed, done, fails, next, execute, priced}
@@ -29,8 +29,8 @@ module _ (see : List ℕ → ℕ → Found) where
   -- one order and then the rest: what comes of more orders where the rest comes to its end
   last_of : (f : Effect) (rest more : ℕ → Executed) (meant : Executed) (d : List ℕ)
       → ((w : ℕ) → rest w ≡ done d → more w ≡ meant) → next f rest ≡ done d → next f more ≡ meant
-  last_of (Change w) rest more meant d h e = h w e
-  last_of (Fails ground) rest more meant d h e = absurd (let z : ◌≡◌ {A = ℕ} 0 1 = cc in omega arith)
+  last_of (Ok w) rest more meant d h e = h w e
+  last_of (Err ground) rest more meant d h e = absurd (let z : ◌≡◌ {A = ℕ} 0 1 = cc in omega arith)
 
   execute_last : (before orders d : List ℕ) (o : ℕ) → execute see before orders ≡ done d
       → execute see before (orders ++ o ∷ []) ≡ next (effect o (see d (order_offer o))) (λ w. done (compose d (w ∷ [])))
@@ -44,8 +44,8 @@ module _ (see : List ℕ → ℕ → Found) where
   -- and where an order fails
   stops_of : (f : Effect) (rest more : ℕ → Executed) (n : ℕ) → ((w : ℕ) → rest w ≡ fails n → more w ≡ fails n) → next f rest ≡ fails n
       → next f more ≡ fails n
-  stops_of (Change w) rest more n h e = h w e
-  stops_of (Fails ground) rest more n h e = e
+  stops_of (Ok w) rest more n h e = h w e
+  stops_of (Err ground) rest more n h e = e
 
   execute_stops : (before orders later : List ℕ) (n : ℕ) → execute see before orders ≡ fails n
       → execute see before (orders ++ later) ≡ fails n

@@ -8,7 +8,7 @@ use native.Mathlib.Omega.{arith}
 use borrow.Author.Tests.{ltb-true, leb-true}
 use lib.ListN.{length}
 use Rattle.changes.specs.Lists.{is_list, has_no_put}
-use Rattle.answers.specs.declared.answer.Check.TheVariants.{Passed}
+use Rattle.std.proofs.Common.{Ok}
 use Rattle.answers.specs.declared.call.Call.TheVariants.{Read}
 use Rattle.answers.specs.declared.call.Caller.{Caller}
 use Rattle.answers.specs.declared.call.Caller.TheVariants.{Desk, Foyer}
@@ -28,7 +28,7 @@ use Rattle.conditions.specs.Condition1.{tests_of, reader_in, Own}
 use Rattle.conditions.specs.Grounds.{none_met}
 use Rattle.conditions.specs.Runs.{lending}
 
-none_passed : (gs : List Test) → none_met gs ≡ true → first gs ≡ Passed
+none_passed : (gs : List Test) → none_met gs ≡ true → first gs ≡ (Ok tt)
 unfolding first none_met
 none_passed [] e = refl
 none_passed (met true ground ∷ gs) e = absurd (let z : ◌≡◌ {A = ℕ} 0 1 = cc in omega arith)
@@ -63,7 +63,7 @@ Own-by Desk slot h e = omega (arith, ltb-true slot 6 e)
 Own-by Foyer slot h e = (leb-true 6 slot e, omega (arith, h))
 
 Own-passed : (k : Carried) (reader : Reader) (gs : List Test)
-    → first (store_grounds k.table k.journal k.head ++ slot_grounds reader ++ gs) ≡ Passed
+    → first (store_grounds k.table k.journal k.head ++ slot_grounds reader ++ gs) ≡ (Ok tt)
     → Own reader.caller reader.slot
 Own-passed k reader gs e =
     let p = (store_passed k.table k.journal k.head _ e).1 in

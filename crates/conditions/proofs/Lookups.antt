@@ -6,20 +6,19 @@ use mathlib.Core.List.{List, []}
 use Prim.Native.Nat.{ℕ, zero, suc, ◌+◌, ◌-◌, ◌≤◌, ◌<◌}
 use native.Mathlib.Omega.{arith}
 use lib.ListN.{length, get_or}
-use Rattle.changes.specs.declared.search.Found.{Found}
-use Rattle.changes.specs.declared.search.Found.TheVariants.{Word, Nothing}
+use Rattle.changes.specs.Found.{Found}
+use Rattle.std.proofs.Common.{Some, None}
 use Rattle.changes.specs.Calculus.{find}
 use Rattle.changes.specs.Runs.{step_of, run_of}
-use Rattle.answers.specs.declared.answer.Answer.{Answer}
-use Rattle.answers.specs.declared.answer.Check.{Check}
-use Rattle.answers.specs.declared.answer.Check.TheVariants.{Passed, Refused}
+use Rattle.answers.specs.Check.{Answered}
+use Rattle.answers.specs.Check.{Check}
+use Rattle.std.proofs.Common.{Ok, Err}
 use Rattle.answers.specs.declared.answer.Since.{Since}
 use Rattle.answers.specs.declared.call.LookUp.{LookUp as Lookup}
 use Rattle.answers.specs.Answers.{When, by_step, by_book, said_by_since, said_by, when_in, is_accepted, answered}
 use Rattle.layout.specs.States.{step_index, steps_between}
 use Rattle.views.proofs.Laid.{run_count}
-use Rattle.last_changes.specs.declared.Last.{Last}
-use Rattle.last_changes.specs.declared.Last.TheVariants.{Word as Last-Word, Nothing as Last-Nothing}
+use Rattle.last_changes.specs.Last.{Last}
 use Rattle.last_changes.specs.Last.{last_in}
 use Rattle.last_changes.proofs.Theorems.{Told, last_Told}
 use Rattle.lookups.specs.LookUp.{look_up_check, quote_of, since_of, since_here}
@@ -76,7 +75,7 @@ module _ (k : Carried) (asked : Lookup) (ok : LookUpOk k.table k.journal k.head 
   found i = find asked.offer (get_or steps i [])
 
   since_by : (last : Last) → Told asked.offer steps last → SinceIs k asked (said_by_since (since_of from last))
-  since_by (Last-Word w n) t =
+  since_by (Some (w, n)) t =
       let behind : from + n - from - 1 ≡ n - 1 = omega arith in
       record {
         above = omega (arith, t.least);
@@ -90,7 +89,7 @@ module _ (k : Carried) (asked : Lookup) (ok : LookUpOk k.table k.journal k.head 
             ap (find asked.offer) (step_at i (omega (arith, low)) high)
             ∙ t.none_later (i - from - 1) (omega (arith, low)) (omega (arith, low, high, steps_count));
       }
-  since_by Last-Nothing t =
+  since_by None t =
       λ i low high. ap (find asked.offer) (step_at i low high) ∙ t (i - from - 1) (omega (arith, low, high, steps_count))
 
   pub since_here_lem : SinceIs k asked (said_by_since (since_here k.journal k.head asked))
@@ -98,15 +97,15 @@ module _ (k : Carried) (asked : Lookup) (ok : LookUpOk k.table k.journal k.head 
 
 -- a quote says since when
 quoted_when : (found : Found) (since : Since) → when_in (said_by (quote_of found since)) ≡ said_by_since since
-quoted_when (Word w) since = refl
-quoted_when Nothing since = refl
+quoted_when (Some w) since = refl
+quoted_when None since = refl
 
 -- since when names no state above this one
 abbrev pub Within : ℕ → When → Type 0
 Within tip (by_step n) = n ≤ tip
 Within tip by_book = Unit
 
-pub since_Within : (k : Carried) (asked : Lookup) (found : Found) → look_up_check k.table k.journal k.head asked ≡ Passed
+pub since_Within : (k : Carried) (asked : Lookup) (found : Found) → look_up_check k.table k.journal k.head asked ≡ (Ok tt)
     → Within k.head.tip (when_in (said_by (quote_of found (since_here k.journal k.head asked))))
 since_Within k asked found e =
     let ok = look_up_ok k.table k.journal k.head asked e in
@@ -118,26 +117,26 @@ since_Within k asked found e =
     below high by_book t = tt
 
 -- an accepted answer is that of a check that passes
-passes : (c : Check) (made : Answer) → is_accepted (answered c made) ≡ true → c ≡ Passed
-passes Passed made e = refl
-passes (Refused ground) made e = absurd (let z : ◌≡◌ {A = ℕ} 0 1 = cc in omega arith)
+passes : (c : Check) (made : Answered) → is_accepted (answered c made) ≡ true → c ≡ (Ok tt)
+passes (Ok tt) made e = refl
+passes (Err ground) made e = absurd (let z : ◌≡◌ {A = ℕ} 0 1 = cc in omega arith)
 
 quoted_price : (found : Found) (since : Since) → PriceIs found (said_by (quote_of found since))
-quoted_price (Word w) since = refl
-quoted_price Nothing since = refl
+quoted_price (Some w) since = refl
+quoted_price None since = refl
 
 module _ (k : Carried) (asked : Lookup) (words bytes : List ℕ) (s : Seen) (serves : CallOfServe k (looking_up asked words bytes) s)
     (e : is_accepted s.reply.answer ≡ true) where
   abbrev check : Check
   check = look_up_check k.table k.journal k.head asked
 
-  abbrev made : Answer
+  abbrev made : Answered
   made = quote_of (find asked.offer (map_at k asked.state)) (since_here k.journal k.head asked)
 
   answer_is : s.reply.answer ≡ answered check made
   answer_is = ap (λ r. r.answer) serves.0.0
 
-  passed : check ≡ Passed
+  passed : check ≡ (Ok tt)
   passed = passes check made (sym (ap is_accepted answer_is) ∙ e)
 
   answer-made : made ≡ s.reply.answer
@@ -145,13 +144,13 @@ module _ (k : Carried) (asked : Lookup) (words bytes : List ℕ) (s : Seen) (ser
 
   price_is : PriceIs (find asked.offer (map_at k asked.state)) (said_by s.reply.answer)
   price_is =
-      subst (λ (a : Answer). PriceIs (find asked.offer (map_at k asked.state)) (said_by a)) answer-made
+      subst (λ (a : Answered). PriceIs (find asked.offer (map_at k asked.state)) (said_by a)) answer-made
       (quoted_price (find asked.offer (map_at k asked.state)) (since_here k.journal k.head asked))
 
   when_is : said_by_since (since_here k.journal k.head asked) ≡ when_in (said_by s.reply.answer)
   when_is =
       sym (quoted_when (find asked.offer (map_at k asked.state)) (since_here k.journal k.head asked))
-      ∙ ap (λ (a : Answer). when_in (said_by a)) answer-made
+      ∙ ap (λ (a : Answered). when_in (said_by a)) answer-made
 
   since_is : SinceIs k asked (when_in (said_by s.reply.answer))
   since_is = subst (SinceIs k asked) when_is (since_here_lem k asked (look_up_ok k.table k.journal k.head asked passed))

@@ -3,12 +3,12 @@
 use mathlib.Core.Path.{◌≡◌, refl, ap, ◌∙◌}
 use mathlib.Core.List.{List}
 use Prim.Native.Nat.{ℕ}
-use Rattle.answers.specs.declared.answer.Check.{Check}
-use Rattle.answers.specs.declared.answer.Check.TheVariants.{Passed, Refused}
+use Rattle.answers.specs.Check.{Check}
+use Rattle.std.proofs.Common.{Ok, Err}
 use Rattle.answers.specs.declared.call.Call.TheVariants.{Ask}
 use Rattle.answers.specs.declared.call.Query.{Query}
 use Rattle.answers.specs.First.{if_passed}
-use Rattle.layout.specs.declared.head.Reply.{Reply}
+use Rattle.unit.specs.Serve.{Reply}
 use Rattle.calls.specs.Lent.{Lent, Asking, with_words, with_bytes, check_of}
 use Rattle.calls.specs.Meaning.{query_of}
 use Rattle.unit.specs.Carried.{Carried, lent_to}
@@ -21,8 +21,8 @@ use Rattle.conditions.proofs.Tallies.{tallies}
 module _ {ℓ} {A : Type ℓ} (part : Lent → A) (l : Lent) (words bytes : List ℕ)
     (same : part (with_bytes (with_words l words) bytes) ≡ part l) where
   kept_by : (c : Check) → part (if_passed c (with_bytes (with_words l words) bytes) l) ≡ part l
-  kept_by Passed = same
-  kept_by (Refused ground) = refl
+  kept_by (Ok tt) = same
+  kept_by (Err ground) = refl
 
 pub query_keeps : (k : Carried) (query : Query) (words bytes : List ℕ) (s : Seen)
     → Of64Bits k.tally → CallOfServe k (lending (Ask query) words bytes) s → handed s ≡ k

@@ -6,10 +6,10 @@ use mathlib.Core.List.{List, [], ◌∷◌, ◌++◌}
 use Prim.Native.Nat.{ℕ, ◌≤◌}
 use native.Mathlib.Omega.{arith}
 use lib.ListN.{length}
-use Rattle.answers.specs.declared.answer.Answer.{Answer}
-use Rattle.answers.specs.declared.answer.Answer.TheVariants.{Done, Price, NoPrice, Count, Refused as Away}
-use Rattle.answers.specs.declared.answer.Check.{Check}
-use Rattle.answers.specs.declared.answer.Check.TheVariants.{Passed, Refused}
+use Rattle.answers.specs.Check.{Answered}
+use Rattle.answers.specs.declared.answer.Answer.TheVariants.{Done, Quoted, Count}
+use Rattle.answers.specs.Check.{Check}
+use Rattle.std.proofs.Common.{Ok, Err}
 use Rattle.answers.specs.declared.call.Call.{Call}
 use Rattle.answers.specs.declared.call.Call.TheVariants.{Reset, Step, Read, Ask}
 use Rattle.answers.specs.declared.call.Query.TheVariants.{LookUp, Write, WriteState}
@@ -21,15 +21,16 @@ use Rattle.answers.specs.declared.ground.Ground.TheVariants.{Lengths, Unsound, S
 use Rattle.answers.specs.declared.ground.Ground.TheVariants.{BadOrder, OfferNotRead, OrderNoPrice, PriceRange, StateRange}
 use Rattle.answers.specs.declared.ground.Ground.TheVariants.{LastState, StepsFull, JournalFull, BadImage, TableFull, OutputShort}
 use Rattle.answers.specs.declared.ground.Ground.TheVariants.{LongList, OthersSlot, TooDeep}
-use Rattle.answers.specs.Answers.{said_by, ground_in, when_in, is_accepted, answered}
+use Rattle.std.proofs.Common.{Option}
+use Rattle.answers.specs.Answers.{said_by, ground_in, when_in, is_accepted, answered, said_by_price, said_by_since, When, is_granted}
 use Rattle.answers.specs.First.{Test, met, first}
 use Rattle.answers.specs.Numbers.{number_of}
 use Rattle.answers.specs.declared.answer.Since.{Since}
 use Rattle.answers.specs.Counts.{counts}
 use Rattle.calls.specs.Lent.{Lent, Left, Meaning, check_of, settled_by}
 use Rattle.calls.specs.Meaning.{meaning, performed}
-use Rattle.changes.specs.declared.search.Found.{Found}
-use Rattle.changes.specs.declared.search.Found.TheVariants.{Word, Nothing}
+use Rattle.changes.specs.Found.{Found}
+use Rattle.std.proofs.Common.{Some, None}
 use Rattle.changes.specs.Calculus.{find}
 use Rattle.layout.specs.States.{map_here}
 use Rattle.lookups.specs.LookUp.{quote_of, since_here}
@@ -65,16 +66,19 @@ number_range LongList = (omega arith, omega arith)
 number_range OthersSlot = (omega arith, omega arith)
 number_range TooDeep = (omega arith, omega arith)
 
-one_number : (answer : Answer) → is_accepted answer ≡ false → OneNumber (said_by answer)
-one_number Done e = absurd (let z : ◌≡◌ {A = ℕ} 0 1 = cc in omega arith)
-one_number (Price p since) e = absurd (let z : ◌≡◌ {A = ℕ} 0 1 = cc in omega arith)
-one_number (NoPrice since) e = absurd (let z : ◌≡◌ {A = ℕ} 0 1 = cc in omega arith)
-one_number (Count n) e = absurd (let z : ◌≡◌ {A = ℕ} 0 1 = cc in omega arith)
-one_number (Away ground) e = record { alone = refl; least = (number_range ground).0; most = (number_range ground).1 }
+one_quote : (price : Option ℕ) (since : When) → is_granted (said_by_price price since) ≡ false → OneNumber (said_by_price price since)
+one_quote (Some p) since e = absurd (let z : ◌≡◌ {A = ℕ} 0 1 = cc in omega arith)
+one_quote None since e = absurd (let z : ◌≡◌ {A = ℕ} 0 1 = cc in omega arith)
+
+one_number : (answer : Answered) → is_accepted answer ≡ false → OneNumber (said_by answer)
+one_number (Ok Done) e = absurd (let z : ◌≡◌ {A = ℕ} 0 1 = cc in omega arith)
+one_number (Ok (Quoted quote)) e = one_quote quote.price (said_by_since quote.since) e
+one_number (Ok (Count n)) e = absurd (let z : ◌≡◌ {A = ℕ} 0 1 = cc in omega arith)
+one_number (Err ground) e = record { alone = refl; least = (number_range ground).0; most = (number_range ground).1 }
 
 quote_granted : (found : Found) (since : Since) → is_accepted (quote_of found since) ≡ true
-quote_granted (Word w) since = refl
-quote_granted Nothing since = refl
+quote_granted (Some w) since = refl
+quote_granted None since = refl
 
 -- grounds 1 and 2 stand before all others at a call that tests the store, and 1 at any
 pub record Begins (l : Lent) (both : Bool) (tests : List Test) : Type 0 where
@@ -92,7 +96,7 @@ by_table : (l : Lent) (call : Call)
     → (is_accepted (meaning l call).accepted.answer ≡ true)
     × (once (numbers (meaning l call).grounds) ≡ grounds_of call)
     × Begins l (tests_store call) (meaning l call).grounds
-    × (check_of (meaning l call) ≡ Passed → Within l.head.tip (when_in (said_by (meaning l call).accepted.answer)))
+    × (check_of (meaning l call) ≡ (Ok tt) → Within l.head.tip (when_in (said_by (meaning l call).accepted.answer)))
 unfolding once numbers
 by_table l (Reset (Clear depth)) = (refl, refl, record { rest = _; is = refl }, λ e. tt)
 by_table l (Reset (Load depth format)) = (refl, refl, record { rest = _; is = refl }, λ e. tt)
@@ -128,15 +132,15 @@ within l call = go (check_of (meaning l call)) refl
   where
     go : (c : Check) → check_of (meaning l call) ≡ c
         → Within l.head.tip (when_in (said_by (answered c (meaning l call).accepted.answer)))
-    go Passed e = (by_table l call).3 e
-    go (Refused ground) e = tt
+    go (Ok tt) e = (by_table l call).3 e
+    go (Err ground) e = tt
 
 -- a call by its tests
 module _ (made : Left) (l : Lent) where
   pub left_as_came : (c : Check) → is_accepted made.answer ≡ true → is_accepted (answered c made.answer) ≡ false
       → (settled_by c made l).lent ≡ l
-  left_as_came Passed y n = absurd (let z : ◌≡◌ {A = Bool} true false = sym y ∙ n in let z : ◌≡◌ {A = ℕ} 0 1 = cc in omega arith)
-  left_as_came (Refused ground) y n = refl
+  left_as_came (Ok tt) y n = absurd (let z : ◌≡◌ {A = Bool} true false = sym y ∙ n in let z : ◌≡◌ {A = ℕ} 0 1 = cc in omega arith)
+  left_as_came (Err ground) y n = refl
 
   pub by_tests : (gs : List Test) → is_accepted made.answer ≡ true → is_accepted (answered (first gs) made.answer) ≡ none_met gs
   unfolding first none_met
@@ -144,12 +148,15 @@ module _ (made : Left) (l : Lent) where
   by_tests (met true ground ∷ gs) y = refl
   by_tests (met false ground ∷ gs) y = by_tests gs y
 
-  no_number : (answer : Answer) → is_accepted answer ≡ true → ground_in (said_by answer) ≡ 0
-  no_number Done y = refl
-  no_number (Price p since) y = refl
-  no_number (NoPrice since) y = refl
-  no_number (Count n) y = refl
-  no_number (Away ground) y = absurd (let z : ◌≡◌ {A = ℕ} 0 1 = cc in omega arith)
+  no_quote : (price : Option ℕ) (since : When) → ground_in (said_by_price price since) ≡ 0
+  no_quote (Some p) since = refl
+  no_quote None since = refl
+
+  no_number : (answer : Answered) → is_accepted answer ≡ true → ground_in (said_by answer) ≡ 0
+  no_number (Ok Done) y = refl
+  no_number (Ok (Quoted quote)) y = no_quote quote.price (said_by_since quote.since)
+  no_number (Ok (Count n)) y = refl
+  no_number (Err ground) y = absurd (let z : ◌≡◌ {A = ℕ} 0 1 = cc in omega arith)
 
   pub number_by_tests : (gs : List Test) → is_accepted made.answer ≡ true
       → ground_in (said_by (answered (first gs) made.answer)) ≡ first_number gs

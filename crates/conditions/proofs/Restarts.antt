@@ -5,15 +5,15 @@ use mathlib.Core.Bool.{true}
 use mathlib.Core.List.{List}
 use Prim.Native.Nat.{ℕ, ◌^◌, ◌<◌}
 use lib.ListN.{length}
-use Rattle.answers.specs.declared.answer.Answer.{Answer}
+use Rattle.answers.specs.Check.{Answered}
 use Rattle.answers.specs.declared.answer.Answer.TheVariants.{Count, Done as Accepted}
-use Rattle.answers.specs.declared.answer.Check.{Check}
-use Rattle.answers.specs.declared.answer.Check.TheVariants.{Passed, Refused}
+use Rattle.answers.specs.Check.{Check}
+use Rattle.std.proofs.Common.{Ok, Err}
 use Rattle.answers.specs.declared.call.Call.TheVariants.{Reset}
 use Rattle.answers.specs.declared.call.Format.TheVariants.{Image}
 use Rattle.answers.specs.declared.call.Reset.TheVariants.{Restart}
 use Rattle.answers.specs.Answers.{said_by, ground_in, is_accepted, answered}
-use Rattle.layout.specs.declared.head.Reply.{Reply}
+use Rattle.unit.specs.Serve.{Reply}
 use Rattle.views.specs.Laid.{padded}
 use Rattle.snapshot.specs.Fresh.{fresh_head}
 use Rattle.exports.specs.Export.{state_size}
@@ -32,22 +32,22 @@ module _ (k : Carried) (words out : List ℕ) (s : Seen) (serves : CallOfServe k
   abbrev named : Check
   named = check_at Image k k.head.checkpoint (length out)
 
-  ground_alike : (c : Check) (a b : Answer) → ground_in (said_by a) ≡ 0 → ground_in (said_by b) ≡ 0
+  ground_alike : (c : Check) (a b : Answered) → ground_in (said_by a) ≡ 0 → ground_in (said_by b) ≡ 0
       → ground_in (said_by (answered c a)) ≡ ground_in (said_by (answered c b))
-  ground_alike Passed a b e f = e ∙ sym f
-  ground_alike (Refused g) a b e f = refl
+  ground_alike (Ok tt) a b e f = e ∙ sym f
+  ground_alike (Err g) a b e f = refl
 
   pub restart_alike : (words' : List ℕ) (w : Seen) → CallOfServe k (writing Image (state k.head.checkpoint) words' out) w
       → ground_in (said_by s.reply.answer) ≡ ground_in (said_by w.reply.answer)
   restart_alike words' w writes =
       let size = state_size Image k.table k.journal k.head k.head.checkpoint in
       ap (λ (r : Reply). ground_in (said_by r.answer)) serves.0.0
-      ∙ ap (λ (c : Check). ground_in (said_by (answered c Accepted))) (sym (names_checkpoint k.table k.journal k.head (length out)))
-      ∙ ground_alike named Accepted (Count size) refl refl
-      ∙ sym (ap (λ (a : Answer). ground_in (said_by a)) (answer_by Image k (state k.head.checkpoint) words' out w writes))
+      ∙ ap (λ (c : Check). ground_in (said_by (answered c (Ok Accepted)))) (sym (names_checkpoint k.table k.journal k.head (length out)))
+      ∙ ground_alike named (Ok Accepted) (Ok (Count size)) refl refl
+      ∙ sym (ap (λ (a : Answered). ground_in (said_by a)) (answer_by Image k (state k.head.checkpoint) words' out w writes))
 
   module _ (y : is_accepted s.reply.answer ≡ true) (small : k.head.checkpoint < 2 ^ 32) where
-    restart_check_lem : restart_check k.table k.journal k.head (length out) ≡ Passed
+    restart_check_lem : restart_check k.table k.journal k.head (length out) ≡ (Ok tt)
     restart_check_lem = passed k (lending (Reset Restart) words out) s serves y
 
     restarted : Done (meant k (lending (Reset Restart) words out)).accepted s

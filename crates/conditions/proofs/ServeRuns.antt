@@ -6,8 +6,8 @@ use mathlib.Core.List.{List}
 use Prim.Native.Nat.{ℕ}
 use borrow.Author.Tests.{not-false}
 use lib.ListN.{length}
-use Rattle.answers.specs.declared.answer.Check.{Check}
-use Rattle.answers.specs.declared.answer.Check.TheVariants.{Passed, Refused}
+use Rattle.answers.specs.Check.{Check}
+use Rattle.std.proofs.Common.{Ok, Err}
 use Rattle.answers.specs.declared.answer.Answer.TheVariants.{Done}
 use Rattle.answers.specs.Answers.{said_by, answered}
 use Rattle.answers.proofs.Firsts.{passed_not}
@@ -68,13 +68,13 @@ store_steps k p f sets o a s w on = steps (with_tally k on.tally) p f sets o a s
 
 -- an accepted load
 module _ (k : Carried) (load : Load) (s : Seen) (loads : Loads k load s) where
-  check : load_check k.table k.journal load.depth load.format load.bytes ≡ Passed
+  check : load_check k.table k.journal load.depth load.format load.bytes ≡ (Ok tt)
   check = passed k (loading loads.words load) s loads.serves loads.accepted
 
   range : are_lengths (length k.table) (length k.journal) ≡ true
   range = not-false _ (passed_not _ _ _ check).0
 
-  loaded : store_carried (handed s) ≡ store_in (loaded_by Passed (store_carried k) load).lent
+  loaded : store_carried (handed s) ≡ store_in (loaded_by (Ok tt) (store_carried k) load).lent
   loaded =
       (λ i. record { table = loads.serves.2 i; journal = loads.serves.3 i; head = (loads.serves.0.0 i).head })
       ∙ ap (λ (c : Check). store_in (settled_by c
@@ -88,9 +88,9 @@ module _ (k : Carried) (load : Load) (s : Seen) (loads : Loads k load s) where
   )
 
 -- a load by its check, accepted or refused
-said_by_check : (c : Check) → said_by (answered c Done) ≡ said_of (verdict_of c)
-said_by_check Passed = refl
-said_by_check (Refused ground) = refl
+said_by_check : (c : Check) → said_by (answered c (Ok Done)) ≡ said_of (verdict_of c)
+said_by_check (Ok tt) = refl
+said_by_check (Err ground) = refl
 
 pub loads_as_plain : (k : Carried) (words : List ℕ) (load : Load) (s : Seen)
     → are_lengths (length k.table) (length k.journal) ≡ true → CallOfServe k (loading words load) s

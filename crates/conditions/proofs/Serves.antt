@@ -4,11 +4,11 @@ use mathlib.Core.Path.{◌≡◌, refl, sym, ap, ◌∙◌}
 use mathlib.Core.Bool.{true}
 use Prim.Native.Nat.{ℕ}
 use native.Mathlib.Omega.{arith}
-use Rattle.answers.specs.declared.answer.Answer.{Answer}
-use Rattle.answers.specs.declared.answer.Check.{Check}
-use Rattle.answers.specs.declared.answer.Check.TheVariants.{Passed, Refused}
+use Rattle.answers.specs.Check.{Answered}
+use Rattle.answers.specs.Check.{Check}
+use Rattle.std.proofs.Common.{Ok, Err}
 use Rattle.answers.specs.Answers.{is_accepted, answered}
-use Rattle.layout.specs.declared.head.Reply.{Reply}
+use Rattle.unit.specs.Serve.{Reply}
 use Rattle.calls.specs.Lent.{Left, Meaning, check_of, settled_by}
 use Rattle.calls.specs.Meaning.{meaning, performed}
 use Rattle.unit.specs.Carried.{Carried, Asked, lent_to, next}
@@ -20,9 +20,9 @@ abbrev pub meant : Carried → Asked → Meaning
 meant k a = meaning (lent_to k a) a.call
 
 -- a call that was accepted met none of its grounds
-pub passed_by : (c : Check) (answer : Answer) → is_accepted (answered c answer) ≡ true → c ≡ Passed
-passed_by Passed answer e = refl
-passed_by (Refused ground) answer e = absurd (let z : ◌≡◌ {A = ℕ} 0 1 = cc in omega arith)
+pub passed_by : (c : Check) (answer : Answered) → is_accepted (answered c answer) ≡ true → c ≡ (Ok tt)
+passed_by (Ok tt) answer e = refl
+passed_by (Err ground) answer e = absurd (let z : ◌≡◌ {A = ℕ} 0 1 = cc in omega arith)
 
 -- what is seen of a call that met none of its grounds
 pub record Done (made : Left) (s : Seen) : Type 0 where
@@ -34,12 +34,12 @@ pub record Done (made : Left) (s : Seen) : Type 0 where
   pub head : s.reply.head ≡ made.lent.head
 
 module _ (k : Carried) (a : Asked) (s : Seen) (serves : CallOfServe k a s) where
-  pub passed : is_accepted s.reply.answer ≡ true → check_of (meant k a) ≡ Passed
+  pub passed : is_accepted s.reply.answer ≡ true → check_of (meant k a) ≡ (Ok tt)
   passed y =
       passed_by (check_of (meant k a)) (meant k a).accepted.answer
       (sym (ap (λ (r : Reply). is_accepted r.answer) serves.0.0) ∙ y)
 
-  pub done : check_of (meant k a) ≡ Passed → Done (meant k a).accepted s
+  pub done : check_of (meant k a) ≡ (Ok tt) → Done (meant k a).accepted s
   done e =
       let by : Check → Left = λ (c : Check). settled_by c (meant k a).accepted (lent_to k a) in
       record {

@@ -7,10 +7,10 @@ use Prim.Native.Nat.{ℕ, ◌^◌, ◌<◌}
 use lib.Dec.{ltb}
 use lib.ListN.{length, replicate}
 use Rattle.changes.specs.Lists.{Map}
-use Rattle.answers.specs.declared.answer.Answer.{Answer}
+use Rattle.answers.specs.Check.{Answered}
 use Rattle.answers.specs.declared.answer.Answer.TheVariants.{Done}
-use Rattle.answers.specs.declared.answer.Check.{Check}
-use Rattle.answers.specs.declared.answer.Check.TheVariants.{Passed, Refused}
+use Rattle.answers.specs.Check.{Check}
+use Rattle.std.proofs.Common.{Ok, Err}
 use Rattle.answers.specs.declared.call.Call.TheVariants.{Reset}
 use Rattle.answers.specs.declared.call.Format.{Format}
 use Rattle.answers.specs.declared.call.Format.TheVariants.{Image, Sheet}
@@ -49,7 +49,11 @@ module _ (T J W : List ℕ) (H : Head) (depth : ℕ) where
   left_by c map n b =
       let l = lent T J W b H in
       settled_by c
-      (record { answer = Done; lent = with_store l (padded (length T) map) (replicate (length J) 0) (fresh_head (length map) n depth) }) l
+      (record {
+        answer = (Ok Done);
+        lent = with_store l (padded (length T) map) (replicate (length J) 0)
+            (fresh_head (length map) n depth);
+      }) l
 
   -- the format matters no more than by the test, the map and the number
   load_by : (f : Format) (n : ℕ) (m : List ℕ) → n < 2 ^ 32 → length m < 2 ^ 16 → Map m
@@ -61,16 +65,16 @@ module _ (T J W : List ℕ) (H : Head) (depth : ℕ) where
 
   -- and what is left of store and head does not go by the bytes
   head_by : (c : Check) (map : List ℕ) (n : ℕ) (a b : List ℕ) → (left_by c map n a).lent.head ≡ (left_by c map n b).lent.head
-  head_by Passed map n a b = refl
-  head_by (Refused g) map n a b = refl
+  head_by (Ok tt) map n a b = refl
+  head_by (Err g) map n a b = refl
 
   table_by : (c : Check) (map : List ℕ) (n : ℕ) (a b : List ℕ) → (left_by c map n a).lent.table ≡ (left_by c map n b).lent.table
-  table_by Passed map n a b = refl
-  table_by (Refused g) map n a b = refl
+  table_by (Ok tt) map n a b = refl
+  table_by (Err g) map n a b = refl
 
   journal_by : (c : Check) (map : List ℕ) (n : ℕ) (a b : List ℕ) → (left_by c map n a).lent.journal ≡ (left_by c map n b).lent.journal
-  journal_by Passed map n a b = refl
-  journal_by (Refused g) map n a b = refl
+  journal_by (Ok tt) map n a b = refl
+  journal_by (Err g) map n a b = refl
 
   module _ (n : ℕ) (m : List ℕ) (small : n < 2 ^ 32) (short : length m < 2 ^ 16) (h : Map m) where
     abbrev sheet : Left
@@ -140,11 +144,11 @@ module _ (m : Memory) (depth : ℕ) (words : List ℕ) (n : ℕ) (map : List ℕ
       f.3 ∙ (λ i. cond (is_accepted (answer i)) (words_of (head i)) m.head) ∙ sym g.3 in
       let tallies : r.memory.tally ≡ q.memory.tally =
       f.4
-      ∙ ap (λ (a : Answer). tally_words
+      ∙ ap (λ (a : Answered). tally_words
       (tally_after (tally_of m.tally) before.checkpoint before.tip (Reset (Load depth Image)) a)) answer
       ∙ sym g.4
       in
-      (f.0 ∙ ap (λ (a : Answer). code_of (said_by a)) answer ∙ sym g.0, λ i. memory_in (tables i) (journals i) (heads i) (tallies i))
+      (f.0 ∙ ap (λ (a : Answered). code_of (said_by a)) answer ∙ sym g.0, λ i. memory_in (tables i) (journals i) (heads i) (tallies i))
 
 pub sheets : Sheets
 sheets = record {

@@ -11,7 +11,7 @@ use Rattle.answers.specs.declared.tally.Tally.{Tally}
 use Rattle.answers.specs.Answers.{is_accepted}
 use Rattle.answers.specs.Counts.{largest, resets, counts, counts_of}
 use Rattle.answers.proofs.Counting.{count_anew, count_added}
-use Rattle.layout.specs.declared.head.Reply.{Reply}
+use Rattle.unit.specs.Serve.{Reply}
 use Rattle.calls.specs.Meaning.{performed}
 use Rattle.unit.specs.Carried.{Carried, Asked, lent_to, next, after, sets_to_zero, committed_by, rolled_back_by, flushed_by}
 use Rattle.unit.proofs.Theorems.{counts_are_sums, tally_balances, others_keep}

@@ -10,10 +10,10 @@ use borrow.Author.Tests.{lt-ltb, le-ltb}
 use lib.ListN.{length, take, drop, replicate}
 use lib.Seq.{take_at}
 use Rattle.changes.specs.Lists.{All}
-use Rattle.answers.specs.declared.answer.Answer.{Answer}
+use Rattle.answers.specs.Check.{Answered}
 use Rattle.answers.specs.declared.answer.Answer.TheVariants.{Count, Done as Accepted}
-use Rattle.answers.specs.declared.answer.Check.{Check}
-use Rattle.answers.specs.declared.answer.Check.TheVariants.{Passed, Refused}
+use Rattle.answers.specs.Check.{Check}
+use Rattle.std.proofs.Common.{Ok, Err}
 use Rattle.answers.specs.declared.call.Call.TheVariants.{Reset, Ask}
 use Rattle.answers.specs.declared.call.Format.{Format}
 use Rattle.answers.specs.declared.call.Query.TheVariants.{Write}
@@ -27,7 +27,7 @@ use Rattle.image.specs.Image.{number_in}
 use Rattle.formats.specs.Formats.{map_in as format_map, bytes_for, size_for}
 use Rattle.formats.proofs.Laws.{bytes_length}
 use Rattle.layout.specs.declared.head.Head.{Head}
-use Rattle.layout.specs.declared.head.Reply.{Reply}
+use Rattle.unit.specs.Serve.{Reply}
 use Rattle.soundness.specs.Checks.{state_grounds}
 use Rattle.views.specs.Laid.{padded}
 use Rattle.views.specs.View.{Shaped}
@@ -64,18 +64,18 @@ module _ (format : Format) where
       → s.reply.answer ≡ write_answer format k.table k.journal k.head (named_at k naming) (length out)
   answer_by k no_state words out s serves =
       ap (λ (r : Reply). r.answer) serves.0.0
-      ∙ ap (λ (c : Check). answered c (Count (state_size format k.table k.journal k.head k.head.tip)))
+      ∙ ap (λ (c : Check). answered c (Ok (Count (state_size format k.table k.journal k.head k.head.tip))))
       (sym (tip_check format k.table k.journal k.head (length out)))
   answer_by k (state n) words out s serves = ap (λ (r : Reply). r.answer) serves.0.0
 
   -- what is seen of a writing that is accepted
   pub record Wrote (k : Carried) (n : ℕ) (words out : List ℕ) (s : Seen) : Type 0 where
-    pub answer : s.reply.answer ≡ Count (state_size format k.table k.journal k.head n)
+    pub answer : s.reply.answer ≡ Ok (Count (state_size format k.table k.journal k.head n))
     pub bytes : s.bytes ≡ state_over format k.table k.journal k.head n out
     pub same_words : s.words ≡ words
 
   pub wrote : (k : Carried) (naming : Naming) (words out : List ℕ) (s : Seen) → CallOfServe k (writing format naming words out) s
-      → check_at k (named_at k naming) (length out) ≡ Passed → Wrote k (named_at k naming) words out s
+      → check_at k (named_at k naming) (length out) ≡ (Ok tt) → Wrote k (named_at k naming) words out s
   wrote k no_state words out s serves e =
       let d = done k (writing format no_state words out) s serves
       (sym (tip_check format k.table k.journal k.head (length out)) ∙ e) in
@@ -85,7 +85,7 @@ module _ (format : Format) where
       record { answer = d.answer; bytes = d.bytes; same_words = d.words }
 
   was_passed : (k : Carried) (naming : Naming) (words out : List ℕ) (s : Seen) → CallOfServe k (writing format naming words out) s
-      → is_accepted s.reply.answer ≡ true → check_at k (named_at k naming) (length out) ≡ Passed
+      → is_accepted s.reply.answer ≡ true → check_at k (named_at k naming) (length out) ≡ (Ok tt)
   was_passed k no_state words out s serves y =
       tip_check format k.table k.journal k.head (length out) ∙ passed k (writing format no_state words out) s serves y
   was_passed k (state n) words out s serves y = passed k (writing format (state n) words out) s serves y
@@ -112,13 +112,14 @@ module _ (format : Format) where
       refuses_short short =
           let e = but_room format k.table k.journal k.head n out kept (length out)
           ∙ first-met _ _ _ (lt-ltb (length out) (size_for format (map_at k n)) short) in
-          ap said_by (answer_by k (state n) words out s serves ∙ ap (λ (c : Check). answered c (Count (size_for format (map_at k n)))) e)
+          ap said_by (answer_by k (state n) words out s serves
+          ∙ ap (λ (c : Check). answered c (Ok (Count (size_for format (map_at k n))))) e)
 
     pub refuses_other : (k.head.checkpoint ≤ n → n ≤ k.head.tip → ⊥) → said_by s.reply.answer ≡ refused 11
     refuses_other not-kept =
         ap said_by
         (answer_by k (state n) words out s serves
-        ∙ ap (λ (c : Check). answered c (Count (state_size format k.table k.journal k.head n)))
+        ∙ ap (λ (c : Check). answered c (Ok (Count (state_size format k.table k.journal k.head n))))
         (past-store ∙ by (dec_lt n k.head.checkpoint)))
       where
         rest : List Test
@@ -127,7 +128,7 @@ module _ (format : Format) where
         past-store : check_at k n (length out) ≡ first rest
         past-store = first_not _ _ _ (ap not sound.lengths) ∙ first_not _ _ _ (ap not sound.sound)
 
-        by : Dec (n < k.head.checkpoint) → first rest ≡ Refused StateRange
+        by : Dec (n < k.head.checkpoint) → first rest ≡ Err StateRange
         by (yes l) = first-met _ _ _ (lt-ltb n k.head.checkpoint l)
         by (no l) =
             let low : k.head.checkpoint ≤ n = omega arith in
@@ -167,7 +168,7 @@ module _ (format : Format) where
     abbrev file : List ℕ
     file = state_bytes format k.table k.journal k.head n
 
-    check : check_at k n (length out) ≡ Passed
+    check : check_at k n (length out) ≡ (Ok tt)
     check = was_passed k naming words out s serves y
 
     held : HeldState k.table k.journal k.head n
@@ -178,7 +179,7 @@ module _ (format : Format) where
     unfolding state_bytes state_size
     bytes_written =
         let w = wrote k naming words out s serves check in
-        ap₂ (λ (a : Answer) (b : List ℕ). take (value_in (said_by a)) b) w.answer w.bytes
+        ap₂ (λ (a : Answered) (b : List ℕ). take (value_in (said_by a)) b) w.answer w.bytes
         ∙ take_at file (drop (size_for format (map_at k n)) out) (size_for format (map_at k n)) (bytes_length format n (map_at k n))
 
     module _ (k' : Carried) (depth : ℕ) (words' : List ℕ) (s' : Seen) (deep : depth ≤ 63)
@@ -191,10 +192,10 @@ module _ (format : Format) where
           let e = written_too_large format k.table k.journal k.head n p held small (length k'.table)
           (length k'.journal) depth
           small'.range deep small'.short in
-          ap said_by (ap (λ (r : Reply). r.answer) same.0.0 ∙ ap (λ (c : Check). answered c Accepted) e)
+          ap said_by (ap (λ (r : Reply). r.answer) same.0.0 ∙ ap (λ (c : Check). answered c (Ok Accepted)) e)
 
       module _ (h : Holds k' (map_at k n)) where
-        loads_check : load_check k'.table k'.journal depth format file ≡ Passed
+        loads_check : load_check k'.table k'.journal depth format file ≡ (Ok tt)
         loads_check =
             written_loads format k.table k.journal k.head n p held small (length k'.table) (length k'.journal) depth
             h.range deep h.room
@@ -215,7 +216,7 @@ module _ (format : Format) where
 
   module _ (k : Carried) (depth : ℕ) (bytes : List ℕ) (s : Seen) (small : All Byte bytes)
       (loads : Loads k (load_of depth format bytes) s) where
-    load_check_lem : load_check k.table k.journal depth format bytes ≡ Passed
+    load_check_lem : load_check k.table k.journal depth format bytes ≡ (Ok tt)
     load_check_lem = passed k (loading loads.words (load_of depth format bytes)) s loads.serves loads.accepted
 
     abbrev T : List ℕ
@@ -241,7 +242,7 @@ module _ (format : Format) where
 
     module _ (words out : List ℕ) (s' : Seen) (room : length bytes ≤ length out)
         (serves : CallOfServe (handed s) (writing format no_state words out) s') where
-      write_check_lem : check_at (handed s) s.reply.head.tip (length out) ≡ Passed
+      write_check_lem : check_at (handed s) s.reply.head.tip (length out) ≡ (Ok tt)
       write_check_lem =
           (λ i. write_check format (table_is i) (journal_is i) (head_is i) (head_is i).tip (length out))
           ∙ load_then_write format k.table k.journal bytes out depth k.head small load_check_lem room
@@ -278,7 +279,7 @@ module _ (format : Format) where
     shape : Shaped k.head
     shape = shaped k.head fits.eight_taken fits.eight_issued fits.all_ends
 
-    check_c : check_at k (named_at k naming) (length out) ≡ Passed
+    check_c : check_at k (named_at k naming) (length out) ≡ (Ok tt)
     check_c = was_passed k naming words out s (serves_seen k (writing format naming words out)) accepted_c
 
     -- a state that is kept is at most the tip, which has 32 bits
@@ -294,8 +295,8 @@ module _ (format : Format) where
     count_c =
         let w = wrote k naming words out s (serves_seen k (writing format naming words out)) check_c in
         value_asked m words out r (query_for format naming) c.promise fit
-        ∙ ap (λ (a : Answer). value_of (said_by a) r.before) w.answer
-        ∙ sym (ap (λ (a : Answer). value_in (said_by a)) w.answer)
+        ∙ ap (λ (a : Answered). value_of (said_by a) r.before) w.answer
+        ∙ sym (ap (λ (a : Answered). value_in (said_by a)) w.answer)
 
     bytes_c : take r.value r.bytes ≡ bytes_left s
     bytes_c = ap₂ (λ (n : ℕ) (b : List ℕ). take n b) count_c (bytes_asked m words out r (query_for format naming) c.promise fit)
@@ -332,7 +333,7 @@ module _ (format : Format) where
             let a = loading words' (load_of depth format (bytes_left s)) in
             let d = done (carried_in m') a s' (serves_seen (carried_in m') a)
             (passed (carried_in m') a s' (serves_seen (carried_in m') a) loaded_c.0) in
-            code_s ∙ ap (λ (x : Answer). code_of (said_by x)) d.answer
+            code_s ∙ ap (λ (x : Answered). code_of (said_by x)) d.answer
 
         pub as_written_c : (r'.code ≡ 0)
             × IsLoaded (carried_in m') (carried_in r'.memory) (map_at k (named_at k naming)) (named_at k naming) depth

@@ -4,16 +4,15 @@
 -- Assumes nothing.
 use Rattle.std.specs.Prelude.{◌≡◌, Bool, true, false, ◌||◌, List, [], ◌∷◌, ◌++◌, ℕ, zero, suc, ◌+◌, ◌-◌, ◌*◌, ◌^◌, ◌≤◌, ◌<◌, eqb, length, replicate}
 use Rattle.entry.specs.Word.{price_of, put_of, none_of, is_put, Put}
-use Rattle.changes.specs.declared.search.Found.{Found}
-use Rattle.changes.specs.declared.search.Found.TheVariants.{Word, Nothing}
+use Rattle.changes.specs.Found.{Found}
+use Rattle.std.specs.Prelude.{Some, None}
 use Rattle.changes.specs.Calculus.{find, compose, apply}
 use Rattle.changes.specs.Lists.{Changes, Map, is_list}
 use Rattle.changes.specs.ReadSets.{over}
-use Rattle.answers.specs.declared.answer.Check.TheVariants.{Passed, Refused}
+use Rattle.std.specs.Prelude.{Ok, Err}
 use Rattle.answers.specs.declared.ground.Ground.{Ground}
 use Rattle.answers.specs.declared.ground.Ground.TheVariants.{OrderNoPrice, PriceRange}
 use Rattle.answers.specs.Numbers.{number_of}
-use Rattle.orders.specs.declared.effects.Effect.TheVariants.{Change, Fails}
 use Rattle.orders.specs.Orders.{order_kind, order_amount, order_offer, is_allowed}
 use Rattle.orders.specs.Orders.{Kind, lists, withdraws, raises, cuts, keeps, unknown, kind_named}
 use Rattle.orders.specs.Effects.{sixteenths, effect}
@@ -44,8 +43,8 @@ alters unknown = false
 
 -- whether a price is shown at an offer
 abbrev pub is_shown : Found → Bool
-is_shown (Word w) = is_put w
-is_shown Nothing = false
+is_shown (Some w) = is_put w
+is_shown None = false
 
 -- how far two numbers are from each other
 abbrev pub gap : ℕ → ℕ → ℕ
@@ -67,7 +66,7 @@ pub record Batches : Type 0 where
   -- grounds 6, 7 and 8 come first: "A list breaks its rules", "there are over 64 orders", "Some order's kind is unknown, or a withdrawal
   -- has an amount other than 0.", "Some order's offer isn't in the read set.";
   pub tested_first : (reads orders : List ℕ) → once (numbers (batch_grounds reads orders)) ≡ of_batch
-  pub stopped : (reads orders : List ℕ) (room : ℕ) (reason : Ground) → checked reads orders ≡ Refused reason
+  pub stopped : (reads orders : List ℕ) (room : ℕ) (reason : Ground) → checked reads orders ≡ Err reason
       → batch reads orders room ≡ fails (number_of reason)
   pub broken_read_set : (reads orders : List ℕ) (room : ℕ) → is_list reads ≡ false → batch reads orders room ≡ fails 6
   pub over_64_orders : (reads orders : List ℕ) (room : ℕ) → 65 ≤ length orders → batch reads orders room ≡ fails 6
@@ -77,7 +76,7 @@ pub record Batches : Type 0 where
       is_list reads ≡ true → length orders ≤ 64 → list_all is_allowed orders ≡ true → is_found (find (order_offer o) reads) ≡ false
       → batch reads orders room ≡ fails 8
   pub passes : (reads orders : List ℕ) → is_list reads ≡ true → length orders ≤ 64
-      → list_all is_allowed orders ≡ true → list_all (is_read reads) orders ≡ true → checked reads orders ≡ Passed
+      → list_all is_allowed orders ≡ true → list_all (is_read reads) orders ≡ true → checked reads orders ≡ (Ok tt)
   -- "Orders run in turn, each seeing the earlier ones.": the last order is executed on what the earlier ones left, and if one of those
   -- fails, it is the one that counts;
   pub no_orders : (reads : List ℕ) → priced reads [] ≡ done []
@@ -85,29 +84,29 @@ pub record Batches : Type 0 where
       → priced reads (orders ++ o ∷ []) ≡ next (effect o (find (order_offer o) (over reads d))) (λ w. done (compose d (w ∷ [])))
   pub first_fails : (reads orders later : List ℕ) (n : ℕ) → priced reads orders ≡ fails n → priced reads (orders ++ later) ≡ fails n
   -- then 9 or 10, of the first order that fails,
-  pub first_that_fails : (reads orders : List ℕ) (room n : ℕ) → checked reads orders ≡ Passed → priced reads orders ≡ fails n
+  pub first_that_fails : (reads orders : List ℕ) (room n : ℕ) → checked reads orders ≡ (Ok tt) → priced reads orders ≡ fails n
       → (batch reads orders room ≡ fails n) × (eqb n 9 || eqb n 10 ≡ true)
   -- and then 17
-  pub too_short : (reads orders d : List ℕ) (room : ℕ) → checked reads orders ≡ Passed → priced reads orders ≡ done d
+  pub too_short : (reads orders d : List ℕ) (room : ℕ) → checked reads orders ≡ (Ok tt) → priced reads orders ≡ done d
       → room < length d → batch reads orders room ≡ fails 17
-  pub accepted : (reads orders d : List ℕ) (room : ℕ) → checked reads orders ≡ Passed → priced reads orders ≡ done d
+  pub accepted : (reads orders d : List ℕ) (room : ℕ) → checked reads orders ≡ (Ok tt) → priced reads orders ≡ done d
       → length d ≤ room → batch reads orders room ≡ done d
   -- what each order does: "0 lists at the amount; 1 withdraws",
-  pub lists_at : (o : ℕ) (found : Found) → order_kind o ≡ 0 → effect o found ≡ Change (put_of (order_offer o) (order_amount o))
-  pub withdraws_it : (o : ℕ) (found : Found) → order_kind o ≡ 1 → effect o found ≡ Change (none_of (order_offer o))
+  pub lists_at : (o : ℕ) (found : Found) → order_kind o ≡ 0 → effect o found ≡ Ok (put_of (order_offer o) (order_amount o))
+  pub withdraws_it : (o : ℕ) (found : Found) → order_kind o ≡ 1 → effect o found ≡ Ok (none_of (order_offer o))
   -- "2 raises by the amount; 3 cuts by it", or "takes a price below 0 or above 2^32 − 1",
   pub raise_in_range : (o w : ℕ) → order_kind o ≡ 2 → Put w → price_of w + order_amount o < 2 ^ 32
-      → effect o (Word w) ≡ Change (put_of (order_offer o) (price_of w + order_amount o))
-  pub raise_too_high : (o w : ℕ) → order_kind o ≡ 2 → Put w → 2 ^ 32 ≤ price_of w + order_amount o → effect o (Word w) ≡ Fails PriceRange
+      → effect o (Some w) ≡ Ok (put_of (order_offer o) (price_of w + order_amount o))
+  pub raise_too_high : (o w : ℕ) → order_kind o ≡ 2 → Put w → 2 ^ 32 ≤ price_of w + order_amount o → effect o (Some w) ≡ Err PriceRange
   pub cut_in_range : (o w : ℕ) → order_kind o ≡ 3 → Put w → order_amount o ≤ price_of w
-      → effect o (Word w) ≡ Change (put_of (order_offer o) (price_of w - order_amount o))
-  pub cut_too_deep : (o w : ℕ) → order_kind o ≡ 3 → Put w → price_of w < order_amount o → effect o (Word w) ≡ Fails PriceRange
+      → effect o (Some w) ≡ Ok (put_of (order_offer o) (price_of w - order_amount o))
+  pub cut_too_deep : (o w : ℕ) → order_kind o ≡ 3 → Put w → price_of w < order_amount o → effect o (Some w) ≡ Err PriceRange
   -- "kinds 16 to 31 keep so many sixteenths", and never meet 10;
   pub keeps_sixteenths : (o w : ℕ) → 16 ≤ order_kind o → order_kind o ≤ 31 → Put w
-      → effect o (Word w) ≡ Change (put_of (order_offer o) (sixteenths (order_kind o) (order_amount o) (price_of w)))
+      → effect o (Some w) ≡ Ok (put_of (order_offer o) (sixteenths (order_kind o) (order_amount o) (price_of w)))
   -- and ground 9: "a raise, cut or sixteenths on an offer without a price"
   pub without_a_price : (o : ℕ) (found : Found) → alters (kind_named (order_kind o)) ≡ true → is_shown found ≡ false
-      → effect o found ≡ Fails OrderNoPrice
+      → effect o found ≡ Err OrderNoPrice
   -- "Kinds 16 to 31 now round to the nearest unit, a half upward" (document 02, Q-3): with amount 0 no number of units is nearer, and one
   -- that is as near is not above it
   pub nearest : (kind price units : ℕ) → away_from kind price (sixteenths kind 0 price) ≤ away_from kind price units

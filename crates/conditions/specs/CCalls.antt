@@ -2,7 +2,7 @@
 -- Assumes nothing.
 use Rattle.std.specs.Prelude.{◌≡◌, Bool, true, false, cond, ◌||◌, List, [], ℕ, eqb, length}
 use Rattle.changes.specs.Lists.{All}
-use Rattle.answers.specs.declared.answer.Answer.{Answer}
+use Rattle.answers.specs.Check.{Answered}
 use Rattle.answers.specs.declared.call.Call.{Call}
 use Rattle.answers.specs.declared.call.Call.TheVariants.{Reset, Step, Read, Ask}
 use Rattle.answers.specs.declared.call.Query.{Query}
@@ -159,7 +159,7 @@ memory_in table journal head tally = record { table = table; journal = journal; 
 
 -- what is seen of a function that has no word for since when: the program sees none, and what the answer would leave there is put in its
 -- place
-abbrev pub result_of : Answer → ℕ → ℕ → ℕ → Memory → List ℕ → List ℕ → Result
+abbrev pub result_of : Answered → ℕ → ℕ → ℕ → Memory → List ℕ → List ℕ → Result
 result_of answer code before value memory words bytes = record {
   code = code;
   before = before;

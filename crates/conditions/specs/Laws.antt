@@ -2,18 +2,18 @@
 -- Assumes nothing.
 use Rattle.std.specs.Prelude.{◌≡◌, List, [], ◌∷◌, map, ℕ}
 use Rattle.entry.specs.Word.{offer_of, Put}
-use Rattle.changes.specs.declared.search.Found.TheVariants.{Word, Nothing}
+use Rattle.std.specs.Prelude.{Some, None}
 use Rattle.changes.specs.Calculus.{find, or_else, compose, apply, compose_all, apply_all}
 use Rattle.changes.specs.Lists.{From, All, Changes, Map}
 use Rattle.changes.specs.ReadSets.{read_of, over}
 
 pub record Laws : Type 0 where
   -- "Applying a list puts or removes its offers and touches no other;"
-  pub apply_puts : (k : ℕ) (m d : List ℕ) → Map m → From 0 d → (w : ℕ) → find k d ≡ Word w → Put w → find k (apply m d) ≡ Word w
-  pub apply_removes : (k : ℕ) (m d : List ℕ) → Map m → From 0 d → (w : ℕ) → find k d ≡ Word w → (Put w → ⊥) → find k (apply m d) ≡ Nothing
-  pub apply_leaves : (k : ℕ) (m d : List ℕ) → Map m → From 0 d → find k d ≡ Nothing → find k (apply m d) ≡ find k m
+  pub apply_puts : (k : ℕ) (m d : List ℕ) → Map m → From 0 d → (w : ℕ) → find k d ≡ Some w → Put w → find k (apply m d) ≡ Some w
+  pub apply_removes : (k : ℕ) (m d : List ℕ) → Map m → From 0 d → (w : ℕ) → find k d ≡ Some w → (Put w → ⊥) → find k (apply m d) ≡ None
+  pub apply_leaves : (k : ℕ) (m d : List ℕ) → Map m → From 0 d → find k d ≡ None → find k (apply m d) ≡ find k m
   -- "removing an absent offer changes nothing."
-  pub remove_absent : (m : List ℕ) (w : ℕ) → Map m → (Put w → ⊥) → find (offer_of w) m ≡ Nothing → apply m (w ∷ []) ≡ m
+  pub remove_absent : (m : List ℕ) (w : ℕ) → Map m → (Put w → ⊥) → find (offer_of w) m ≡ None → apply m (w ∷ []) ≡ m
   -- what applying gives is a map
   pub apply_map : (m d : List ℕ) → From 0 m → From 0 d → Map (apply m d)
   -- "Composition has the later word win for each offer, .. is associative, and has the empty list as its zero." It is changes again.

@@ -4,16 +4,17 @@
 -- Assumes nothing.
 use Rattle.std.specs.Prelude.{◌≡◌, true, List, ℕ, ◌-◌, ◌≤◌, ◌<◌}
 use Rattle.entry.specs.Word.{price_of}
-use Rattle.changes.specs.declared.search.Found.{Found}
-use Rattle.changes.specs.declared.search.Found.TheVariants.{Word, Nothing}
+use Rattle.changes.specs.Found.{Found}
+use Rattle.std.specs.Prelude.{Some, None}
 use Rattle.changes.specs.Calculus.{find}
 use Rattle.changes.specs.Runs.{step_of}
 use Rattle.answers.specs.declared.call.Call.TheVariants.{Ask}
 use Rattle.answers.specs.declared.call.LookUp.{LookUp as Lookup}
 use Rattle.answers.specs.declared.call.Query.TheVariants.{LookUp}
-use Rattle.answers.specs.declared.answer.Answer.TheVariants.{Price, NoPrice}
+use Rattle.answers.specs.declared.answer.Answer.TheVariants.{Quoted}
 use Rattle.answers.specs.declared.answer.Since.{Since}
 use Rattle.answers.specs.declared.answer.Since.TheVariants.{State, Table}
+use Rattle.std.specs.Prelude.{Ok}
 use Rattle.answers.specs.Answers.{When, by_step, by_book, Said, priced, without, said_by_since, said_by, when_in, is_accepted}
 use Rattle.layout.specs.States.{step_index}
 use Rattle.unit.specs.Carried.{Carried, Asked}
@@ -35,23 +36,24 @@ pub record LastNaming (k : Carried) (asked : Lookup) (n : ℕ) : Type 0 where
   pub above : k.head.checkpoint < n
   pub up_to : n ≤ asked.state
   pub word : ℕ
-  pub names : find asked.offer (step_to k n) ≡ Word word
-  pub none_later : (i : ℕ) → n < i → i ≤ asked.state → find asked.offer (step_to k i) ≡ Nothing
+  pub names : find asked.offer (step_to k n) ≡ Some word
+  pub none_later : (i : ℕ) → n < i → i ≤ asked.state → find asked.offer (step_to k i) ≡ None
 
 -- what since when says of the steps: "or, if none did, that the book answered"
 abbrev pub SinceIs : Carried → Lookup → When → Type 0
 SinceIs k asked (by_step n) = LastNaming k asked n
-SinceIs k asked by_book = (i : ℕ) → k.head.checkpoint < i → i ≤ asked.state → find asked.offer (step_to k i) ≡ Nothing
+SinceIs k asked by_book = (i : ℕ) → k.head.checkpoint < i → i ≤ asked.state → find asked.offer (step_to k i) ≡ None
 
 -- what is said of the word that a map has at an offer, or of none
 abbrev pub PriceIs : Found → Said → Type 0
-PriceIs (Word w) said = said ≡ priced (price_of w) (when_in said)
-PriceIs Nothing said = said ≡ without (when_in said)
+PriceIs (Some w) said = said ≡ priced (price_of w) (when_in said)
+PriceIs None said = said ≡ without (when_in said)
 
 pub record Lookups : Type 0 where
   -- what the answer of a Rattle program says: the price or none, and the state's number or the book
-  pub says_price : (p : ℕ) (since : Since) → said_by (Price p since) ≡ priced p (said_by_since since)
-  pub says_none : (since : Since) → said_by (NoPrice since) ≡ without (said_by_since since)
+  pub says_price : (p : ℕ) (since : Since) → said_by (Ok (Quoted (record { price = Some p; since = since })))
+      ≡ priced p (said_by_since since)
+  pub says_none : (since : Since) → said_by (Ok (Quoted (record { price = None; since = since }))) ≡ without (said_by_since since)
   pub says_state : (n : ℕ) → said_by_since (State n) ≡ by_step n
   pub says_book : said_by_since Table ≡ by_book
   -- an accepted lookup gives the price in the map at the state named, or none,

@@ -6,7 +6,7 @@ use Rattle.answers.specs.Counts.{largest}
 use Rattle.answers.specs.declared.call.Call.TheVariants.{Reset}
 use Rattle.answers.specs.declared.call.Reset.TheVariants.{Load as LoadCall}
 use Rattle.answers.specs.declared.tally.Tally.{Tally}
-use Rattle.layout.specs.declared.head.Reply.{Reply}
+use Rattle.unit.specs.Serve.{Reply}
 use Rattle.views.specs.View.{Limits}
 use Rattle.unit.specs.Carried.{Carried, Asked, lent_to}
 use Rattle.unit.specs.Serve.{Replies}

@@ -17,10 +17,6 @@ pub flag_unset : (b : Bool) → bit_of b ≡ 0 → b ≡ false
 flag_unset true e = absurd (omega arith)
 flag_unset false e = refl
 
-pub flag_test : (b : Bool) → eqb (bit_of b) 1 ≡ b
-flag_test true = refl
-flag_test false = refl
-
 -- flags joined by `and` say that both tests passed; the second counts only where the first passed
 module _ (a b : ℕ) where
   pub and_flags : (p q : Bool) → top_of a ≡ bit_of p → (p ≡ true → top_of b ≡ bit_of q) → top_of (bit_and a b) ≡ bit_of (p && q)

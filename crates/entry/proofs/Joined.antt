@@ -1,11 +1,8 @@
 -- Fields shifted to their places and joined by `or` are the word of the fields.
 -- Assumes nothing.
-use Rattle.std.proofs.Common.{◌≡◌, ℕ, ◌+◌, ◌-◌, ◌*◌, ◌%◌, ◌^◌, ◌<◌, ap, ◌∙◌, arith}
-use lib.Bits.{bit_and, bit_or, and_mask, or_shifted, or_shifted_r}
+use Rattle.std.proofs.Common.{◌≡◌, ℕ, ◌+◌, ◌*◌, ◌^◌, ◌<◌, ap, ◌∙◌, arith}
+use lib.Bits.{bit_or, or_shifted, or_shifted_r}
 use Rattle.entry.specs.Word.{put_of, none_of}
-
-pub none_joined : (o : ℕ) → bit_and o (2 ^ 31 - 1) * 2 ^ 32 % 2 ^ 64 ≡ none_of (o % 2 ^ 31)
-none_joined o = omega (arith, and_mask o 31)
 
 pub put_joined : (n o p : ℕ) → n ≡ none_of o → o < 2 ^ 31 → p < 2 ^ 32 → bit_or (bit_or n p) (2 ^ 63) ≡ put_of o p
 put_joined n o p e ho hp =

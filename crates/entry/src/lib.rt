@@ -12,7 +12,8 @@ use std::num::wrapping_sub_u32;
 pub struct Entry;
 
 impl Entry {
-    // The put mark: the kind that puts a price, or shows one.
+    // The put mark: the kind that puts a price, or shows one. A kind is no enum, but a bit of the word that C programs lend and read
+    // (include/cechnuol.h, "Entry words and lists").
     pub const PUT: u32 = 1;
 
     pub const KIND_BITS: u32 = 1;
@@ -43,6 +44,13 @@ impl Entry {
         ensures { result ≡ kind_of word }
     {
         (word >> Entry::KIND_AT) as u32
+    }
+
+    // Whether a word is of kind 1: it puts a price on its offer, or shows it.
+    pub fn is_put(word: u64) -> bool
+        ensures { result ≡ is_put word }
+    {
+        Entry::kind_of(word) == Entry::PUT
     }
 
     pub fn offer_of(word: u64) -> u32

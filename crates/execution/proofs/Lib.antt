@@ -1,5 +1,5 @@
 pub mod AllOrders
 pub mod Gathering
-pub mod Flags
+pub mod Made
 pub mod OrderPositions
 pub mod Iterations

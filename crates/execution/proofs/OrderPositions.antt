@@ -1,6 +1,6 @@
 -- The positions of the orders in a read set, found one after another.
 -- Assumes nothing.
-use mathlib.Core.Path.{◌≡◌, sym, ◌∙◌, ap}
+use mathlib.Core.Path.{◌≡◌, refl, sym, ◌∙◌, ap}
 use mathlib.Core.Bool.{true, false}
 use mathlib.Core.List.{List}
 use Prim.Native.Nat.{ℕ, ◌+◌, ◌≤◌, ◌<◌}
@@ -9,15 +9,16 @@ use native.Mathlib.Omega.{arith}
 use lib.ListN.{length, get_or, set, length-set}
 use lib.Seq.{get_or-set_same, get_or-set_other}
 use Rattle.entry.specs.Word.{offer_of}
-use Rattle.changes.specs.declared.search.Found.{Found}
-use Rattle.changes.specs.declared.search.Found.TheVariants.{Nothing}
+use Rattle.changes.specs.Found.{Found}
+use Rattle.std.proofs.Common.{None}
 use Rattle.changes.specs.Calculus.{find}
 use Rattle.changes.specs.Lists.{From}
 use Rattle.changes.proofs.Find.{found_at}
 use Rattle.orders.specs.Orders.{order_offer}
 use Rattle.execution.specs.Tests.{list_all, is_found, is_read}
 use Rattle.execution.specs.Working.{At, Located}
-use Rattle.execution.proofs.AllOrders.{Left, Left-all, left_end, left_stop, Left-next}
+use Rattle.std.proofs.lemmas.List.Recursion.{and_fails_at, and_from_places}
+use Rattle.execution.proofs.AllOrders.{all_none, all_one}
 
 -- whether an order's offer is in a read set, from what was found there
 read_as : (reads : List ℕ) (o k : ℕ) → k ≡ order_offer o → {found : Found} → find k reads ≡ found → is_read reads o ≡ is_found found
@@ -37,32 +38,38 @@ Located-next reads orders positions k p b position a i h = go (ℕ_discrete i k)
 pub not_found : {P : Type 0} → false ≡ true → P
 not_found e = absurd (let z : ◌≡◌ {A = ℕ} 0 1 = cc in omega arith)
 
+-- an order that has its offer at a position of a read set is in it
+At-read : (reads : List ℕ) → From 0 reads → (o position : ℕ) → At (order_offer o) reads position → is_read reads o ≡ true
+At-read reads rises o position a = read_as reads o (order_offer o) refl (found_at reads rises position a.inside (order_offer o) a.named)
+
+-- an order whose offer is not found
+pub finding_stops : (reads orders : List ℕ) (k offer : ℕ) → k < length orders → offer ≡ order_offer (get_or orders k 0)
+    → find offer reads ≡ None → false ≡ list_all (is_read reads) orders
+finding_stops reads orders k offer b o e =
+    sym (and_fails_at (list_all (is_read reads)) (is_read reads) (all_none (is_read reads)) (all_one (is_read reads)) orders k 0 b
+    (read_as reads (get_or orders k 0) offer o e))
+
 -- k orders have been found
 pub record Finding (reads orders positions positions₀ : List ℕ) (k : ℕ) : Type 0 where
-  pub left : Left (is_read reads) orders k
   pub same : length positions ≡ length positions₀
   pub so_far : Located reads orders positions k
 
-pub finding : (reads orders positions : List ℕ) → Finding reads orders positions positions 0
-finding reads orders positions =
-    record { left = Left-all (is_read reads) orders; same = omega arith; so_far = λ i b. absurd (omega arith) }
-
 module _ {reads orders positions positions₀ : List ℕ} {k : ℕ} (f : Finding reads orders positions positions₀ k) where
-  pub finding_end : length orders ≤ k → (true ≡ list_all (is_read reads) orders) × Located reads orders positions (length orders)
-  finding_end h = (sym (left_end f.left h), λ i b. f.so_far i (omega arith))
+  pub finding_end : From 0 reads → length orders ≤ k
+      → (true ≡ list_all (is_read reads) orders) × Located reads orders positions (length orders)
+  finding_end rises h = (
+    sym (and_from_places (list_all (is_read reads)) (is_read reads) (all_none (is_read reads)) (all_one (is_read reads)) orders 0
+        (λ i b. At-read reads rises (get_or orders i 0) (get_or positions i 0) (f.so_far i (omega arith)))),
+    λ i b. f.so_far i (omega arith),
+  )
 
-  module _ (b : k < length orders) {offer : ℕ} (o : offer ≡ order_offer (get_or orders k 0)) where
-    pub finding_stops : find offer reads ≡ Nothing → false ≡ list_all (is_read reads) orders
-    finding_stops e = sym (left_stop f.left b (read_as reads (get_or orders k 0) offer o e))
-
-    pub Finding-goes : From 0 reads → length orders ≤ length positions₀
-        → (position : ℕ) → position < length reads → offer_of (get_or reads position 0) ≡ offer
-        → Finding reads orders (set positions k position) positions₀ (k + 1)
-    Finding-goes rises room position inside e =
-        record {
-          left = Left-next f.left b (read_as reads (get_or orders k 0) offer o (found_at reads rises position inside offer e));
-          same = length-set positions k position ∙ f.same;
-          so_far =
-              Located-next reads orders positions k f.so_far (omega (arith, f.same)) position
-              (record { inside = inside; named = e ∙ o });
-        }
+  pub Finding-goes : {offer : ℕ} → k < length orders → offer ≡ order_offer (get_or orders k 0) → length orders ≤ length positions₀
+      → (position : ℕ) → position < length reads → offer_of (get_or reads position 0) ≡ offer
+      → Finding reads orders (set positions k position) positions₀ (k + 1)
+  Finding-goes b o room position inside e =
+      record {
+        same = length-set positions k position ∙ f.same;
+        so_far =
+            Located-next reads orders positions k f.so_far (omega (arith, f.same)) position
+            (record { inside = inside; named = e ∙ o });
+      }

@@ -1,14 +1,13 @@
 -- Orders executed in turn on a read set (document 01, "Batches").
 -- Assumes nothing.
 use Rattle.std.specs.Prelude.{List, [], ◌∷◌, ℕ}
-use Rattle.changes.specs.declared.search.Found.{Found}
+use Rattle.changes.specs.Found.{Found}
 use Rattle.changes.specs.Calculus.{find, compose}
 use Rattle.changes.specs.ReadSets.{over}
 use Rattle.answers.specs.Numbers.{number_of}
-use Rattle.answers.specs.declared.answer.Check.{Check}
-use Rattle.answers.specs.declared.answer.Check.TheVariants.{Passed, Refused}
-use Rattle.orders.specs.declared.effects.Effect.{Effect}
-use Rattle.orders.specs.declared.effects.Effect.TheVariants.{Change, Fails}
+use Rattle.answers.specs.Check.{Check}
+use Rattle.orders.specs.Effect.{Effect}
+use Rattle.std.specs.Prelude.{Ok, Err}
 use Rattle.orders.specs.Orders.{order_offer}
 use Rattle.orders.specs.Effects.{effect}
 
@@ -18,8 +17,8 @@ pub data Executed : Type 0 where
   fails : ℕ → Executed
 
 abbrev pub next : Effect → (ℕ → Executed) → Executed
-next (Change w) rest = rest w
-next (Fails reason) rest = fails (number_of reason)
+next (Ok w) rest = rest w
+next (Err reason) rest = fails (number_of reason)
 
 -- "Orders run in turn, each seeing the earlier ones." An order sees what is at its offer after the changes d of those before
 -- it, and its own word joins them, so that d has "one word per offer named, rising, with its final price or removal".
@@ -33,5 +32,5 @@ priced reads orders = execute (λ d offer. find offer (over reads d)) [] orders
 
 -- what comes of a check that passed, or the number of the ground that stops it
 abbrev pub after : Check → Executed → Executed
-after Passed executed = executed
-after (Refused reason) executed = fails (number_of reason)
+after (Ok tt) executed = executed
+after (Err reason) executed = fails (number_of reason)

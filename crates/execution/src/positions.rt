@@ -16,18 +16,13 @@ pub fn find_positions(reads: &[u64], orders: &[u64], positions: &mut [usize]) ->
     ensures { (result ≡ list_all (is_read reads.now) orders.now)
         × (result ≡ true → Located reads.now orders.now positions.new (length orders.now)) }
 {
-    let mut k = 0;
-    while k < orders.len() {
-        let offer = Order::offer_of(orders[k]);
+    for (k, order) in orders.iter().enumerate() {
+        let offer = Order::offer_of(*order);
         let at = position(reads, offer);
-        if reads.len() <= at {
-            return false;
+        match reads.get(at) {
+            Some(word) if Entry::offer_of(*word) == offer => positions[k] = at,
+            _ => return false,
         }
-        if Entry::offer_of(reads[at]) != offer {
-            return false;
-        }
-        positions[k] = at;
-        k += 1;
     }
     true
 }

@@ -6,7 +6,7 @@ use mathlib.Core.List.{List}
 use Prim.Native.Nat.{ℕ, ◌^◌, ◌≤◌, ◌<◌}
 use native.Mathlib.Omega.{arith}
 use borrow.Author.Tests.{ltb-false, not-false}
-use Rattle.answers.specs.declared.answer.Check.TheVariants.{Passed}
+use Rattle.std.proofs.Common.{Ok}
 use Rattle.answers.specs.declared.call.Format.{Format}
 use Rattle.answers.proofs.Firsts.{passed_not}
 use Rattle.image.specs.Image.{number_in}
@@ -26,7 +26,7 @@ pub record WriteOk (format : Format) (table journal : List ℕ) (head : Head) (s
   pub fits : state_size format table journal head state ≤ room
 
 pub write_ok : (format : Format) (table journal : List ℕ) (head : Head) (state room : ℕ)
-    → write_check format table journal head state room ≡ Passed
+    → write_check format table journal head state room ≡ (Ok tt)
     → WriteOk format table journal head state room
 write_ok format table journal head state room e =
     let a = passed_not _ _ _ e in

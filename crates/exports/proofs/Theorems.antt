@@ -12,8 +12,8 @@ use borrow.Author.Tests.{lt-ltb, le-ltb, le-leb, not-false}
 use lib.ListN.{length, take, drop, replicate, length-replicate}
 use lib.Seq.{take_at}
 use Rattle.changes.specs.Lists.{All}
-use Rattle.answers.specs.declared.answer.Check.{Check}
-use Rattle.answers.specs.declared.answer.Check.TheVariants.{Passed, Refused}
+use Rattle.answers.specs.Check.{Check}
+use Rattle.std.proofs.Common.{Ok, Err}
 use Rattle.answers.specs.declared.answer.Answer.TheVariants.{Count}
 use Rattle.answers.specs.declared.call.Format.{Format}
 use Rattle.answers.specs.declared.ground.Ground.TheVariants.{TableFull}
@@ -28,7 +28,8 @@ use Rattle.layout.specs.declared.head.Head.{Head}
 use Rattle.layout.specs.Clauses.{are_lengths}
 use Rattle.layout.specs.States.{map_here}
 use Rattle.soundness.specs.Sound.{is_sound}
-use Rattle.soundness.proofs.Sounds.{Sound, facts_Sound}
+use Rattle.soundness.specs.Facts.{Sound}
+use Rattle.soundness.proofs.Sounds.{facts_Sound}
 use Rattle.views.specs.View.{Store, Shaped, padded}
 use Rattle.views.proofs.Encodes.{encodes_Sound}
 use Rattle.views.proofs.SoundFacts.{shaped}
@@ -52,7 +53,7 @@ module _ (format : Format) (table journal : List ℕ) (head : Head) (state : ℕ
 
   pub written_loads : (table' journal' depth : ℕ) → are_lengths table' journal' ≡ true → depth ≤ 63
       → length (map_here table journal head state) ≤ table'
-      → first (load_grounds table' journal' depth format bytes) ≡ Passed
+      → first (load_grounds table' journal' depth format bytes) ≡ (Ok tt)
   written_loads table' journal' depth l deep room =
       first_not _ _ _ (rw l)
       ∙ first_not _ _ _ (ap not (le-leb depth 63 deep))
@@ -63,7 +64,7 @@ module _ (format : Format) (table journal : List ℕ) (head : Head) (state : ℕ
   -- and where the table is too small it is turned away by 16
   pub written_too_large : (table' journal' depth : ℕ) → are_lengths table' journal' ≡ true → depth ≤ 63 → table'
       < length (map_here table journal head state)
-      → first (load_grounds table' journal' depth format bytes) ≡ Refused TableFull
+      → first (load_grounds table' journal' depth format bytes) ≡ Err TableFull
   written_too_large table' journal' depth l deep short =
       first_not _ _ _ (rw l)
       ∙ first_not _ _ _ (ap not (le-leb depth 63 deep))
@@ -72,7 +73,7 @@ module _ (format : Format) (table journal : List ℕ) (head : Head) (state : ℕ
 
 -- bytes that were accepted are written back byte for byte
 pub loaded_writes_back : (format : Format) (table journal bytes : List ℕ) (depth : ℕ) → All Byte bytes
-    → load_check table journal depth format bytes ≡ Passed
+    → load_check table journal depth format bytes ≡ (Ok tt)
     → bytes_for format (number_in bytes) (map_in format bytes) ≡ bytes
 loaded_writes_back format table journal bytes depth b e =
     accepted_writes_back format bytes b (load_ok (length table) (length journal) depth format bytes e).is
@@ -80,7 +81,7 @@ loaded_writes_back format table journal bytes depth b e =
 -- The same through the calls. After an accepted load the loaded state is checkpoint and tip. Writing it in the same format
 -- into bytes that hold it is accepted, gives the length of what was loaded, and leaves the same bytes at their start.
 module _ (format : Format) (table journal bytes out : List ℕ) (depth : ℕ) (head : Head) (small : All Byte bytes)
-    (e : load_check table journal depth format bytes ≡ Passed)
+    (e : load_check table journal depth format bytes ≡ (Ok tt))
     (room : length bytes ≤ length out) where
   abbrev T : List ℕ
   T = load_table table journal depth format bytes
@@ -161,12 +162,12 @@ module _ (format : Format) (table journal bytes out : List ℕ) (depth : ℕ) (h
       ∙ sym (bytes_length format (number_in bytes) (map_in format bytes))
       ∙ ap length (loaded_writes_back format table journal bytes depth small e)
 
-  pub load_then_write : write_check format T J H H.tip (length out) ≡ Passed
+  pub load_then_write : write_check format T J H H.tip (length out) ≡ (Ok tt)
   load_then_write = held_passes format T J H H.tip out held (length out) (omega (arith, size_is))
 
-  pub load_then_write_count : write_answer format T J H H.tip (length out) ≡ Count (length bytes)
+  pub load_then_write_count : write_answer format T J H H.tip (length out) ≡ Ok (Count (length bytes))
   load_then_write_count =
-      ap (λ (o : Check). answered o (Count (state_size format T J H H.tip))) load_then_write ∙ ap Count size_is
+      ap (λ (o : Check). answered o (Ok (Count (state_size format T J H H.tip)))) load_then_write ∙ ap (λ (n : ℕ). Ok (Count n)) size_is
 
   pub load_then_write_bytes : state_over format T J H H.tip out ≡ bytes ++ drop (length bytes) out
   load_then_write_bytes = ap₂ (λ (i : List ℕ) (n : ℕ). i ++ drop n out) bytes_are size_is

@@ -3,11 +3,12 @@
 -- the same states as images; bytes past a written sheet are unchanged." "everything lent and the head keep their values" where a call is
 -- turned away.
 -- Assumes nothing.
-use Rattle.std.specs.Prelude.{List, [], ◌∷◌, ◌++◌, ℕ, ltb, length, drop}
-use Rattle.answers.specs.declared.answer.Answer.{Answer}
+use Rattle.std.specs.Prelude.{List, [], ◌∷◌, ◌++◌, ℕ, ltb, length, drop, Result, Ok, Err}
+use Rattle.answers.specs.Check.{Answered}
 use Rattle.answers.specs.declared.answer.Answer.TheVariants.{Count}
-use Rattle.answers.specs.declared.answer.Check.{Check}
+use Rattle.answers.specs.Check.{Check}
 use Rattle.answers.specs.declared.call.Format.{Format}
+use Rattle.answers.specs.declared.ground.Ground.{Ground}
 use Rattle.answers.specs.declared.ground.Ground.TheVariants.{OutputShort}
 use Rattle.answers.specs.Answers.{answered}
 use Rattle.answers.specs.First.{Test, met, first, if_passed}
@@ -36,10 +37,15 @@ write_grounds format table journal head state room =
 abbrev pub write_check : Format → List ℕ → List ℕ → Head → ℕ → ℕ → Check
 write_check format table journal head state room = first (write_grounds format table journal head state room)
 
+-- the answer that a count of bytes written, or a ground, stands for
+abbrev pub answer_of : Result ℕ Ground → Answered
+answer_of (Ok count) = Ok (Count count)
+answer_of (Err reason) = Err reason
+
 -- the count of the bytes written, or the ground
-abbrev pub write_answer : Format → List ℕ → List ℕ → Head → ℕ → ℕ → Answer
+abbrev pub write_answer : Format → List ℕ → List ℕ → Head → ℕ → ℕ → Answered
 write_answer format table journal head state room =
-    answered (write_check format table journal head state room) (Count (state_size format table journal head state))
+    answered (write_check format table journal head state room) (Ok (Count (state_size format table journal head state)))
 
 -- "bytes past it are unchanged"
 abbrev pub state_over : Format → List ℕ → List ℕ → Head → ℕ → List ℕ → List ℕ
@@ -59,9 +65,9 @@ abbrev pub own_check : Format → List ℕ → List ℕ → Head → ℕ → ℕ
 own_check format table journal head state room = first (own_grounds format table journal head state room)
 
 -- "With no state named, the tip is now written instead of the anchor."
-abbrev pub tip_answer : Format → List ℕ → List ℕ → Head → ℕ → Answer
+abbrev pub tip_answer : Format → List ℕ → List ℕ → Head → ℕ → Answered
 tip_answer format table journal head room =
-    answered (own_check format table journal head head.tip room) (Count (state_size format table journal head head.tip))
+    answered (own_check format table journal head head.tip room) (Ok (Count (state_size format table journal head head.tip)))
 
 abbrev pub tip_bytes : Format → List ℕ → List ℕ → Head → List ℕ → List ℕ
 tip_bytes format table journal head out =

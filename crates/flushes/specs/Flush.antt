@@ -1,12 +1,11 @@
 -- Flush, on memory and head: "Flush to s makes the book the map at s, and s the anchor."
 -- "everything lent and the head keep their values" where a call is turned away.
 -- Assumes nothing.
-use Rattle.std.specs.Prelude.{cond, List, [], ◌∷◌, ◌++◌, ℕ, ltb, length}
-use Rattle.answers.specs.declared.answer.Answer.{Answer}
-use Rattle.answers.specs.declared.answer.Answer.TheVariants.{Count}
-use Rattle.answers.specs.declared.answer.Check.{Check}
+use Rattle.std.specs.Prelude.{cond, Result, List, [], ◌∷◌, ◌++◌, ℕ, ltb, length}
+use Rattle.answers.specs.declared.ground.Ground.{Ground}
+use Rattle.answers.specs.Check.{Check}
 use Rattle.answers.specs.declared.ground.Ground.TheVariants.{TableFull}
-use Rattle.answers.specs.Answers.{answered}
+use Rattle.std.specs.Result.{result_map_both}
 use Rattle.answers.specs.First.{Test, met, first, if_passed}
 use Rattle.layout.specs.declared.head.Head.{Head}
 use Rattle.layout.specs.Heads.{with_table}
@@ -27,8 +26,9 @@ abbrev pub flush_check : List ℕ → List ℕ → Head → ℕ → Check
 flush_check table journal head state = first (flush_grounds table journal head state)
 
 -- the words that the table uses after a flush, or the ground that turns it away
-abbrev pub flush_size : List ℕ → List ℕ → Head → ℕ → Answer
-flush_size table journal head state = answered (flush_check table journal head state) (Count (length (map_here table journal head state)))
+abbrev pub flush_size : List ℕ → List ℕ → Head → ℕ → Result ℕ Ground
+flush_size table journal head state =
+    result_map_both (λ _. length (map_here table journal head state)) (λ why. why) (flush_check table journal head state)
 
 -- "and s the anchor": the head whose table holds the state in so many words; its floor may lie too low
 unfoldable pub flushed_head : Head → ℕ → ℕ → Head

@@ -2,133 +2,97 @@
 // go.
 #![tactic(auto)]
 
-ghost use Rattle.std.specs.Prelude.{cond, ◌≡◌, ◌≤◌, ltb, length};
+ghost use Rattle.std.specs.Prelude.{◌≡◌, ◌≤◌, ◌<◌, length, MatchResult, Ok, Err};
 ghost use Rattle.answers.specs.declared.ground.Ground.TheVariants.{TableFull};
-ghost use Rattle.answers.specs.declared.answer.Answer.TheVariants.{Done, Count, Refused};
-ghost use Rattle.answers.specs.Answers.{Gives, answered};
+ghost use Rattle.answers.specs.Answers.{Checks};
 ghost use Rattle.layout.specs.States.{map_here};
 ghost use Rattle.state_maps.specs.Held.{HeldState, MapRoom, words_to};
-ghost use Rattle.flushes.specs.Flush.{flush_check, flush_size, flushed_head, table_at, flush_table, flush_head, flush_journal};
+ghost use Rattle.flushes.specs.Flush.{flush_check, flush_size, table_at, flush_table, flush_head, flush_journal};
 
-use answers::answer::{Answer, Check};
 use answers::ground::Ground;
-use layout::head::{Head, JOURNAL_WORDS, MAP_WORDS, Reply};
-use soundness::{store_check, target_check};
+use layout::head::{Head, JOURNAL_WORDS, MAP_WORDS};
+use soundness::StoreRef;
 use state_maps::map_at;
 use state_maps::sizes::{FEW_USED, FEW_WORDS, are_few, words_to};
 use table::replace;
 use views::trim::trim;
 
-// Makes the table the map at a state, if it has room for it, and gives the size of that map. The map is worked out in the
-// buffer before any store, and each word of the table is stored once.
-fn move_table(
+// The most words that a map has where table and steps have few.
+const FEW_MAP: usize = FEW_USED + FEW_WORDS;
+
+// Makes the table the map at a state, and gives the size of that map, or ground 16 where the table has no room for it. The map is
+// worked out before any store, in buffers of so many words, and each word of the table is stored once. The buffers lie in a frame of
+// their own: that of the large ones is probed page by page, and only a flush of many words needs it.
+#[inline(never)]
+#[tactic(auto, using(crate::proofs::Flushing::map_written))]
+fn move_table<const CHANGES: usize, const MAP: usize>(
     table: &mut [u64],
     journal: &[u64],
-    head: Head,
+    head: &Head,
     state: u32,
-    changes: &mut [u64],
-    map: &mut [u64],
-) -> usize
-    requires { HeldState table.old journal.now head state × MapRoom head state (length changes.old) (length map.old) }
-    ensures { (result ≡ length (map_here table.old journal.now head state))
-        × (table.new ≡ table_at table.old journal.now head state) }
+) -> Result<usize, Ground>
+    requires held { HeldState table.old journal.now head.now state }
+    requires room { MapRoom head.now state CHANGES MAP }
+    requires sizes { (CHANGES ≤ 12096) × (MAP ≤ 12096) }
+    ensures size { MatchResult result
+        (λ size. (size ≡ length (map_here table.old journal.now head.now state)) × (size ≤ length table.old))
+        (λ why. (why ≡ TableFull) × (length table.old < length (map_here table.old journal.now head.now state))) }
+    ensures table { table.new ≡ table_at table.old journal.now head.now state }
 {
-    let size = map_at(table, journal, head, state, changes, map);
-    if size > table.len() {
-        return size;
+    let mut changes = [0u64; CHANGES];
+    let mut map = [0u64; MAP];
+    let size = map_at(table, journal, *head, state, &mut changes, &mut map);
+    if table.len() < size {
+        return Err(Ground::TableFull);
     }
     replace(table, head.used, &map[..size]);
-    size
+    Ok(size)
 }
 
-// The same with buffers of its own, for few words.
-fn move_few(table: &mut [u64], journal: &[u64], head: Head, state: u32) -> usize
-    requires { HeldState table.old journal.now head state × (head.used ≤ 512) × (words_to head state ≤ 512) }
-    ensures { (result ≡ length (map_here table.old journal.now head state))
-        × (table.new ≡ table_at table.old journal.now head state) }
+// What a flush does with the table: the words that it uses then, or the ground that turns the flush away. Where the steps to the state
+// have no word, the table is the map at the state already.
+#[tactic(auto, using(crate::proofs::Flushing::facts), unfolding(answers::specs::First::first))]
+fn flush_table(table: &mut [u64], journal: &[u64], head: &Head, state: u32) -> Result<usize, Ground>
+    ensures size { result ≡ flush_size table.old journal.now head.now state }
+    ensures table { table.new ≡ flush_table table.old journal.now head.now state }
 {
-    let mut changes = [0u64; FEW_WORDS];
-    let mut map = [0u64; FEW_USED + FEW_WORDS];
-    move_table(table, journal, head, state, &mut changes, &mut map)
-}
-
-// The same for all that a store can hold.
-fn move_many(table: &mut [u64], journal: &[u64], head: Head, state: u32) -> usize
-    requires { HeldState table.old journal.now head state }
-    ensures { (result ≡ length (map_here table.old journal.now head state))
-        × (table.new ≡ table_at table.old journal.now head state) }
-{
-    let mut changes = [0u64; JOURNAL_WORDS];
-    let mut map = [0u64; MAP_WORDS];
-    move_table(table, journal, head, state, &mut changes, &mut map)
-}
-
-// The size of a map, or ground 16 where a table of so many words has no room for it.
-fn size_if_room(room: usize, size: usize) -> Answer
-    ensures { result ≡ cond (ltb room size) (Refused TableFull) (Count size) }
-{
-    if room < size {
-        return Answer::Refused(Ground::TableFull);
-    }
-    Answer::Count(size)
-}
-
-// What a flush does with the table: the words that it uses then, or the ground that turns the flush away. Where no step lies above the
-// checkpoint, where the state is the checkpoint and where no step has a word, the table is the map at the state already.
-fn flush_table(table: &mut [u64], journal: &[u64], head: Head, state: u32) -> Answer
-    ensures { (result ≡ flush_size table.old journal.now head state)
-        × (table.new ≡ flush_table table.old journal.now head state) }
-{
-    let whole = head;
-    let store = store_check(table, journal, whole, &head.ends);
-    if let Check::Refused(ground) = store {
-        return Answer::Refused(ground);
-    }
-    let target = target_check(head, state);
-    if let Check::Refused(ground) = target {
-        return Answer::Refused(ground);
-    }
-    if head.tip == head.checkpoint {
-        return Answer::Count(head.used);
-    }
-    if state == head.checkpoint {
-        return Answer::Count(head.used);
-    }
-    let words = words_to(head, state);
+    let store = StoreRef {
+        table,
+        journal,
+        head,
+    };
+    store.check()?;
+    store.check_target(state)?;
+    let words = words_to(*head, state);
     if words == 0 {
-        return Answer::Count(head.used);
+        return Ok(head.used);
     }
     if are_few(head.used, words) {
-        let size = move_few(table, journal, head, state);
-        return size_if_room(table.len(), size);
+        move_table::<FEW_WORDS, FEW_MAP>(table, journal, head, state)
+    } else {
+        move_table::<JOURNAL_WORDS, MAP_WORDS>(table, journal, head, state)
     }
-    let size = move_many(table, journal, head, state);
-    size_if_room(table.len(), size)
 }
 
-// The head whose table holds the state in so many words.
-fn flushed_head(head: Head, used: usize, state: u32) -> Head
-    ensures { result ≡ flushed_head head used state }
+// Makes the table the map at the state, and the state the checkpoint.
+#[tactic(auto, unfolding(crate::specs::Flush::flushed_head))]
+pub fn flush(
+    table: &mut [u64],
+    journal: &mut [u64],
+    head: &mut Head,
+    state: u32,
+) -> Result<(), Ground>
+    ensures answer { Checks result (flush_check table.old journal.old head.old state) }
+    ensures head { head.new ≡ flush_head table.old journal.old head.old state }
+    ensures table { table.new ≡ flush_table table.old journal.old head.old state }
+    ensures journal { journal.new ≡ flush_journal table.old journal.old head.old state }
 {
-    let mut next = head;
-    next.used = used;
-    next.checkpoint = state;
-    next
-}
-
-pub fn flush(table: &mut [u64], journal: &mut [u64], head: Head, state: u32) -> Reply
-    ensures { Gives result.answer (answered (flush_check table.old journal.old head state) Done)
-        × (result.head ≡ flush_head table.old journal.old head state)
-        × (table.new ≡ flush_table table.old journal.old head state)
-        × (journal.new ≡ flush_journal table.old journal.old head state) }
-{
-    let made = flush_table(table, journal, head, state);
-    let Answer::Count(size) = made else {
-        return Reply { answer: made, head };
+    let used = flush_table(table, journal, head, state)?;
+    let flushed = Head {
+        used,
+        checkpoint: state,
+        ..*head
     };
-    let next = trim(journal, flushed_head(head, size, state));
-    Reply {
-        answer: Answer::Done,
-        head: next,
-    }
+    *head = trim(journal, flushed);
+    Ok(())
 }

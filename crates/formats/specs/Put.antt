@@ -1,14 +1,15 @@
 -- A map's words put into lent bytes in a format, where the bytes have room.
 -- Assumes nothing.
 use Rattle.std.specs.Prelude.{cond, List, ◌++◌, ℕ, ltb, length, drop}
-use Rattle.answers.specs.declared.answer.Answer.{Answer}
-use Rattle.answers.specs.declared.answer.Answer.TheVariants.{Count, Refused}
+use Rattle.std.specs.Prelude.{Result, Err, Ok}
 use Rattle.answers.specs.declared.call.Format.{Format}
+use Rattle.answers.specs.declared.ground.Ground.{Ground}
 use Rattle.answers.specs.declared.ground.Ground.TheVariants.{OutputShort}
 use Rattle.formats.specs.Formats.{bytes_for, size_for}
 
-abbrev pub put_answer : Format → List ℕ → ℕ → Answer
-put_answer format words room = cond (ltb room (size_for format words)) (Refused OutputShort) (Count (size_for format words))
+-- the count of the bytes put, or ground 17
+abbrev pub put_count : Format → List ℕ → ℕ → Result ℕ Ground
+put_count format words room = cond (ltb room (size_for format words)) (Err OutputShort) (Ok (size_for format words))
 
 abbrev pub put_bytes : Format → ℕ → List ℕ → List ℕ → List ℕ
 put_bytes format state words out =

@@ -5,22 +5,22 @@ ghost use Rattle.image.specs.Image.{number_in};
 ghost use Rattle.formats.specs.Formats.{is_of_format, map_in, offers_in};
 
 use answers::call::Format;
-use big_endian::numbers::u32_at;
+use big_endian::numbers::uint_at;
 use image::reading::{count_of as image_count, is_image, read_words as read_image};
-use sheet::reading::{Offers, count_offers, read_words as read_sheet};
+use sheet::reading::{count_offers, read_words as read_sheet};
 
-// How many offers an image has, or that the bytes are none.
-fn image_offers(bytes: &[u8]) -> Offers
+// How many offers an image has, if the bytes are one.
+fn image_offers(bytes: &[u8]) -> Option<usize>
     ensures { result ≡ offers_in Image bytes.now }
 {
-    if is_image(bytes) {
-        return Offers::Count(image_count(bytes));
+    if !is_image(bytes) {
+        return None;
     }
-    Offers::Broken
+    Some(image_count(bytes))
 }
 
-// How many offers the bytes have, or that they are broken: the whole of them is tested.
-pub fn count_of(format: Format, bytes: &[u8]) -> Offers
+// How many offers the bytes have, if they are of the format: the whole of them is tested.
+pub fn count_of(format: Format, bytes: &[u8]) -> Option<usize>
     ensures { result ≡ offers_in format bytes.now }
 {
     match format {
@@ -30,11 +30,12 @@ pub fn count_of(format: Format, bytes: &[u8]) -> Offers
 }
 
 // The state number, with which both formats begin.
+#[tactic(auto, unfolding(image::specs::Image::number_in))]
 pub fn state_of(bytes: &[u8]) -> u32
     requires { 4 ≤ length bytes.now }
     ensures { result ≡ number_in bytes.now }
 {
-    u32_at(bytes, 0)
+    uint_at::<4>(bytes, 0) as u32
 }
 
 // Reads the words of the map in tested bytes to the start of the table, which has room for them; the words behind them stay.

@@ -2,9 +2,8 @@
 ghost use Rattle.std.specs.Prelude.{◌≡◌, ◌≤◌, length};
 ghost use Rattle.answers.specs.declared.call.Format.TheVariants.{Image, Sheet};
 ghost use Rattle.changes.specs.Lists.{Map};
-ghost use Rattle.formats.specs.Put.{put_answer, put_bytes};
+ghost use Rattle.formats.specs.Put.{put_count, put_bytes};
 
-use answers::answer::Answer;
 use answers::call::Format;
 use answers::ground::Ground;
 use image::writing::write as write_image;
@@ -13,34 +12,35 @@ use sheet::writing::{count_rows, write as write_sheet};
 use sheet::{HEADER_BYTES as SHEET_HEADER, PRICE_BYTES, ROW_BYTES};
 
 // Writes the image of a state number and a map's words to the start of `out`, where it has room.
-fn put_image(state: u32, words: &[u64], out: &mut [u8]) -> Answer
+fn put_image(state: u32, words: &[u64], out: &mut [u8]) -> Result<usize, Ground>
     requires { length words.now ≤ 12096 }
-    ensures { (result ≡ put_answer Image words.now (length out.old))
+    ensures { (result ≡ put_count Image words.now (length out.old))
         × (out.new ≡ put_bytes Image state words.now out.old) }
 {
     if out.len() < IMAGE_HEADER + WORD_BYTES * words.len() {
-        return Answer::Refused(Ground::OutputShort);
+        return Err(Ground::OutputShort);
     }
-    Answer::Count(write_image(state, words, out))
+    Ok(write_image(state, words, out))
 }
 
 // The same of the sheet, whose rows are counted before its first byte is stored.
-fn put_sheet(state: u32, words: &[u64], out: &mut [u8]) -> Answer
+#[tactic(auto, unfolding(sheet::specs::Sheet::sheet_size))]
+fn put_sheet(state: u32, words: &[u64], out: &mut [u8]) -> Result<usize, Ground>
     requires { Map words.now × (length words.now ≤ 12096) }
-    ensures { (result ≡ put_answer Sheet words.now (length out.old))
+    ensures { (result ≡ put_count Sheet words.now (length out.old))
         × (out.new ≡ put_bytes Sheet state words.now out.old) }
 {
     let rows = count_rows(words);
     if out.len() < SHEET_HEADER + ROW_BYTES * rows + PRICE_BYTES * words.len() {
-        return Answer::Refused(Ground::OutputShort);
+        return Err(Ground::OutputShort);
     }
-    Answer::Count(write_sheet(state, words, rows as u32, out))
+    Ok(write_sheet(state, words, rows as u32, out))
 }
 
 // Writes a state number and a map's words to the start of `out`, where it has room.
-pub fn put(format: Format, state: u32, words: &[u64], out: &mut [u8]) -> Answer
+pub fn put(format: Format, state: u32, words: &[u64], out: &mut [u8]) -> Result<usize, Ground>
     requires { Map words.now × (length words.now ≤ 12096) }
-    ensures { (result ≡ put_answer format words.now (length out.old))
+    ensures { (result ≡ put_count format words.now (length out.old))
         × (out.new ≡ put_bytes format state words.now out.old) }
 {
     match format {

@@ -8,14 +8,14 @@ use borrow.Author.Tests.{not-false, ltb-false}
 use lib.ListN.{length, get_or}
 use Rattle.changes.specs.Lists.{is_list}
 use Rattle.answers.specs.declared.call.Reader.{Reader}
-use Rattle.answers.specs.declared.answer.Check.TheVariants.{Passed}
+use Rattle.std.proofs.Common.{Ok}
 use Rattle.answers.proofs.Firsts.{passed_not}
 use Rattle.layout.specs.declared.head.Head.{Head}
 use Rattle.layout.proofs.HeadTests.{InRange}
 use Rattle.slots.specs.Callers.{most_words}
 use Rattle.slots.proofs.Passed.{slot_passed}
 use Rattle.soundness.proofs.Passed.{store_passed, state_passed}
-use Rattle.soundness.proofs.Sounds.{Sound}
+use Rattle.soundness.specs.Facts.{Sound}
 use Rattle.forwards.specs.Forward.{forward_check}
 
 pub record ForwardOk (table journal : List ℕ) (head : Head) (reader : Reader) (state : ℕ) (words : List ℕ) : Type 0 where
@@ -29,7 +29,7 @@ pub record ForwardOk (table journal : List ℕ) (head : Head) (reader : Reader) 
   pub high : state ≤ head.tip
 
 pub forward_ok : (table journal : List ℕ) (head : Head) (reader : Reader) (state : ℕ) (words : List ℕ)
-    → forward_check table journal head reader state words ≡ Passed → ForwardOk table journal head reader state words
+    → forward_check table journal head reader state words ≡ Ok tt → ForwardOk table journal head reader state words
 forward_ok table journal head reader state words e =
     let a = store_passed table journal head _ e in
     let c = slot_passed reader _ a.1 in

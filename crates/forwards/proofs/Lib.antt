@@ -1,2 +1,1 @@
 pub mod ForwardAccepted
-pub mod Forwarding

@@ -5,7 +5,7 @@ use Rattle.std.specs.Prelude.{false, not, List, [], ◌∷◌, ◌++◌, ℕ, le
 use Rattle.changes.specs.Calculus.{compose_all}
 use Rattle.changes.specs.Lists.{is_list}
 use Rattle.changes.specs.ReadSets.{over}
-use Rattle.answers.specs.declared.answer.Check.{Check}
+use Rattle.answers.specs.Check.{Check}
 use Rattle.answers.specs.declared.call.Reader.{Reader}
 use Rattle.answers.specs.declared.ground.Ground.TheVariants.{SlotClosed, BadList}
 use Rattle.answers.specs.First.{Test, met, first, if_passed}

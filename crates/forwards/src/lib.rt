@@ -1,90 +1,65 @@
 // Forward: a read set is brought to a named state, its slot closes, and the steps that only it needed go.
 #![tactic(auto)]
 
-ghost use Rattle.std.specs.Prelude.{◌≡◌};
-ghost use Rattle.answers.specs.declared.answer.Answer.TheVariants.{Done};
-ghost use Rattle.answers.specs.Answers.{Gives, answered};
+ghost use Rattle.std.specs.Prelude.{◌≡◌, ◌<◌, ◌≤◌, false, true, get_or, OnOk};
+ghost use Rattle.answers.specs.Answers.{Checks};
+ghost use Rattle.soundness.specs.Facts.{StoreOk};
 ghost use Rattle.forwards.specs.Forward.{forward_check, forward_head, forward_journal, forward_reads};
 
-use answers::answer::{Answer, Check};
 use answers::call::Reader;
 use answers::ground::Ground;
 use last_changes::bring_forward;
-use layout::head::{Head, Reply};
+use layout::head::Head;
 use layout::states::step_index;
 use lists::rules::is_list;
 use slots::callers::long_check;
 use slots::{close_slot, slot_check};
-use soundness::{state_check, store_check};
+use soundness::StoreRef;
 use views::trim::trim;
 
 // The first ground on which a forward is turned away.
-fn forward_check(
-    table: &[u64],
-    journal: &[u64],
-    head: Head,
-    reader: Reader,
-    state: u32,
-    words: &[u64],
-) -> Check
-    ensures { result ≡ forward_check table.now journal.now head reader state words.now }
+#[tactic(auto, unfolding(answers::specs::First::first))]
+fn forward_check(store: StoreRef, reader: Reader, state: u32, words: &[u64]) -> Result<(), Ground>
+    ensures grounds { result ≡ forward_check store.entry.table.now store.entry.journal.now store.entry.head.now reader state words.now }
+    ensures store { OnOk result (StoreOk store.entry.table.now store.entry.journal.now store.entry.head.now) }
+    ensures slot { OnOk result ((reader.slot < 8) × (get_or store.entry.head.now.taken reader.slot false ≡ true)) }
+    ensures state { OnOk result ((store.entry.head.now.checkpoint ≤ state) × (state ≤ store.entry.head.now.tip)) }
 {
-    let taken = head.taken;
-    let slot = reader.slot;
-    let caller = reader.caller;
-    let whole = head;
-    let store = store_check(table, journal, whole, &head.ends);
-    let Check::Passed = store else {
-        return store;
-    };
-    let range = slot_check(reader);
-    let Check::Passed = range else {
-        return range;
-    };
-    if !taken[slot] {
-        return Check::Refused(Ground::SlotClosed);
+    store.check()?;
+    slot_check(reader)?;
+    if !store.head.taken[reader.slot] {
+        return Err(Ground::SlotClosed);
     }
     if !is_list(words) {
-        return Check::Refused(Ground::BadList);
+        return Err(Ground::BadList);
     }
-    let long = long_check(caller, words.len());
-    let Check::Passed = long else {
-        return long;
-    };
-    state_check(head, state)
+    long_check(reader.caller, words.len())?;
+    store.check_state(state)
 }
 
+// Brings the read set from the slot's state to the one named, closes the slot, and takes away the steps that no read needs any more.
 pub fn forward(
     table: &[u64],
     journal: &mut [u64],
-    head: Head,
+    head: &mut Head,
     reader: Reader,
     state: u32,
     reads: &mut [u64],
-) -> Reply
-    ensures { Gives result.answer
-        (answered (forward_check table.now journal.old head reader state reads.old) Done)
-        × (result.head ≡ forward_head table.now journal.old head reader state reads.old)
-        × (journal.new ≡ forward_journal table.now journal.old head reader state reads.old)
-        × (reads.new ≡ forward_reads table.now journal.old head reader state reads.old) }
+) -> Result<(), Ground>
+    ensures answer { Checks result (forward_check table.now journal.old head.old reader state reads.old) }
+    ensures head { head.new ≡ forward_head table.now journal.old head.old reader state reads.old }
+    ensures journal { journal.new ≡ forward_journal table.now journal.old head.old reader state reads.old }
+    ensures reads { reads.new ≡ forward_reads table.now journal.old head.old reader state reads.old }
 {
-    let check = forward_check(table, journal, head, reader, state, reads);
-    if let Check::Refused(ground) = check {
-        return Reply {
-            answer: Answer::Refused(ground),
-            head,
-        };
-    }
-    let issued = head.issued;
-    let slot = reader.slot;
-    let ends = head.ends;
-    let number = issued[slot];
-    let from = step_index(head, number);
-    let to = step_index(head, state);
-    bring_forward(reads, journal, &ends, from, to);
-    let next = trim(journal, close_slot(head, slot));
-    Reply {
-        answer: Answer::Done,
-        head: next,
-    }
+    let store = StoreRef {
+        table,
+        journal,
+        head,
+    };
+    forward_check(store, reader, state, reads)?;
+    let from = step_index(*head, head.issued[reader.slot]);
+    let to = step_index(*head, state);
+    bring_forward(reads, journal, &head.ends, from, to);
+    *head = trim(journal, close_slot(*head, reader.slot));
+    Ok(())
 }

@@ -3,14 +3,13 @@
 use mathlib.Core.Path.{◌≡◌, refl, sym, ap, ◌∙◌}
 use mathlib.Core.Bool.{Bool, true, false, ◌&&◌, and-true, and_assoc}
 use mathlib.Core.List.{List, [], ◌∷◌}
-use Prim.Native.Nat.{ℕ, ◌+◌, ◌^◌, ◌≤◌, ◌<◌}
+use Prim.Native.Nat.{ℕ, ◌^◌, ◌<◌}
 use native.Mathlib.Omega.{arith}
 use borrow.Author.Tests.{ltb-true, ltb-false, lt-ltb, le-ltb}
 use lib.Bits.{bit_or, or_lt, or_add_and, and_le_l, and_le_r}
 use lib.Dec.{ltb}
-use lib.ListN.{length, get_or, drop, drop_of_length-le}
 use lib.Pow.{pow_pos}
-use Rattle.words.proofs.Parts.{next}
+use Rattle.std.specs.List.{FoldsTo}
 use Rattle.head_words.specs.HeadWords.{are_below}
 
 module _ (bound w : ℕ) (l : List ℕ) where
@@ -31,21 +30,20 @@ or_below k a b = go (ltb a (2 ^ k)) (ltb b (2 ^ k)) refl refl
     go true false p q = le-ltb (bit_or a b) (2 ^ k) (omega (arith, ltb-false b (2 ^ k) q, or_add_and a b, and_le_l a b))
     go false t p q = le-ltb (bit_or a b) (2 ^ k) (omega (arith, ltb-false a (2 ^ k) p, or_add_and a b, and_le_r a b))
 
--- what a loop has joined, and what is left from a position on
-module _ (k : ℕ) (l : List ℕ) where
-  pub joined_none : ltb 0 (2 ^ k) && are_below (2 ^ k) l ≡ are_below (2 ^ k) l
-  joined_none = rw (lt-ltb 0 (2 ^ k) (pow_pos k))
+-- words that are joined are below a power of two when each of them is
+joined_from : (k : ℕ) (l : List ℕ) (seen r : ℕ) → FoldsTo (λ x y z. z ≡ bit_or x y) seen l r
+    → ltb r (2 ^ k) ≡ ltb seen (2 ^ k) && are_below (2 ^ k) l
+unfolding are_below
+joined_from k [] seen r e = ap (λ n. ltb n (2 ^ k)) (sym e) ∙ sym (and-true (ltb seen (2 ^ k)))
+joined_from k (w ∷ l) seen r h =
+    joined_from k l h.0 r h.2
+    ∙ ap (λ n. ltb n (2 ^ k) && are_below (2 ^ k) l) h.1
+    ∙ ap (λ b. b && are_below (2 ^ k) l) (or_below k seen w)
+    ∙ and_assoc (ltb seen (2 ^ k)) (ltb w (2 ^ k)) (are_below (2 ^ k) l)
 
-  module _ (seen i : ℕ) where
-    pub joined_one : i < length l
-        → ltb (bit_or seen (get_or l i 0)) (2 ^ k) && are_below (2 ^ k) (drop (i + 1) l) ≡ ltb seen (2 ^ k) && are_below (2 ^ k) (drop i l)
-    unfolding are_below
-    joined_one h =
-        ap (λ (b : Bool). b && are_below (2 ^ k) (drop (i + 1) l)) (or_below k seen (get_or l i 0))
-        ∙ and_assoc (ltb seen (2 ^ k)) (ltb (get_or l i 0) (2 ^ k)) (are_below (2 ^ k) (drop (i + 1) l))
-        ∙ ap (λ (r : List ℕ). ltb seen (2 ^ k) && are_below (2 ^ k) r) (sym (next l i h))
-
-    pub joined_all : length l ≤ i → ltb seen (2 ^ k) && are_below (2 ^ k) (drop i l) ≡ ltb seen (2 ^ k)
-    joined_all h =
-        ap (λ (b : Bool). ltb seen (2 ^ k) && b) (ap (are_below (2 ^ k)) (drop_of_length-le l h) ∙ below_none (2 ^ k))
-        ∙ and-true (ltb seen (2 ^ k))
+pub below_joined : (k r : ℕ) (l : List ℕ) → (first : ℕ) × (first ≡ 0) × FoldsTo (λ x y z. z ≡ bit_or x y) first l r
+    → ltb r (2 ^ k) ≡ are_below (2 ^ k) l
+below_joined k r l h =
+    joined_from k l h.0 r h.2
+    ∙ ap (λ n. ltb n (2 ^ k) && are_below (2 ^ k) l) h.1
+    ∙ ap (λ b. b && are_below (2 ^ k) l) (lt-ltb 0 (2 ^ k) (pow_pos k))

@@ -1,103 +1,67 @@
--- A head that is put into its words.
+-- The words of a head, put one group after another.
 -- Assumes nothing.
-use mathlib.Core.Path.{◌≡◌, refl, sym, ap, subst, ◌∙◌}
-use mathlib.Core.List.{List, [], ◌∷◌, ◌++◌, map, append_assoc}
-use Prim.Native.Nat.{ℕ, ◌+◌, ◌≤◌, ◌<◌}
-use native.Mathlib.Numerals.{add-one}
+use mathlib.Core.Path.{◌≡◌, refl, sym, ap, ◌∙◌}
+use mathlib.Core.Bool.{Bool, true, false}
+use mathlib.Core.List.{List, [], ◌∷◌, ◌++◌, map}
+use Prim.Native.Nat.{ℕ, ◌+◌, ◌≤◌}
 use native.Mathlib.Omega.{arith}
-use lib.ListN.{length, length-map, get_or, take, drop, set, length-set}
-use lib.Seq.{take-suc, append_snoc}
-use Rattle.layout.specs.declared.head.Head.{Head}
-use Rattle.words.proofs.Writing.{Writing, start, wrote, behind, word_behind}
-use Rattle.words.proofs.Pieces.{wrote_piece}
-use Rattle.head_words.specs.HeadWords.{head_size, word_of}
+use borrow.Rule.Slice.PartMut.{put_mid}
+use lib.ListN.{length, length-append, length-drop, take, set, length-set}
+use lib.Seq.{length-take-le}
+use Rattle.std.proofs.lemmas.List.{take_all, take_more_set}
+use Rattle.std.proofs.lemmas.Slice.{take-put_mid}
+use Rattle.std.specs.Int.{from_bool}
+use Rattle.head_words.specs.HeadWords.{word_of}
 
--- room for a part of the head
-pub room : (n : ℕ) {m : ℕ} → m ≡ head_size → n ≤ head_size → n ≤ m
-room n e l = omega arith
+-- flags as words
+pub flag_words : (flags : List Bool) → map from_bool flags ≡ map word_of flags
+flag_words [] = refl
+flag_words (true ∷ flags) = ap (λ l. 1 ∷ l) (flag_words flags)
+flag_words (false ∷ flags) = ap (λ l. 0 ∷ l) (flag_words flags)
 
--- four words are put and their number stays
-pub put_long : (l : List ℕ) {first : List ℕ} (a b c d n : ℕ) → first ≡ set (set (set (set l 0 a) 1 b) 2 c) 3 d
-    → length first ≡ n → length l ≡ n
-put_long l a b c d n p e =
-    sym (length-set (set (set (set l 0 a) 1 b) 2 c) 3 d ∙ length-set (set (set l 0 a) 1 b) 2 c
-    ∙ length-set (set l 0 a) 1 b ∙ length-set l 0 a)
-    ∙ sym (ap length p)
-    ∙ e
+-- a slice keeps its length where a part of it is written
+part_put : (at n : ℕ) (words part : List ℕ) → at + n ≤ length words → length part ≡ n → length (put_mid at n words part) ≡ length words
+part_put at n words part room long =
+    simp (length-append, length-drop) (omega (arith, length-take-le at words (omega arith)))
 
--- the next of the words that are left stands there already
-standing : {out out₀ : List ℕ} {k : ℕ} {w : ℕ} {rest goal : List ℕ} → Writing out out₀ k (w ∷ rest) goal → get_or out₀ k 0 ≡ w
-    → k < length out → Writing out out₀ (k + 1) rest goal
-standing {out} {out₀} {k} {w} {rest} {goal} h e l =
-    record {
-      same = h.same;
-      within = omega arith;
-      front =
-          ap (λ (n : ℕ). take n out ++ rest) (add-one k)
-          ∙ ap (λ (r : List ℕ). r ++ rest) (take-suc out k 0 l)
-          ∙ ap (λ (n : ℕ). take k out ++ (n ∷ []) ++ rest) (word_behind h k (omega arith) ∙ e)
-          ∙ append_snoc (take k out) w rest
-          ∙ h.front;
-      back = behind h (k + 1) (omega arith);
-    }
+-- four numbers, three arrays and a number fill a slice that they have room in
+module _ (words : List ℕ) (a b c d e : ℕ) (flags issued ends : List ℕ) (size : length words ≡ 85)
+    (f : length flags ≡ 8) (i : length issued ≡ 8) (m : length ends ≡ 64) where
+  abbrev numbers : List ℕ
+  numbers = set (set (set (set words 0 a) 1 b) 2 c) 3 d
 
--- the words of the fields that tell what a store holds; they come first
-abbrev pub told : Head → List ℕ
-told head =
-    (head.used ∷ head.oldest ∷ head.checkpoint ∷ head.tip ∷ [])
-    ++ map word_of head.taken
-    ++ head.issued
-    ++ head.ends
-    ++ (head.depth ∷ [])
+  numbers_long : length numbers ≡ 85
+  numbers_long = simp length-set size
 
--- the depth stands in its word; the first four words of a head, and then its arrays; what comes behind is still to be written
-module _
-    (l : List ℕ)
-    (head : Head)
-    (e : 85 ≤ length l)
-    (ed : get_or l 84 0 ≡ head.depth)
-    (eh : length head.taken ≡ 8)
-    (ei : length head.issued ≡ 8)
-    (ee : length head.ends ≡ 64)
-    {first flags numbers ends : List ℕ}
-    (p : first ≡ set (set (set (set l 0 head.used) 1 head.oldest) 2 head.checkpoint) 3 head.tip)
-    (pf : flags ≡ take 4 first ++ map word_of head.taken ++ drop 12 first)
-    (pn : numbers ≡ take 12 flags ++ head.issued ++ drop 20 flags)
-    (pe : ends ≡ take 20 numbers ++ head.ends ++ drop 84 numbers)
-    (later : List ℕ) where
-  flags_long : length (map word_of head.taken) ≡ 8
-  flags_long = length-map head.taken word_of ∙ eh
+  numbers_first : take 4 numbers ≡ a ∷ b ∷ c ∷ d ∷ []
+  numbers_first =
+      let one = set words 0 a in
+      let two = set one 1 b in
+      let three = set two 2 c in
+      let one_long = length-set words 0 a ∙ size in
+      let two_long = length-set one 1 b ∙ one_long in
+      let three_long = length-set two 2 c ∙ two_long in
+      take_more_set three 3 d (omega (arith, three_long))
+      ∙ ap (λ l. l ++ (d ∷ []))
+      (take_more_set two 2 c (omega (arith, two_long))
+      ∙ ap (λ l. l ++ (c ∷ []))
+      (take_more_set one 1 b (omega (arith, one_long)) ∙ ap (λ l. l ++ (b ∷ [])) (take_more_set words 0 a (omega (arith, size)))))
 
-  abbrev goal : List ℕ
-  goal = told head ++ later
-
-  abbrev arrays : List ℕ
-  arrays = (map word_of head.taken ++ head.issued ++ head.ends ++ (head.depth ∷ [])) ++ later
-
-  abbrev end : List ℕ
-  end = head.depth ∷ later
-
-  first_put : Writing first l 4 arrays goal
-  first_put =
-      let one = wrote (start l goal) (omega (arith, e)) in
-      let two = wrote one (omega (arith, e, one.same)) in
-      let three = wrote two (omega (arith, e, two.same)) in
-      subst (λ (w : List ℕ). Writing w l 4 arrays goal) (sym p) (wrote three (omega (arith, e, three.same)))
-
-  flags_put : Writing flags l 12 (head.issued ++ (head.ends ++ end)) goal
-  flags_put =
-      wrote_piece first_put (map word_of head.taken) (head.issued ++ (head.ends ++ end))
-      (append_assoc (map word_of head.taken ++ head.issued ++ head.ends) (head.depth ∷ []) later
-      ∙ append_assoc (map word_of head.taken ++ head.issued) head.ends end
-      ∙ append_assoc (map word_of head.taken) head.issued (head.ends ++ end))
-      12 (omega (arith, flags_long)) (omega (arith, e, first_put.same)) pf
-
-  issued_put : Writing numbers l 20 (head.ends ++ end) goal
-  issued_put =
-      wrote_piece flags_put head.issued (head.ends ++ end) refl 20 (omega (arith, ei)) (omega (arith, e, flags_put.same)) pn
-
-  ends_put : Writing ends l 84 end goal
-  ends_put = wrote_piece issued_put head.ends end refl 84 (omega (arith, ee)) (omega (arith, e, issued_put.same)) pe
-
-  pub told_put : Writing ends l 85 later goal
-  told_put = standing ends_put ed (omega (arith, e, ends_put.same))
+  pub packed : set (put_mid 20 64 (put_mid 12 8 (put_mid 4 8 numbers flags) issued) ends) 84 e
+      ≡ (a ∷ b ∷ c ∷ d ∷ []) ++ flags ++ issued ++ ends ++ (e ∷ [])
+  packed =
+      let one = put_mid 4 8 numbers flags in
+      let two = put_mid 12 8 one issued in
+      let three = put_mid 20 64 two ends in
+      let one_long = part_put 4 8 numbers flags (omega (arith, numbers_long)) f ∙ numbers_long in
+      let two_long = part_put 12 8 one issued (omega (arith, one_long)) i ∙ one_long in
+      let three_long = part_put 20 64 two ends (omega (arith, two_long)) m ∙ two_long in
+      let whole = length-set three 84 e ∙ three_long in
+      sym (take_all 85 (set three 84 e) (omega (arith, whole)))
+      ∙ take_more_set three 84 e (omega (arith, three_long))
+      ∙ ap (λ l. l ++ (e ∷ []))
+      (take-put_mid 20 64 two ends 84 (omega (arith, m)) (omega (arith, two_long))
+      ∙ ap (λ l. l ++ ends)
+      (take-put_mid 12 8 one issued 20 (omega (arith, i)) (omega (arith, one_long))
+      ∙ ap (λ l. l ++ issued)
+      (take-put_mid 4 8 numbers flags 12 (omega (arith, f)) (omega (arith, numbers_long)) ∙ ap (λ l. l ++ flags) numbers_first)))

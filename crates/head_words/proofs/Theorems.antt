@@ -16,7 +16,6 @@ use Rattle.layout.proofs.Holds.{all_first, all_rest, first_holds, last_test}
 use Rattle.words.proofs.Parts.{next}
 use Rattle.head_words.proofs.Below.{below_none, below_on}
 use Rattle.head_words.proofs.BelowParts.{below_first, below_rest, below_both}
-use Rattle.head_words.proofs.Packing.{told}
 use Rattle.head_words.specs.HeadWords.{
   head_size,
   limit,
@@ -127,7 +126,7 @@ module _ (w : List ℕ) (long : length w ≡ head_size) (e : is_head w ≡ true)
       ∙ take-append-drop 8 (drop 4 w)
 
   -- the fields that tell what a store holds, with the words behind
-  told_back : told (head_of w) ++ drop 85 w ≡ w
+  told_back : words_of (head_of w) ++ drop 85 w ≡ w
   told_back =
       let first = get_or w 0 0 ∷ number_in (get_or w 1 0) ∷ number_in (get_or w 2 0) ∷ number_in (get_or w 3 0) ∷ [] in
       let flags = map word_of (map flag_of (from 4 8 w)) in
@@ -143,14 +142,14 @@ module _ (w : List ℕ) (long : length w ≡ head_size) (e : is_head w ≡ true)
 
   pub words_back : words_of (head_of w) ≡ w
   words_back =
-      sym (append-nil (told (head_of w)))
-      ∙ ap (λ (r : List ℕ). told (head_of w) ++ r) (sym (drop_of_length-le w {i = 85} (omega (arith, long))))
+      sym (append-nil (words_of (head_of w)))
+      ∙ ap (λ (r : List ℕ). words_of (head_of w) ++ r) (sym (drop_of_length-le w {i = 85} (omega (arith, long))))
       ∙ told_back
 
 -- a head whose fields fit comes back: the fields that tell what a store holds, read from their words, whatever comes behind
 module _ (head : Head) (f : Fits head) (behind : List ℕ) where
   abbrev words : List ℕ
-  words = told head ++ behind
+  words = words_of head ++ behind
 
   abbrev end : List ℕ
   end = head.depth ∷ behind

@@ -6,8 +6,8 @@ use mathlib.Core.List.{List, [], ◌∷◌, map}
 use Prim.Native.Nat.{ℕ, zero, suc}
 use lib.ListN.{get_or, set, get_or-map}
 use Rattle.entry.specs.Word.{offer_of, price_of}
-use Rattle.changes.specs.declared.search.Found.{Found}
-use Rattle.changes.specs.declared.search.Found.TheVariants.{Word, Nothing}
+use Rattle.changes.specs.Found.{Found}
+use Rattle.std.proofs.Common.{Some, None}
 use Rattle.changes.specs.Calculus.{find}
 use Rattle.views.specs.View.{Limits}
 use Rattle.answers.specs.Answers.{When}
@@ -91,8 +91,8 @@ module _ (calls : List Call) (rest : (q : Plain) → Told q calls (plain_respons
       → find asked.offer (map_at p.line asked.state) ≡ f
       → Told p (calling (ask (LookUp asked)) list bytes ∷ calls) (quoted f since ∷ plain_responses p calls)
   unfolding quotes accepted_calls again
-  looked p asked list bytes since (Word w) e = rw e (ap (◌∷◌ (priced (price_of w))) (rest p))
-  looked p asked list bytes since Nothing e = rw e (ap (◌∷◌ unpriced) (rest p))
+  looked p asked list bytes since (Some w) e = rw e (ap (◌∷◌ (priced (price_of w))) (rest p))
+  looked p asked list bytes since None e = rw e (ap (◌∷◌ unpriced) (rest p))
 
   -- an accepted call leaves the sketch that its name does, and quotes what its name tells; a flush has no name and leaves it
   accepted : (p : Plain) (named : Named) (list bytes : List ℕ)

@@ -6,7 +6,7 @@ use Prim.Native.Nat.{ℕ, ◌≤◌}
 use native.Mathlib.Omega.{arith}
 use lib.Dec.{ltb}
 use lib.ListN.{length}
-use Rattle.answers.specs.declared.answer.Check.TheVariants.{Passed}
+use Rattle.std.proofs.Common.{Ok}
 use Rattle.answers.specs.declared.call.Step.TheVariants.{Flush}
 use Rattle.layout.specs.States.{map_here}
 use Rattle.views.specs.Trim.{trimmed}
@@ -47,7 +47,7 @@ module _ (p : Plain) (f : Fit p) (state : ℕ) where
   abbrev flushed : Plain
   flushed = with_checkpoint p state
 
-  module _ (e : flush_check T J s.head state ≡ Passed) where
+  module _ (e : flush_check T J s.head state ≡ (Ok tt)) where
     flush_met : FlushOk T J s.head state
     flush_met = flush_ok T J s.head state e
 

@@ -11,8 +11,8 @@ use lib.Dec.{leb, ltb}
 use lib.ListN.{length, get_or, take, drop, replicate}
 use lib.Seq.{take-nil, drop-nil}
 use Rattle.changes.specs.Lists.{All}
-use Rattle.answers.specs.declared.answer.Check.{Check}
-use Rattle.answers.specs.declared.answer.Check.TheVariants.{Passed}
+use Rattle.answers.specs.Check.{Check}
+use Rattle.std.proofs.Common.{Ok}
 use Rattle.answers.specs.declared.call.Reset.TheVariants.{Load as LoadCall}
 use Rattle.answers.proofs.Firsts.{first_not}
 use Rattle.image.specs.Image.{number_in}
@@ -90,8 +90,8 @@ module _ (lent : Store) (load : Load) (range : are_lengths (length lent.table) (
       (sym (between_none l number (number + 0) refl) i)
       number
 
-  module _ (e : load_check lent.table lent.journal load.depth load.format load.bytes ≡ Passed) where
-    pub load_after : store_in (loaded_by Passed lent load).lent ≡ store_of (loaded_plain (lengths_of lent) load)
+  module _ (e : load_check lent.table lent.journal load.depth load.format load.bytes ≡ (Ok tt)) where
+    pub load_after : store_in (loaded_by (Ok tt) lent load).lent ≡ store_of (loaded_plain (lengths_of lent) load)
     load_after =
         (load_leaves lent.table lent.journal load.depth load.format load.bytes e).is
         ∙ ap (encode (fresh_head 0 0 0)) fresh_view_lem

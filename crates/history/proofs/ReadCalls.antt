@@ -9,8 +9,8 @@ use borrow.Author.Tests.{le-leb}
 use lib.Dec.{ltb, leb}
 use lib.ListN.{length, get_or, take, length-map, get_or-map}
 use Rattle.entry.specs.Word.{offer_of, none_of}
-use Rattle.changes.specs.declared.search.Found.{Found}
-use Rattle.changes.specs.declared.search.Found.TheVariants.{Word, Nothing}
+use Rattle.changes.specs.Found.{Found}
+use Rattle.std.proofs.Common.{Some, None}
 use Rattle.changes.specs.Calculus.{find, compose_all}
 use Rattle.changes.specs.Lists.{is_list, has_no_put, Map}
 use Rattle.changes.specs.ReadSets.{found_or, read_of, over}
@@ -23,15 +23,14 @@ use Rattle.answers.specs.declared.call.Query.TheVariants.{LookUp}
 use Rattle.answers.specs.declared.call.Read.TheVariants.{Issue, Forward, Release}
 use Rattle.answers.specs.declared.call.Reader.{Reader}
 use Rattle.answers.specs.Answers.{When, by_step, said_by_since, said_by}
-use Rattle.answers.specs.declared.answer.Check.TheVariants.{Passed}
+use Rattle.std.proofs.Common.{Ok}
 use Rattle.answers.specs.declared.answer.Since.{Since}
 use Rattle.layout.specs.States.{steps_between, map_here}
 use Rattle.views.specs.Trim.{trimmed}
 use Rattle.views.specs.View.{Store, View, closed as closed_slot, holding, issued_of, encode, decode, Good, map_at as view_map_at}
 use Rattle.forwards.specs.Forward.{forward_check, steps_for}
 use Rattle.issues.specs.Issue.{issue_check}
-use Rattle.last_changes.specs.declared.Last.{Last}
-use Rattle.last_changes.specs.declared.Last.TheVariants.{Word as Last-Word, Nothing as Last-Nothing}
+use Rattle.last_changes.specs.Last.{Last}
 use Rattle.last_changes.specs.Last.{onward, last_in}
 use Rattle.lookups.specs.LookUp.{look_up_check, quote_of, since_of, since_here}
 use Rattle.read_views.specs.OnView.{with_slot, between}
@@ -140,15 +139,15 @@ no_six (met false n ∷ before) b c long long' gs h = no_six before b c long lon
 
 quote_same : (asked : Asked) (found : Found) (since : Since) (words bytes : List ℕ)
     → response_to (ask (LookUp asked)) (said_by (quote_of found since)) words bytes ≡ quoted found (said_by_since since)
-quote_same asked (Word w) since words bytes = refl
-quote_same asked Nothing since words bytes = refl
+quote_same asked (Some w) since words bytes = refl
+quote_same asked None since words bytes = refl
 
 -- the last step naming an offer, by how many steps lead up to it and by the state to which it leads
 onward_same : (from : ℕ) (last : Last) (found : Found)
     → said_by_since (since_of from (onward last found)) ≡ later_or (said_by_since (since_of (suc from) last)) (named_at (suc from) found)
-onward_same from (Last-Word w n) found = ap by_step (omega arith)
-onward_same from Last-Nothing (Word w) = ap by_step (omega arith)
-onward_same from Last-Nothing Nothing = refl
+onward_same from (Some (w, n)) found = ap by_step (omega arith)
+onward_same from None (Some w) = ap by_step (omega arith)
+onward_same from None None = refl
 
 last_same : (offer from : ℕ) (lists : List (List ℕ)) → said_by_since (since_of from (last_in offer lists)) ≡ last_naming offer from lists
 unfolding last_in last_naming
@@ -175,14 +174,14 @@ module _ (p : Plain) (f : Fit p) where
         ∙ verdict_of_lem _
         ∙ ap (λ (gs : List Test). first_of (met (leb (2 ^ 31) asked.offer) 6 ∷ gs)) (state_same p f asked.state)
 
-    map_there : look_up_check T J s.head asked ≡ Passed → map_here T J s.head asked.state ≡ map_at p.line asked.state
+    map_there : look_up_check T J s.head asked ≡ (Ok tt) → map_here T J s.head asked.state ≡ map_at p.line asked.state
     map_there e =
         let ok = look_up_ok T J s.head asked e in
         look_up_shows T J s.head asked e
         ∙ ap (λ (v : View). view_map_at v asked.state) (view_back p f)
         ∙ view_map p f asked.state (omega (arith, checkpoint_is p f, ok.low)) (omega (arith, tip_is p f, ok.high))
 
-    since_there : look_up_check T J s.head asked ≡ Passed
+    since_there : look_up_check T J s.head asked ≡ (Ok tt)
         → said_by_since (since_here J s.head asked) ≡ since_at p asked.offer asked.state
     since_there e =
         let ok = look_up_ok T J s.head asked e in
@@ -216,7 +215,7 @@ module _ (p : Plain) (f : Fit p) where
         (slot_tests reader ++ (met b 4 ∷ met (not (is_list list)) 6 ∷ met (not (has_no_put list)) 6 ∷ long_tests reader list)))
         (open_same p f slot)
 
-    module _ (e : issue_check T J s.head reader list ≡ Passed) where
+    module _ (e : issue_check T J s.head reader list ≡ (Ok tt)) where
       free : open_at p slot ≡ false
       free = sym (open_same p f slot) ∙ (issue_ok T J s.head reader list e).free
 
@@ -361,7 +360,7 @@ module _ (p : Plain) (f : Fit p) where
         ∙ no_six (slot_tests reader) (open_at p reader.slot) (is_list words) (over_most (length words))
         (over_most (length (offers_at p reader.slot))) (state_tests p state) (ready (get_or p.places reader.slot closed) refl)
 
-    module _ (e : forward_check T J s.head reader state words ≡ Passed) where
+    module _ (e : forward_check T J s.head reader state words ≡ (Ok tt)) where
       forward_met : ForwardOk T J s.head reader state words
       forward_met = forward_ok T J s.head reader state words e
 

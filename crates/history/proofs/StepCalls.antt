@@ -8,7 +8,7 @@ use native.Mathlib.Omega.{arith}
 use lib.Dec.{eqb, ltb}
 use lib.ListN.{length}
 use Rattle.changes.specs.Lists.{is_list}
-use Rattle.answers.specs.declared.answer.Check.TheVariants.{Passed}
+use Rattle.std.proofs.Common.{Ok}
 use Rattle.answers.specs.declared.call.Step.TheVariants.{Commit, RollBack}
 use Rattle.views.specs.View.{Store, View, decode, Good}
 use Rattle.commits.specs.Commit.{commit_check}
@@ -78,7 +78,7 @@ module _ (p : Plain) (f : Fit p) where
     roll_checks : verdict_of (roll_check T J s.head state) ≡ first_of (state_tests p state)
     roll_checks = ap verdict_of (past_two p f _) ∙ verdict_of_lem _ ∙ ap first_of (state_same p f state)
 
-    module _ (e : roll_check T J s.head state ≡ Passed) where
+    module _ (e : roll_check T J s.head state ≡ (Ok tt)) where
       roll_met : RollOk T J s.head state
       roll_met = roll_ok T J s.head state e
 

@@ -7,8 +7,8 @@ use Prim.Native.Nat.{ℕ, ◌+◌, ◌≤◌}
 use native.Mathlib.Omega.{arith}
 use lib.Dec.{eqb, ltb}
 use lib.ListN.{length, get_or}
-use Rattle.answers.specs.declared.answer.Check.{Check}
-use Rattle.answers.specs.declared.answer.Check.TheVariants.{Passed, Refused}
+use Rattle.answers.specs.Check.{Check}
+use Rattle.std.proofs.Common.{Ok, Err}
 use Rattle.answers.specs.declared.ground.Ground.TheVariants.{Lengths, Unsound}
 use Rattle.answers.specs.First.{Test, met, first}
 use Rattle.answers.specs.Numbers.{number_of}
@@ -105,8 +105,8 @@ module _ (p : Plain) (f : Fit p) where
 
 -- a check as a verdict, and the unit's grounds as the plain list's
 abbrev pub verdict_of : Check → Verdict
-verdict_of Passed = accept
-verdict_of (Refused ground) = refuse (number_of ground)
+verdict_of (Ok tt) = accept
+verdict_of (Err ground) = refuse (number_of ground)
 
 abbrev numbered : Test → PlainTest
 numbered (met b r) = asked b (number_of r)
@@ -123,9 +123,9 @@ unfolding first_of
 accepted_not true n gs e = absurd (let z : ◌≡◌ {A = ℕ} 0 1 = cc in omega arith)
 accepted_not false n gs e = (refl, e)
 
-pub accepted_done : (o : Check) → verdict_of o ≡ accept → o ≡ Passed
-accepted_done Passed e = refl
-accepted_done (Refused r) e = absurd (let z : ◌≡◌ {A = ℕ} 0 1 = cc in omega arith)
+pub accepted_done : (o : Check) → verdict_of o ≡ accept → o ≡ (Ok tt)
+accepted_done (Ok tt) e = refl
+accepted_done (Err r) e = absurd (let z : ◌≡◌ {A = ℕ} 0 1 = cc in omega arith)
 
 -- the transition of the plain list on a call with a verdict, with what its store holds then
 abbrev pub transition_by : Plain → Call → Verdict → Transition Store
@@ -140,7 +140,7 @@ transition_settled p call words made c = transition_of call.named (settled_by c 
 pub settle : (p : Plain) (call : Call) (words : List ℕ)
     → let m = meaning (lent_with (store_of p) words call.bytes) (unit_call call.named) in
     verdict_of (check_of m) ≡ checked p call
-    → (check_of m ≡ Passed → transition_of call.named m.accepted ≡ transition_by p call accept)
+    → (check_of m ≡ (Ok tt) → transition_of call.named m.accepted ≡ transition_by p call accept)
     → store_transition (store_of p) call words ≡ transition_by p call (checked p call)
 settle p call words same done = go (check_of m) refl
   where
@@ -148,5 +148,5 @@ settle p call words same done = go (check_of m) refl
     m = meaning (lent_with (store_of p) words call.bytes) (unit_call call.named)
 
     go : (c : Check) → check_of m ≡ c → store_transition (store_of p) call words ≡ transition_by p call (checked p call)
-    go Passed e = ap (transition_settled p call words m.accepted) e ∙ done e ∙ ap (transition_by p call) (sym (ap verdict_of e) ∙ same)
-    go (Refused r) e = ap (transition_settled p call words m.accepted) e ∙ ap (transition_by p call) (sym (ap verdict_of e) ∙ same)
+    go (Ok tt) e = ap (transition_settled p call words m.accepted) e ∙ done e ∙ ap (transition_by p call) (sym (ap verdict_of e) ∙ same)
+    go (Err r) e = ap (transition_settled p call words m.accepted) e ∙ ap (transition_by p call) (sym (ap verdict_of e) ∙ same)

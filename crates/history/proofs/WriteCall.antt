@@ -6,7 +6,7 @@ use Prim.Native.Nat.{ℕ}
 use native.Mathlib.Omega.{arith}
 use lib.Dec.{ltb}
 use lib.ListN.{length, drop}
-use Rattle.answers.specs.declared.answer.Check.TheVariants.{Passed}
+use Rattle.std.proofs.Common.{Ok}
 use Rattle.answers.specs.declared.call.Format.{Format}
 use Rattle.answers.specs.declared.call.Query.TheVariants.{Write, WriteState}
 use Rattle.formats.specs.Formats.{bytes_for, size_for}
@@ -50,7 +50,7 @@ module _ (p : Plain) (f : Fit p) (format : Format) where
         ap (λ (m : List ℕ). ltb (length out) (size_for format m)) (map_same p f state w.0 w.1) ∙ ap (ltb (length out)) long)
 
     -- of a state that is accepted the map in memory is the plain list's, and so are the bytes
-    module _ (e : write_check format T J s.head state (length out) ≡ Passed) where
+    module _ (e : write_check format T J s.head state (length out) ≡ (Ok tt)) where
       map_is : map_here T J s.head state ≡ map_at p.line state
       map_is =
           let h = (write_ok format T J s.head state (length out) e).held in

@@ -5,8 +5,8 @@
 -- Assumes nothing.
 use Rattle.std.specs.Prelude.{Bool, true, false, not, ◌&&◌, List, [], ◌∷◌, ◌++◌, map, ℕ, suc, ◌+◌, ◌-◌, ◌^◌, min, eqb, ltb, leb, length, take, drop, get_or, set, replicate}
 use Rattle.entry.specs.Word.{offer_of, price_of, none_of}
-use Rattle.changes.specs.declared.search.Found.{Found}
-use Rattle.changes.specs.declared.search.Found.TheVariants.{Word, Nothing}
+use Rattle.changes.specs.Found.{Found}
+use Rattle.std.specs.Prelude.{Some, None}
 use Rattle.changes.specs.Calculus.{find, apply}
 use Rattle.changes.specs.Lists.{is_list, has_no_put}
 use Rattle.changes.specs.ReadSets.{found_or}
@@ -107,13 +107,13 @@ shown m = map (λ offer. found_or (find offer m) (none_of offer))
 
 -- the price of an offer in a map, or none, and since when
 abbrev pub quoted : Found → When → Response
-quoted (Word w) since = price (price_of w) since
-quoted Nothing since = no_price since
+quoted (Some w) since = price (price_of w) since
+quoted None since = no_price since
 
 -- a list names an offer by a word of either kind: then the state to which it leads
 abbrev pub named_at : ℕ → Found → When
-named_at state (Word w) = by_step state
-named_at state Nothing = by_book
+named_at state (Some w) = by_step state
+named_at state None = by_book
 
 abbrev pub later_or : When → When → When
 later_or (by_step state) earlier = by_step state

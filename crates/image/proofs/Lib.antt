@@ -3,3 +3,4 @@ pub mod RoundTrip
 pub mod Storing
 pub mod Theorems
 pub mod Words
+mod Halves

@@ -1,25 +1,27 @@
 // An image tested and read.
-ghost use Rattle.std.specs.Prelude.{◌≡◌, ◌++◌, ◌+◌, ◌*◌, ◌^◌, ◌<◌, ◌≤◌, length, drop};
-ghost use Rattle.image.specs.Image.{number_in, count_in, words_in, is_image};
+ghost use Rattle.std.specs.Prelude.{◌≡◌, ◌++◌, ◌+◌, ◌*◌, ◌^◌, ◌<◌, ◌≤◌, length, take, drop};
+ghost use Rattle.big_endian.specs.Bytes.{value_of};
+ghost use Rattle.image.specs.Image.{count_in, words_in, is_image};
 
 use crate::{HEADER_BYTES, WORD_BYTES};
-use big_endian::numbers::{u16_at, u32_at, u64_at};
+use big_endian::numbers::uint_at;
 use entry::Entry;
 
-// The state number of an image. The bytes have its header.
-pub fn state_of(bytes: &[u8]) -> u32
-    requires { 6 ≤ length bytes.now }
-    ensures { result ≡ number_in bytes.now }
-{
-    u32_at(bytes, 0)
-}
-
 // The count of an image's words. The bytes have its header.
+#[tactic(auto, unfolding(crate::specs::Image::count_in))]
 pub fn count_of(bytes: &[u8]) -> usize
     requires { 6 ≤ length bytes.now }
     ensures { (result ≡ count_in bytes.now) × (result < 2 ^ 16) }
 {
-    u16_at(bytes, 4) as usize
+    uint_at::<2>(bytes, 4) as usize
+}
+
+// A word's number, in two halves: of these the compiler makes one load, and of eight bytes as many loads as there are bytes.
+fn word_at(bytes: &[u8], at: usize) -> u64
+    requires { at + 8 ≤ length bytes.now }
+    ensures { result ≡ value_of (take 8 (drop at bytes.now)) }
+{
+    uint_at::<4>(bytes, at) * (1 << 32) + uint_at::<4>(bytes, at + 4)
 }
 
 // Whether the bytes are an image: neither their length nor the words' kinds and order of offers are wrong.
@@ -34,14 +36,12 @@ pub fn is_image(bytes: &[u8]) -> bool
         return false;
     }
     let mut last = Entry::LAST_REMOVAL;
-    let mut i = 0;
-    while i < count {
-        let key = Entry::key_of(u64_at(bytes, HEADER_BYTES + WORD_BYTES * i));
+    for i in 0..count {
+        let key = Entry::key_of(word_at(bytes, HEADER_BYTES + WORD_BYTES * i));
         if key <= last {
             return false;
         }
         last = key;
-        i += 1;
     }
     true
 }
@@ -53,9 +53,7 @@ pub fn read_words(bytes: &[u8], table: &mut [u64])
     ensures { table.new ≡ words_in bytes.now ++ drop (count_in bytes.now) table.old }
 {
     let count = count_of(bytes);
-    let mut i = 0;
-    while i < count {
-        table[i] = u64_at(bytes, HEADER_BYTES + WORD_BYTES * i);
-        i += 1;
+    for (i, word) in table[..count].iter_mut().enumerate() {
+        *word = word_at(bytes, HEADER_BYTES + WORD_BYTES * i);
     }
 }

@@ -3,7 +3,7 @@ ghost use Rattle.std.specs.Prelude.{◌≡◌, ◌++◌, ◌+◌, ◌*◌, ◌^�
 ghost use Rattle.image.specs.Image.{image_of};
 
 use crate::{HEADER_BYTES, WORD_BYTES};
-use big_endian::numbers::{put_u16, put_u32, put_u64};
+use big_endian::numbers::put_uint;
 
 // Writes the image of a state number and the words to the start of `out`, and gives its length; the bytes
 // behind it stay. The count fits its field, and `out` has room.
@@ -12,14 +12,10 @@ pub fn write(state: u32, words: &[u64], out: &mut [u8]) -> usize
     ensures { (result ≡ 6 + 8 * length words.now)
         × (out.new ≡ image_of state words.now ++ drop result out.old) }
 {
-    put_u32(out, 0, state);
-    put_u16(out, 4, words.len() as u16);
-    let mut at = HEADER_BYTES;
-    let mut i = 0;
-    while i < words.len() {
-        put_u64(out, at, words[i]);
-        at += WORD_BYTES;
-        i += 1;
+    put_uint::<4>(out, 0, u64::from(state));
+    put_uint::<2>(out, 4, words.len() as u64);
+    for (i, word) in words.iter().enumerate() {
+        put_uint::<WORD_BYTES>(out, HEADER_BYTES + WORD_BYTES * i, *word);
     }
-    at
+    HEADER_BYTES + WORD_BYTES * words.len()
 }

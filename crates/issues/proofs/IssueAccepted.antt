@@ -13,14 +13,14 @@ use Rattle.changes.proofs.Laws.{fill_none}
 use Rattle.changes.proofs.ListTest.{list_facts}
 use Rattle.changes.proofs.NoPuts.{show_none}
 use Rattle.answers.specs.declared.call.Reader.{Reader}
-use Rattle.answers.specs.declared.answer.Check.TheVariants.{Passed}
+use Rattle.std.proofs.Common.{Ok}
 use Rattle.answers.proofs.Firsts.{passed_not}
 use Rattle.layout.specs.declared.head.Head.{Head}
 use Rattle.layout.proofs.HeadTests.{InRange}
 use Rattle.slots.specs.Callers.{most_words}
 use Rattle.slots.proofs.Passed.{slot_passed}
 use Rattle.soundness.proofs.Passed.{store_passed}
-use Rattle.soundness.proofs.Sounds.{Sound}
+use Rattle.soundness.specs.Facts.{Sound}
 use Rattle.issues.specs.Issue.{issue_check}
 
 pub record IssueOk (table journal : List ℕ) (head : Head) (reader : Reader) (list : List ℕ) : Type 0 where
@@ -34,7 +34,7 @@ pub record IssueOk (table journal : List ℕ) (head : Head) (reader : Reader) (l
   pub none : All (λ w. w ≡ none_of (offer_of w)) list
 
 pub issue_ok : (table journal : List ℕ) (head : Head) (reader : Reader) (list : List ℕ)
-    → issue_check table journal head reader list ≡ Passed → IssueOk table journal head reader list
+    → issue_check table journal head reader list ≡ Ok tt → IssueOk table journal head reader list
 issue_ok table journal head reader list e =
     let a = store_passed table journal head _ e in
     let c = slot_passed reader _ a.1 in

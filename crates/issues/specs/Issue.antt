@@ -4,7 +4,7 @@
 use Rattle.std.specs.Prelude.{false, not, List, ◌∷◌, ◌++◌, ℕ, length, take, get_or}
 use Rattle.changes.specs.Lists.{is_list, has_no_put}
 use Rattle.changes.specs.ReadSets.{read_of}
-use Rattle.answers.specs.declared.answer.Check.{Check}
+use Rattle.answers.specs.Check.{Check}
 use Rattle.answers.specs.declared.call.Reader.{Reader}
 use Rattle.answers.specs.declared.ground.Ground.TheVariants.{SlotTaken, BadList}
 use Rattle.answers.specs.First.{Test, met, first, if_passed}

@@ -9,7 +9,7 @@ use lib.ListN.{length, get_or, set, take, drop, length-set, length-drop, drop_of
 use lib.Seq.{get_or-set_same, get_or-take, get_or-drop, length-take-le}
 use Rattle.entry.specs.Word.{offer_of}
 use Rattle.words.proofs.Parts.{next}
-use Rattle.changes.specs.declared.search.Found.TheVariants.{Nothing}
+use Rattle.std.proofs.Common.{None}
 use Rattle.changes.specs.Calculus.{find, or_else, compose_all}
 use Rattle.changes.specs.Lists.{From}
 use Rattle.changes.specs.Runs.{start_of, step_of, run_of}
@@ -121,8 +121,8 @@ module _ {journal ends : List ℕ} {from to : ℕ} (r : Rising journal ends from
 
 -- what none of the steps has, their composition has not
 none_in_run : (words ends : List ℕ) (offer n i : ℕ) → ((k : ℕ) → i ≤ k → k < i + n → From 0 (step_of words ends k))
-    → ((k : ℕ) → i ≤ k → k < i + n → find offer (step_of words ends k) ≡ Nothing)
-    → find offer (compose_all (run_of words ends i n)) ≡ Nothing
+    → ((k : ℕ) → i ≤ k → k < i + n → find offer (step_of words ends k) ≡ None)
+    → find offer (compose_all (run_of words ends i n)) ≡ None
 unfolding run_of
 none_in_run words ends offer zero i h g = ap (find offer) compose_all-nil ∙ find_empty offer
 none_in_run words ends offer (suc n) i h g =
@@ -135,7 +135,7 @@ none_in_run words ends offer (suc n) i h g =
 -- an offer whose cell is not set is in none of the steps
 pub not_noted : {filter : List Bool} {journal ends : List ℕ} {from to : ℕ} → Rising journal ends from to
     → Noted filter journal ends from to → (word : ℕ) → get_or filter (cell_of word) false ≡ false
-    → find (offer_of word) (compose_all (run_of journal ends from (to - from))) ≡ Nothing
+    → find (offer_of word) (compose_all (run_of journal ends from (to - from))) ≡ None
 not_noted {filter} {journal} {ends} {from} {to} r n word e =
     none_in_run journal ends (offer_of word) (to - from) from (λ k a b. r.rises k a (omega (arith, r.order)))
     (λ k a b. find_nowhere (offer_of word) (step_of journal ends k) (λ i l o. absurd (clash k a (omega (arith, r.order)) i l o)))

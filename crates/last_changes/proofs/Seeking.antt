@@ -5,8 +5,8 @@ use mathlib.Core.List.{List, [], ◌∷◌, ◌++◌}
 use Prim.Native.Nat.{ℕ, zero, suc, ◌+◌, ◌-◌, ◌≤◌, ◌<◌}
 use native.Mathlib.Omega.{arith}
 use lib.ListN.{length, take, drop}
-use Rattle.changes.specs.declared.search.Found.{Found}
-use Rattle.changes.specs.declared.search.Found.TheVariants.{Word, Nothing}
+use Rattle.changes.specs.Found.{Found}
+use Rattle.std.proofs.Common.{Some, None}
 use Rattle.changes.specs.Calculus.{find, or_else, compose_all}
 use Rattle.changes.specs.Lists.{From}
 use Rattle.changes.specs.Runs.{start_of, step_of, run_of, Marked}
@@ -18,8 +18,7 @@ use Rattle.changes.proofs.Running.{run_none, run_one, Marked-fewer}
 use Rattle.views.proofs.Laid.{run_count}
 use Rattle.lists.proofs.Halving.{finds}
 use Rattle.lists.specs.Searches.{Finds}
-use Rattle.last_changes.specs.declared.Last.{Last}
-use Rattle.last_changes.specs.declared.Last.TheVariants.{Word as Last-Word, Nothing as Last-Nothing}
+use Rattle.last_changes.specs.Last.{Last}
 use Rattle.last_changes.specs.Last.{onward, last_in, word_in, said_by_last, LastIs}
 use Rattle.last_changes.specs.Steps.{Rising}
 
@@ -43,27 +42,27 @@ pub between_rises : {words ends : List ℕ} {from to : ℕ} → Rising words end
 between_rises {words} {ends} {from} {to} r = run_rises words ends (to - from) from (λ k a b. r.rises k a (omega (arith, r.order)))
 
 -- the last of some steps with one more behind them: in that step, or else in those before it
-last_here : (offer : ℕ) (ds : List (List ℕ)) (d : List ℕ) (w : ℕ) → find offer d ≡ Word w
-    → last_in offer (ds ++ (d ∷ [])) ≡ Last-Word w (suc (length ds))
+last_here : (offer : ℕ) (ds : List (List ℕ)) (d : List ℕ) (w : ℕ) → find offer d ≡ Some w
+    → last_in offer (ds ++ (d ∷ [])) ≡ Some (w, suc (length ds))
 unfolding last_in
-last_here offer [] d w e = ap (onward Last-Nothing) e
+last_here offer [] d w e = ap (onward None) e
 last_here offer (c ∷ ds) d w e = ap (λ (l : Last). onward l (find offer c)) (last_here offer ds d w e)
 
-last_before : (offer : ℕ) (ds : List (List ℕ)) (d : List ℕ) → find offer d ≡ Nothing
+last_before : (offer : ℕ) (ds : List (List ℕ)) (d : List ℕ) → find offer d ≡ None
     → last_in offer (ds ++ (d ∷ [])) ≡ last_in offer ds
 unfolding last_in
-last_before offer [] d e = ap (onward Last-Nothing) e
+last_before offer [] d e = ap (onward None) e
 last_before offer (c ∷ ds) d e = ap (λ (l : Last). onward l (find offer c)) (last_before offer ds d e)
 
-none_in : (offer : ℕ) → last_in offer [] ≡ Last-Nothing
+none_in : (offer : ℕ) → last_in offer [] ≡ None
 unfolding last_in
 none_in offer = refl
 
 -- its word is the composition's
 word_onward : (l : Last) (f : Found) → word_in (onward l f) ≡ or_else (word_in l) f
-word_onward (Last-Word w n) f = refl
-word_onward Last-Nothing (Word w) = refl
-word_onward Last-Nothing Nothing = refl
+word_onward (Some (w, n)) f = refl
+word_onward None (Some w) = refl
+word_onward None None = refl
 
 last_word : (words ends : List ℕ) (offer n i : ℕ) → ((k : ℕ) → i ≤ k → k < i + n → From 0 (step_of words ends k))
     → word_in (last_in offer (run_of words ends i n)) ≡ find offer (compose_all (run_of words ends i n))
@@ -98,7 +97,7 @@ pub seeking : {words ends : List ℕ} {from to : ℕ} → Rising words ends from
 seeking r offer = record { rising = r; low = r.order; high = omega arith; left = refl }
 
 module _ {words ends : List ℕ} {from to offer k : ℕ} (s : Seeking words ends from to offer k) where
-  pub sought : k ≤ from → Last-Nothing ≡ last_in offer (run_of words ends from (to - from))
+  pub sought : k ≤ from → None ≡ last_in offer (run_of words ends from (to - from))
   sought h =
       let none : k - from ≡ 0 = omega arith in
       sym (none_in offer)
@@ -123,16 +122,16 @@ module _ {words ends : List ℕ} {from to offer k : ℕ} (s : Seeking words ends
         (ap (λ (n : ℕ). run_of words ends n 1) place ∙ run_one words ends (k - 1))
 
     module _ (f : Found) (e : f ≡ find offer (step_of words ends (k - 1))) where
-      pub found_there : (w : ℕ) → f ≡ Word w → Last-Word w (k - from) ≡ last_in offer (run_of words ends from (to - from))
+      pub found_there : (w : ℕ) → f ≡ Some w → Some (w, k - from) ≡ last_in offer (run_of words ends from (to - from))
       found_there w i =
           let before = run_of words ends from (k - 1 - from) in
           let count : k - from ≡ suc (length before) = omega (arith, run_count words ends (k - 1 - from) from) in
-          ap (Last-Word w) count
+          ap (λ (n : ℕ). Some (w, n)) count
           ∙ sym (last_here offer before (step_of words ends (k - 1)) w (sym e ∙ i))
           ∙ ap (last_in offer) (sym newest)
           ∙ s.left
 
-      pub not_there : f ≡ Nothing → Seeking words ends from to offer (k - 1)
+      pub not_there : f ≡ None → Seeking words ends from to offer (k - 1)
       not_there i =
           let before = run_of words ends from (k - 1 - from) in
           record {

@@ -20,10 +20,8 @@ pub fn note_offers(words: &[u64], filter: &mut [bool])
     requires { length filter.old ≡ 16384 }
     ensures { filter.new ≡ noted filter.old words.now }
 {
-    let mut i = 0;
-    while i < words.len() {
-        let cell = filter_cell(words[i]);
+    for word in words {
+        let cell = filter_cell(*word);
         filter[cell] = true;
-        i += 1;
     }
 }

@@ -16,7 +16,6 @@ ghost use Rattle.last_changes.specs.Last.{last_in, word_in, LastIs};
 ghost use Rattle.last_changes.specs.Steps.{Rising};
 
 use crate::filter::{CELLS, filter_cell, note_offers};
-use changes::search::Found;
 use entry::Entry;
 use layout::states::end_of;
 use lists::search::find;
@@ -25,15 +24,8 @@ use lists::search::find;
 // cells, whatever the steps hold, and 32 are not always.
 const FEW_SEARCHES: usize = 16;
 
-// The last change of an offer among some steps: its word, and how many of the steps lead up to it, its own included.
-#[derive(Clone, Copy)]
-pub enum Last {
-    Word(u64, usize),
-    Nothing,
-}
-
 // The word of one step at the offer.
-fn find_in_step(journal: &[u64], ends: &[u16], step: usize, offer: u32) -> Found
+fn find_in_step(journal: &[u64], ends: &[u16], step: usize, offer: u32) -> Option<u64>
     requires { Marked journal.now ends.now (step + 1) × From 0 (step_of journal.now ends.now step) }
     ensures { result ≡ found offer (step_of journal.now ends.now step) }
 {
@@ -42,22 +34,26 @@ fn find_in_step(journal: &[u64], ends: &[u16], step: usize, offer: u32) -> Found
     find(&journal[start..end], offer)
 }
 
-// The last change of the offer among the steps from `from` up to `to`, exclusive, sought from the newest back.
-pub fn last_change(journal: &[u64], ends: &[u16], from: usize, to: usize, offer: u32) -> Last
+// The last change of the offer among the steps from `from` up to `to`, exclusive, sought from the newest back: its word, and how many of
+// the steps lead up to it, its own included.
+pub fn last_change(
+    journal: &[u64],
+    ends: &[u16],
+    from: usize,
+    to: usize,
+    offer: u32,
+) -> Option<(u64, usize)>
     requires { Rising journal.now ends.now from to }
     ensures { Finds (word_in result) (found offer (compose_all (run_of journal.now ends.now from (to - from))))
         × LastIs result (last_in offer (run_of journal.now ends.now from (to - from))) }
 {
-    let mut k = to;
-    while from < k {
-        let step = k - 1;
+    for step in (from..to).rev() {
         let found = find_in_step(journal, ends, step, offer);
-        if let Found::Word(word) = found {
-            return Last::Word(word, k - from);
+        if let Some(word) = found {
+            return Some((word, step + 1 - from));
         }
-        k = step;
     }
-    Last::Nothing
+    None
 }
 
 // The last change of the word's offer among the steps, or the word itself.
@@ -67,8 +63,8 @@ fn changed_word(word: u64, journal: &[u64], ends: &[u16], from: usize, to: usize
         (found (offer_of word) (compose_all (run_of journal.now ends.now from (to - from)))) word }
 {
     match last_change(journal, ends, from, to, Entry::offer_of(word)) {
-        Last::Word(later, _) => later,
-        Last::Nothing => word,
+        Some((later, _)) => later,
+        None => word,
     }
 }
 
@@ -104,10 +100,8 @@ fn words_after(
     ensures { words.new
         ≡ over words.old (compose_all (run_of journal.now ends.now from (to - from))) }
 {
-    let mut i = 0;
-    while i < words.len() {
-        words[i] = word_after(words[i], filter, journal, ends, from, to);
-        i += 1;
+    for word in words.iter_mut() {
+        *word = word_after(*word, filter, journal, ends, from, to);
     }
 }
 
@@ -130,10 +124,8 @@ fn bring_few(words: &mut [u64], journal: &[u64], ends: &[u16], from: usize, to: 
     ensures { words.new
         ≡ over words.old (compose_all (run_of journal.now ends.now from (to - from))) }
 {
-    let mut i = 0;
-    while i < words.len() {
-        words[i] = changed_word(words[i], journal, ends, from, to);
-        i += 1;
+    for word in words.iter_mut() {
+        *word = changed_word(*word, journal, ends, from, to);
     }
 }
 

@@ -1,12 +1,13 @@
 -- Tests of every number below a bound, and lists of tests, as code meets them.
 -- Assumes nothing.
-use mathlib.Core.Path.{◌≡◌, refl, ap, subst, ◌∙◌}
-use mathlib.Core.Bool.{Bool, true, false}
+use mathlib.Core.Path.{◌≡◌, refl, sym, ap, ◌∙◌}
+use mathlib.Core.Bool.{Bool, true, false, ◌&&◌, and-true, and_assoc}
 use mathlib.Core.List.{List, [], ◌∷◌}
-use Prim.Native.Nat.{ℕ, zero, suc, ◌+◌, ◌≤◌, ◌<◌}
+use Prim.Native.Nat.{ℕ, zero, suc, ◌+◌, ◌<◌}
 use native.Mathlib.Numerals.{add-one}
 use native.Mathlib.Decide.{ℕ_discrete}
 use native.Mathlib.Omega.{arith}
+use Rattle.std.specs.List.{list_all, range_with_len}
 use Rattle.changes.proofs.ListTest.{and_both}
 use Rattle.layout.specs.Tests.{all_below, all_of}
 
@@ -68,5 +69,14 @@ module _ (test : ℕ → Bool) where
       go false e = refl
       go true e = absurd (let z : ◌≡◌ {A = ℕ} 0 1 = cc (all_at n e k h) in omega arith)
 
-  pub ends : (n k : ℕ) → all_below k test ≡ true → k ≤ n → n ≤ k → all_below n test ≡ true
-  ends n k e l h = subst (λ (m : ℕ). all_below m test ≡ true) (omega arith) e
+  -- the tests of the numbers of a range, in their order
+  range_more : (a n b : ℕ) → b ≡ a + n → list_all test (range_with_len a (suc n)) ≡ list_all test (range_with_len a n) && test b
+  range_more a zero b e = and-true (test a) ∙ ap test (omega arith)
+  range_more a (suc n) b e =
+      ap (λ t. test a && t) (range_more (a + 1) n b (omega arith))
+      ∙ sym (and_assoc (test a) (list_all test (range_with_len (a + 1) n)) (test b))
+
+  pub all_in_range : (n : ℕ) → list_all test (range_with_len 0 n) ≡ all_below n test
+  unfolding all_below
+  all_in_range zero = refl
+  all_in_range (suc n) = range_more 0 n n (omega arith) ∙ ap (λ t. t && test n) (all_in_range n)

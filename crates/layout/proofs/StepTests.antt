@@ -19,10 +19,9 @@ use Rattle.layout.proofs.Holds.{all_first, all_rest, all_at}
 pub start_next : (ends : List ℕ) (k : ℕ) → start_of ends (k + 1) ≡ get_or ends k 0
 start_next ends k = ap (λ (n : ℕ). get_or (0 ∷ ends) n 0) (add-one k)
 
-pub step_test : (journal ends : List ℕ) (k s : ℕ) → s ≡ start_of ends k
-    → all_of (leb s (get_or ends k 0) ∷ leb (get_or ends k 0) (length journal)
-    ∷ is_list (take (get_or ends k 0 - s) (drop s journal)) ∷ []) ≡ is_step journal ends k
-step_test journal ends k s e = rw (e, start_next ends k)
+pub step_test : (journal ends : List ℕ) (k s e : ℕ) → s ≡ start_of ends k → e ≡ get_or ends k 0
+    → all_of (leb s e ∷ leb e (length journal) ∷ is_list (take (e - s) (drop s journal)) ∷ []) ≡ is_step journal ends k
+step_test journal ends k s e p q = rw (p, q, start_next ends k)
 
 -- what the test of a step says
 module _ (journal ends : List ℕ) (k : ℕ) (e : is_step journal ends k ≡ true) where

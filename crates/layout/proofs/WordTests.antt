@@ -1,18 +1,19 @@
 -- The tests of words, clause by clause, as facts, and as a loop meets them.
 -- Assumes nothing.
 use mathlib.Core.Path.{◌≡◌, refl, sym, ap, ap₂, ◌∙◌}
-use mathlib.Core.Bool.{Bool, true, false, cond, ◌&&◌, and-true, and_assoc}
+use mathlib.Core.Bool.{Bool, true, false, ◌&&◌, and-true, and_assoc}
 use mathlib.Core.List.{List, [], ◌∷◌}
-use Prim.Native.Nat.{ℕ, zero, suc, ◌+◌, ◌≤◌, ◌<◌, min}
+use mathlib.Core.Logic.{◌⊎◌, inl, inr}
+use Prim.Native.Nat.{ℕ, zero, suc, ◌-◌, min}
 use native.Mathlib.Decide.{ℕ_discrete}
 use native.Mathlib.Omega.{arith}
 use borrow.Author.Tests.{eq-eqb, ne_eqb, eqb-true}
 use lib.Bits.{bit_or, or_add_and, and_le_l, and_le_r}
 use lib.Dec.{eqb}
-use lib.ListN.{length, get_or, drop, replicate, drop_of_length-le}
-use lib.Seq.{drop-cons}
+use lib.ListN.{length, take, drop, replicate}
+use Rattle.std.specs.List.{FoldsTo}
 use Rattle.changes.proofs.ListTest.{and_both}
-use Rattle.words.proofs.Parts.{next}
+use Rattle.words.proofs.Parts.{part}
 use Rattle.layout.specs.Tests.{are_zeros, least}
 
 -- zeros
@@ -51,30 +52,49 @@ or_zero a b = go (ℕ_discrete a 0) (ℕ_discrete b 0)
     go (no p) q =
         rw (ne_eqb (bit_or a b) 0 (λ e. p (omega (arith, or_add_and a b, and_le_r a b))), ne_eqb a 0 p)
 
--- what a loop has joined, and what is left from a position on
-module _ (l : List ℕ) (seen i : ℕ) where
-  pub zeros_joined : length l ≤ i → eqb seen 0 && are_zeros (drop i l) ≡ eqb seen 0
-  zeros_joined h = ap (λ (b : Bool). eqb seen 0 && b) (ap are_zeros (drop_of_length-le l h) ∙ zeros_none) ∙ and-true (eqb seen 0)
+-- words that are joined are zero when each of them is
+joined_from : (l : List ℕ) (seen r : ℕ) → FoldsTo (λ x y z. z ≡ bit_or x y) seen l r → eqb r 0 ≡ eqb seen 0 && are_zeros l
+unfolding are_zeros
+joined_from [] seen r e = ap (λ n. eqb n 0) (sym e) ∙ sym (and-true (eqb seen 0))
+joined_from (w ∷ l) seen r h =
+    joined_from l h.0 r h.2
+    ∙ ap (λ n. eqb n 0 && are_zeros l) h.1
+    ∙ ap (λ b. b && are_zeros l) (or_zero seen w)
+    ∙ and_assoc (eqb seen 0) (eqb w 0) (are_zeros l)
 
-  pub zeros_join : i < length l → eqb (bit_or seen (get_or l i 0)) 0 && are_zeros (drop (i + 1) l) ≡ eqb seen 0 && are_zeros (drop i l)
-  unfolding are_zeros
-  zeros_join h =
-      ap (λ (b : Bool). b && are_zeros (drop (i + 1) l)) (or_zero seen (get_or l i 0))
-      ∙ and_assoc (eqb seen 0) (eqb (get_or l i 0) 0) (are_zeros (drop (i + 1) l))
-      ∙ ap (λ (l : List ℕ). eqb seen 0 && are_zeros l) (sym (next l i h))
+pub zeros_joined : (r : ℕ) (l : List ℕ) → (first : ℕ) × (first ≡ 0) × FoldsTo (λ x y z. z ≡ bit_or x y) first l r → eqb r 0 ≡ are_zeros l
+zeros_joined r l h = joined_from l h.0 r h.2 ∙ ap (λ n. eqb n 0 && are_zeros l) h.1
 
--- the least of a number and the marked numbers
-pub least_none : (c : ℕ) (numbers : List ℕ) → least c [] numbers ≡ c
+-- and those from a position on
+pub zeros_joined_from : (r : ℕ) (l : List ℕ) (n : ℕ)
+    → (first : ℕ) × (first ≡ 0) × FoldsTo (λ x y z. z ≡ bit_or x y) first (take (length l - n) (drop n l)) r → eqb r 0
+    ≡ are_zeros (drop n l)
+zeros_joined_from r l n h = zeros_joined r _ h ∙ ap are_zeros (part l n)
+
+-- the least of a number and the marked numbers, as a loop meets them
+pub least_none : (c : ℕ) (marks : List Bool) (numbers : List ℕ) → (length marks ≡ 0) ⊎ (length numbers ≡ 0) → least c marks numbers ≡ c
 unfolding least
-least_none c numbers = refl
+least_none c [] numbers e = refl
+least_none c (m ∷ marks) [] e = refl
+least_none c (m ∷ marks) (n ∷ numbers) (inl e) = absurd (omega arith)
+least_none c (m ∷ marks) (n ∷ numbers) (inr e) = absurd (omega arith)
 
-pub least_step : (c : ℕ) (marks : List Bool) (numbers : List ℕ) (k : ℕ) → k < length marks → k < length numbers
-    → least c (drop k marks) (drop k numbers)
-    ≡ cond (get_or marks k false) (min (get_or numbers k 0) (least c (drop (suc k) marks) (drop (suc k) numbers)))
-    (least c (drop (suc k) marks) (drop (suc k) numbers))
-unfolding least
-least_step c marks numbers k h l = rw (drop-cons marks k false h, drop-cons numbers k 0 l)
+module _ (c n : ℕ) (marks : List Bool) (numbers : List ℕ) where
+  least_min : least (min c n) marks numbers ≡ min n (least c marks numbers)
+  unfolding least
+  least_min = go marks numbers
+    where
+      go : (marks : List Bool) (numbers : List ℕ) → least (min c n) marks numbers ≡ min n (least c marks numbers)
+      go [] numbers = omega arith
+      go (m ∷ marks) [] = omega arith
+      go (true ∷ marks) (x ∷ numbers) = omega (arith, go marks numbers)
+      go (false ∷ marks) (x ∷ numbers) = go marks numbers
 
-pub least_end : (c n : ℕ) (marks : List Bool) (numbers : List ℕ) → length marks ≡ n → least c (drop n marks) (drop n numbers) ≡ c
-least_end c n marks numbers e =
-    ap (λ (l : List Bool). least c l (drop n numbers)) (drop_of_length-le marks {i = n} (omega arith)) ∙ least_none c (drop n numbers)
+  module _ {m : Bool} {ms : List Bool} {ns : List ℕ} (p : ms ≡ m ∷ marks) (q : ns ≡ n ∷ numbers) where
+    pub least_open : m ≡ true → least (min c n) marks numbers ≡ least c ms ns
+    unfolding least
+    least_open e = least_min ∙ sym (rw (p, q, e))
+
+    pub least_closed : m ≡ false → least c marks numbers ≡ least c ms ns
+    unfolding least
+    least_closed e = sym (rw (p, q, e))

@@ -5,7 +5,7 @@ use Rattle.layout.specs.declared.head.Head.{Head}
 
 -- the head with all that tells what its store holds; a field that calls carry along unread stays as it was
 abbrev pub head_with : Head → ℕ → ℕ → ℕ → ℕ → List Bool → List ℕ → List ℕ → ℕ → Head
-head_with head used oldest checkpoint tip taken issued ends depth = record {
+head_with head used oldest checkpoint tip taken issued ends depth = record head {
   used = used;
   oldest = oldest;
   checkpoint = checkpoint;
@@ -18,19 +18,16 @@ head_with head used oldest checkpoint tip taken issued ends depth = record {
 
 -- the head of a store whose table holds the map at this checkpoint in so many words: flush
 abbrev pub with_table : Head → ℕ → ℕ → Head
-with_table head used checkpoint =
-    head_with head used head.oldest checkpoint head.tip head.taken head.issued head.ends head.depth
+with_table head used checkpoint = record head { used = used; checkpoint = checkpoint }
 
 -- the head of a store whose held steps lead to this tip and end at these marks: commit, rollback
 abbrev pub with_steps : Head → ℕ → List ℕ → Head
-with_steps head tip ends = head_with head head.used head.oldest head.checkpoint tip head.taken head.issued ends head.depth
+with_steps head tip ends = record head { tip = tip; ends = ends }
 
 -- the head of a store whose slots are open where this says so, each issued at its number: issue, forward, release
 abbrev pub with_slots : Head → List Bool → List ℕ → Head
-with_slots head taken issued =
-    head_with head head.used head.oldest head.checkpoint head.tip taken issued head.ends head.depth
+with_slots head taken issued = record head { taken = taken; issued = issued }
 
 -- the head of a store whose held steps lead on from this floor and end at these marks: trim
 abbrev pub with_floor : Head → ℕ → List ℕ → Head
-with_floor head oldest ends =
-    head_with head head.used oldest head.checkpoint head.tip head.taken head.issued ends head.depth
+with_floor head oldest ends = record head { oldest = oldest; ends = ends }

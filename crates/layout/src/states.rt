@@ -26,8 +26,5 @@ pub fn end_of(ends: &[u16], n: usize) -> usize
     requires { n ≤ length ends.now }
     ensures { result ≡ start_of ends.now n }
 {
-    if n == 0 {
-        return 0;
-    }
-    ends[n - 1] as usize
+    if n == 0 { 0 } else { usize::from(ends[n - 1]) }
 }

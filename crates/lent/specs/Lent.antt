@@ -1,8 +1,8 @@
 -- What a call answers and leaves of what a C program lends, by the definition of what each call means (crate calls).
 -- Assumes nothing.
 use Rattle.std.specs.Prelude.{◌≡◌, Bool, true, false, cond, List, [], ◌∷◌, ℕ, length, get_or}
-use Rattle.answers.specs.declared.answer.Answer.{Answer}
-use Rattle.answers.specs.declared.answer.Answer.TheVariants.{Refused}
+use Rattle.answers.specs.Check.{Answered}
+use Rattle.std.specs.Prelude.{Err}
 use Rattle.answers.specs.declared.call.Call.{Call}
 use Rattle.answers.specs.declared.call.Call.TheVariants.{Reset, Step, Read, Ask}
 use Rattle.answers.specs.declared.call.Query.{Query}
@@ -42,15 +42,15 @@ abbrev pub tally_words : Tally → List ℕ
 tally_words tally = tally.committed ∷ tally.rolled_back ∷ tally.flushed ∷ []
 
 -- where the head's words do not fit: ground 1 first, else ground 2
-abbrev pub unfit : ℕ → ℕ → Answer
-unfit table journal = cond (are_lengths table journal) (Refused Unsound) (Refused Lengths)
+abbrev pub unfit : ℕ → ℕ → Answered
+unfit table journal = cond (are_lengths table journal) (Err Unsound) (Err Lengths)
 
 -- what a call leaves of a store whose head is in words
 abbrev pub on_words : List ℕ → List ℕ → List ℕ → List ℕ → List ℕ → Call → Left
 on_words table journal words bytes head call = performed (lent table journal words bytes (head_of head)) call
 
 module _ (table journal words bytes head tally : List ℕ) (call : Call) where
-  abbrev pub answer_to : Answer
+  abbrev pub answer_to : Answered
   answer_to = cond (is_fit head call) (on_words table journal words bytes head call).answer (unfit (length table) (length journal))
 
   abbrev pub table_after : List ℕ
@@ -76,7 +76,7 @@ module _ (table journal words bytes head tally : List ℕ) (call : Call) where
       tally
 
   -- The promise of a call that is lent all of these: its answer, and what it leaves of them.
-  abbrev pub Leaves : Answer → List ℕ → List ℕ → List ℕ → List ℕ → List ℕ → List ℕ → Type 0
+  abbrev pub Leaves : Answered → List ℕ → List ℕ → List ℕ → List ℕ → List ℕ → List ℕ → Type 0
   Leaves answer table' journal' words' bytes' head' tally' =
       Gives answer answer_to
       × (table' ≡ table_after)
@@ -97,7 +97,7 @@ module _ (table journal words bytes head tally : List ℕ) (call : Call) where
 
 -- A query is lent the store to read, and no tally: what it answers, and what it leaves of the words and bytes lent for its output.
 module _ (table journal words bytes head : List ℕ) (query : Query) where
-  abbrev pub answer_to_query : Answer
+  abbrev pub answer_to_query : Answered
   answer_to_query = cond (is_head head) (on_words table journal words bytes head (Ask query)).answer (unfit (length table) (length journal))
 
   abbrev pub words_written : List ℕ
@@ -107,7 +107,7 @@ module _ (table journal words bytes head : List ℕ) (query : Query) where
   bytes_written = cond (is_head head) (on_words table journal words bytes head (Ask query)).lent.bytes bytes
 
   -- The promise of a query: its answer, and what it writes.
-  abbrev pub Asks : Answer → List ℕ → List ℕ → Type 0
+  abbrev pub Asks : Answered → List ℕ → List ℕ → Type 0
   Asks answer words' bytes' = Gives answer answer_to_query × (words' ≡ words_written) × (bytes' ≡ bytes_written)
 
   -- The promise of its function for C: its code, and its value in the word that is lent for it;

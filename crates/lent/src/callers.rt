@@ -8,12 +8,14 @@ use answers::call::Caller;
 // lists.
 pub const DESK: u32 = 0;
 
-// The caller that a number names.
+// The caller that a number names. Not `From<u32>`, whose impl could stand only beside `Caller` in `answers`: the numbers are the C
+// interface's (include/cechnuol.h).
 pub fn caller_of(number: u32) -> Caller
     ensures { result ≡ caller_of number }
 {
     if number == DESK {
-        return Caller::Desk;
+        Caller::Desk
+    } else {
+        Caller::Foyer
     }
-    Caller::Foyer
 }

@@ -43,11 +43,11 @@ pub fn is_fit(head: &[u64; HEAD_WORDS], call: Call) -> bool
 }
 
 // The answer where the words do not fit.
-pub fn unfit_answer(table: usize, journal: usize) -> Answer
+pub fn unfit_answer(table: usize, journal: usize) -> Result<Answer, Ground>
     ensures { Gives result (unfit table journal) }
 {
     if lengths_fit(table, journal) {
-        return Answer::Refused(Ground::Unsound);
+        return Err(Ground::Unsound);
     }
-    Answer::Refused(Ground::Lengths)
+    Err(Ground::Lengths)
 }

@@ -1,1 +1,2 @@
 mod Reported
+mod Streamed

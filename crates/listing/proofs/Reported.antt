@@ -7,12 +7,9 @@ use native.Mathlib.Omega.{arith}
 use borrow.Author.Tests.{lt-ltb, le-ltb}
 use lib.ListN.{length, take, drop, replicate, length-append}
 use lib.Seq.{take_at}
-use Rattle.answers.specs.declared.answer.Answer.{Answer}
-use Rattle.answers.specs.declared.answer.Answer.TheVariants.{Done, Refused as Away}
-use Rattle.answers.specs.declared.answer.Check.{Check}
-use Rattle.answers.specs.declared.answer.Check.TheVariants.{Passed, Refused}
+use Rattle.answers.specs.Check.{Check}
+use Rattle.std.proofs.Common.{Ok, Err}
 use Rattle.answers.specs.declared.ground.Ground.{Ground}
-use Rattle.answers.specs.Answers.{answered}
 use Rattle.answers.specs.declared.call.Format.TheVariants.{Image}
 use Rattle.answers.specs.First.{first}
 use Rattle.answers.specs.Numbers.{number_of}
@@ -26,19 +23,6 @@ use Rattle.snapshot.specs.Snapshots.{load_grounds, load_check, load_head, load_t
 use Rattle.snapshot.specs.Fresh.{fresh_head}
 use Rattle.snapshot.proofs.ImagesAccepted.{LoadOk, load_ok}
 use Rattle.listing.specs.Report.{report_of, by_check, Rendered}
-
--- an answer that names no ground
-abbrev pub NoGround : Answer → Type 0
-NoGround answer = (g : Ground) → answer ≡ Away g → ⊥
-
--- what the check of a call found, told from its answer
-passed_of : {answer : Answer} (check : Check) → answer ≡ answered check Done → NoGround answer → check ≡ Passed
-passed_of Passed e h = refl
-passed_of (Refused g) e h = absurd (h g e)
-
-refused_of : {g : Ground} (check : Check) → Away g ≡ answered check Done → check ≡ Refused g
-refused_of Passed e = absurd (let z : ◌≡◌ {A = ℕ} 0 1 = cc in omega arith)
-refused_of (Refused h) e = cc
 
 pub report_long : (image : List ℕ) → 64006 < length image → report_of image ≡ refusal_text 15
 unfolding report_of
@@ -55,18 +39,17 @@ pub record Listed (image : List ℕ) (head : Head) (table : List ℕ) : Type 0 w
   pub used_most : head.used ≤ 8000
 
 -- an image that is short enough, loaded into a table and a journal of these lengths
-module _ (table journal image : List ℕ) (lt : length table ≡ 8000) (lj : length journal ≡ 1) (short : length image ≤ 64006)
-    {answer : Answer} (ea : answer ≡ answered (load_check table journal 0 Image image) Done) where
+module _ (table journal image : List ℕ) (lt : length table ≡ 8000) (lj : length journal ≡ 1) (short : length image ≤ 64006) where
   here : {check : Check} → load_check table journal 0 Image image ≡ check → report_of image ≡ by_check check image
   here e =
       report_by image short
       ∙ ap₂ (λ (t j : ℕ). by_check (first (load_grounds t j 0 Image image)) image) (sym lt) (sym lj)
       ∙ ap (λ (check : Check). by_check check image) e
 
-  pub report_refused : {g : Ground} → answer ≡ Away g → refusal_text (number_of g) ≡ report_of image
-  report_refused e = sym (here (refused_of (load_check table journal 0 Image image) (sym e ∙ ea)))
+  pub report_refused : {g : Ground} → load_check table journal 0 Image image ≡ Err g → refusal_text (number_of g) ≡ report_of image
+  report_refused e = sym (here e)
 
-  module _ (e : load_check table journal 0 Image image ≡ Passed) {h : Head} (before : Head)
+  module _ (e : load_check table journal 0 Image image ≡ (Ok tt)) {h : Head} (before : Head)
       (eh : h ≡ load_head table journal 0 Image image before)
       {last : List ℕ} (el : last ≡ load_table table journal 0 Image image) where
     ok : LoadOk (length table) (length journal) 0 Image image
@@ -99,11 +82,6 @@ module _ (table journal image : List ℕ) (lt : length table ≡ 8000) (lj : len
           used_in = omega (arith, used_is, ap length table_is, long, ok.room);
           used_most = omega (arith, used_is, ok.room, lt);
         }
-
-  -- the same from the answer
-  pub report_loaded : NoGround answer → {h : Head} (before : Head) → h ≡ load_head table journal 0 Image image before → {last : List ℕ}
-      → last ≡ load_table table journal 0 Image image → Listed image h last
-  report_loaded n before eh el = loaded (passed_of (load_check table journal 0 Image image) ea n) before eh el
 
 -- a text that was rendered lies within its bytes
 pub Rendered-in : {text bytes last : List ℕ} {n : ℕ} → Rendered text bytes last n → n ≤ length last

@@ -3,20 +3,11 @@
 #![tactic(auto)]
 
 mod report;
+mod streams;
 
-use report::report;
+use streams::list;
 
-// The numbers of the descriptors of standard input and standard output.
-const STDIN_FILENO: i32 = 0;
-
-const STDOUT_FILENO: i32 = 1;
-
-fn main() {
-    let mut input = [0u8; 64007];
-    let mut table = [0u64; 8000];
-    let mut journal = [0u64; 1];
-    let mut text = [0u8; 176045];
-    let got = io::read_full(STDIN_FILENO, &mut input);
-    let n = report(&input[..got], &mut table, &mut journal, &mut text);
-    io::write_all(STDOUT_FILENO, &text[..n]);
+fn main(rt: HostRuntime) {
+    // README promises status 0 where a read or a write fails, too.
+    let _ = list(&mut rt.stdin(), &mut rt.stdout());
 }

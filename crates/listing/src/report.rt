@@ -2,9 +2,8 @@
 ghost use Rattle.std.specs.Prelude.{◌≡◌, ◌≤◌, length};
 ghost use Rattle.listing.specs.Report.{report_of, Rendered, table_after, journal_after};
 
-use answers::answer::Answer;
 use answers::call::Format;
-use answers::ground::number;
+use answers::ground::Ground;
 use listing_text::listing::{render, render_refusal};
 use snapshot::fresh::fresh_head;
 use snapshot::load::load;
@@ -21,14 +20,11 @@ pub fn report(image: &[u8], table: &mut [u64], journal: &mut [u64], text: &mut [
         × (journal.new ≡ journal_after table.old journal.old image.now) }
 {
     if IMAGE_BYTES < image.len() {
-        return render_refusal(15, text);
+        return render_refusal(Ground::BadImage.into(), text);
     }
-    let reply = load(table, journal, fresh_head(0, 0, 0), 0, Format::Image, image);
-    let answer = reply.answer;
-    let head = reply.head;
-    let used = head.used;
-    if let Answer::Refused(ground) = answer {
-        return render_refusal(number(ground), text);
+    let mut head = fresh_head(0, 0, 0);
+    match load(table, journal, &mut head, 0, Format::Image, image) {
+        Ok(()) => render(head.checkpoint, &table[..head.used], text),
+        Err(ground) => render_refusal(ground.into(), text),
     }
-    render(head.checkpoint, &table[..used], text)
 }

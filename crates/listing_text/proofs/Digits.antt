@@ -7,11 +7,8 @@ use native.Mathlib.Nat.{pow-succ'}
 use native.Mathlib.Decide.{dec_lt}
 use native.Mathlib.Omega.{arith}
 use borrow.Author.Tests.{lt-ltb, le-ltb}
-use lib.ListN.{length, set, length-append}
-use Rattle.words.proofs.Writing.{stored}
-use Rattle.words.proofs.Pieces.{start_at, wrote_piece, completed}
+use lib.ListN.{length, length-append}
 use Rattle.listing_text.specs.Decimal.{digit, decimal_within, decimal_of}
-use Rattle.listing_text.specs.Stored.{Stored}
 
 -- the clauses by whether there is one digit; any bound from the number on gives the same digits
 within_one : (f n : ℕ) → n < 10 → decimal_within f n ≡ digit n
@@ -80,21 +77,5 @@ digits_32 n h = digits_at_most 9 n (omega arith)
 pub digits_64 : (n : ℕ) → n < 2 ^ 64 → length (decimal_of n) ≤ 20
 digits_64 n h = digits_at_most 19 n (omega arith)
 
--- the digits stored: one, and the last behind the others
-module _ (out : List ℕ) (at n : ℕ) where
-  pub one_Stored : n < 10 → at < length out → Stored out at (decimal_of n) (at + 1) (set out at (48 + n))
-  one_Stored h l =
-      record {
-        position = omega (arith, length_one n h);
-        bytes = completed (stored (start_at out (decimal_of n) at (omega arith)) (decimal_one n h) l);
-      }
-
-  pub last_stored : 10 ≤ n → {mid : List ℕ} {end : ℕ} → Stored out at (decimal_of (n / 10)) end mid → end < length out
-      → Stored out at (decimal_of n) (end + 1) (set mid end (48 + n % 10))
-  last_stored h {mid} {end} s l =
-      let others = wrote_piece (start_at out (decimal_of n) at (omega (arith, s.position))) (decimal_of (n / 10))
-      (digit (n % 10)) (decimal_more n h) end s.position (omega arith) s.bytes in
-      record {
-        position = omega (arith, length_more n h, s.position);
-        bytes = completed (stored others refl (omega (arith, others.same)));
-      }
+-- both, for a tactic
+pub ruleset short = (digits_32, digits_64)

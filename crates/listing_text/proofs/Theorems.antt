@@ -6,23 +6,23 @@ use Prim.Native.Nat.{ℕ, zero, suc, ◌/◌, ◌%◌, ◌≤◌, ◌<◌}
 use native.Mathlib.Decide.{dec_lt}
 use native.Mathlib.Omega.{arith}
 use lib.ListN.{get_or, get_or-append}
-use Rattle.listing_text.specs.Codes.{codes}
+use Rattle.std.specs.Prelude.{codes}
 use Rattle.listing_text.specs.Decimal.{digit, decimal_within, decimal_of}
 use Rattle.listing_text.specs.Listing.{header_of, line_of, lines_of, text_of, refusal_text}
 use Rattle.listing_text.proofs.Digits.{decimal_one, decimal_more, length_some}
 
 -- The image of document 01's example holds state 7 and offer 5 at 1200.
 pub example : text_of 7 (0x80000005000004B0 ∷ []) ≡ codes "state 7 offers 1\n5 1200\n"
-unfolding codes decimal_within decimal_of header_of line_of lines_of text_of
+unfolding decimal_within decimal_of header_of line_of lines_of text_of
 example = refl
 
 pub refusal_example : refusal_text 15 ≡ codes "refused 15\n"
-unfolding codes decimal_within decimal_of refusal_text
+unfolding decimal_within decimal_of refusal_text
 refusal_example = refl
 
 -- Zero is one digit, and any other number starts with a digit above it.
 pub zero_shown : decimal_of 0 ≡ codes "0"
-unfolding codes decimal_within decimal_of
+unfolding decimal_within decimal_of
 zero_shown = refl
 
 first_above : (f n : ℕ) → n ≤ f → 0 < n → 48 < get_or (decimal_of n) 0 0

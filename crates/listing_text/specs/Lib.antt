@@ -1,4 +1,3 @@
-pub mod Codes
 pub mod Decimal
 pub mod Listing
 pub mod Stored

@@ -1,9 +1,9 @@
 -- The text of a listing (document 01, "Image and listing"): "State and count in the first line, then offer and price per line,
 -- decimal, each line ended by a newline. A refusal prints only the line `refused`, a space and its number."
 -- Assumes nothing.
-use Rattle.std.specs.Prelude.{List, [], ◌∷◌, ◌++◌, ℕ, length}
+use Rattle.std.specs.Prelude.{List, ◌++◌, ℕ, length, codes}
+use Rattle.std.specs.List.{flat_map}
 use Rattle.entry.specs.Word.{offer_of, price_of}
-use Rattle.listing_text.specs.Codes.{codes}
 use Rattle.listing_text.specs.Decimal.{decimal_of}
 
 -- the first line: the state number and the count of offers
@@ -16,8 +16,7 @@ line_of w = decimal_of (offer_of w) ++ codes " " ++ decimal_of (price_of w) ++ c
 
 -- the lines of words
 unfoldable pub lines_of : List ℕ → List ℕ
-lines_of [] = []
-lines_of (w ∷ l) = line_of w ++ lines_of l
+lines_of words = flat_map line_of words
 
 -- the listing of a state number and a map's words
 unfoldable pub text_of : ℕ → List ℕ → List ℕ

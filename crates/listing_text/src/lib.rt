@@ -2,5 +2,5 @@
 // caller lends.
 #![tactic(auto)]
 
-pub mod decimal;
 pub mod listing;
+pub mod text;

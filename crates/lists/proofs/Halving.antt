@@ -1,9 +1,8 @@
 -- The search by halving: words before low lie below the offer, and words past the size from there on lie above it.
 -- Assumes nothing.
-use mathlib.Core.Path.{◌≡◌, ◌∙◌, sym, ap, subst}
-use mathlib.Core.Bool.{Bool, true, false}
+use mathlib.Core.Path.{◌≡◌, sym, ap, subst}
 use mathlib.Core.List.{List}
-use Prim.Native.Nat.{ℕ, ◌+◌, ◌-◌, ◌*◌, ◌/◌, ◌^◌, ◌≤◌, ◌<◌}
+use Prim.Native.Nat.{ℕ, ◌+◌, ◌-◌, ◌*◌, ◌/◌, ◌≤◌, ◌<◌}
 use native.Mathlib.Decide.{dec_lt}
 use native.Mathlib.Omega.{arith}
 use borrow.Author.Tests.{le-leb, lt-leb}
@@ -11,8 +10,8 @@ use lib.Dec.{leb}
 use lib.ListN.{length, get_or}
 use Rattle.entry.specs.Word.{offer_of, bit_of}
 use Rattle.changes.specs.Lists.{From}
-use Rattle.changes.specs.declared.search.Found.{Found}
-use Rattle.changes.specs.declared.search.Found.TheVariants.{Nothing}
+use Rattle.changes.specs.Found.{Found}
+use Rattle.std.proofs.Common.{None}
 use Rattle.changes.specs.Calculus.{find}
 use Rattle.changes.proofs.Find.{find_nowhere, not_below_at, rises_at}
 use Rattle.lists.specs.Positions.{OnlyAt}
@@ -23,28 +22,7 @@ pub record Halving (words : List ℕ) (offer low size : ℕ) : Type 0 where
   pub below : (i : ℕ) → i < low → offer_of (get_or words i 0) < offer
   pub above : (i : ℕ) → low + size ≤ i → i < length words → offer < offer_of (get_or words i 0)
 
-pub halving : (words : List ℕ) (offer : ℕ) → Halving words offer 0 (length words)
-halving words offer =
-    record {
-      inside = omega arith;
-      below = λ i h. absurd (omega arith);
-      above = λ i h b. absurd (omega arith);
-    }
-
--- a flag is at most 1
-pub flag_times : (n r : ℕ) (b : Bool) → r ≡ bit_of b → n * r ≤ n
-flag_times n r true e = rw (e) (omega arith)
-flag_times n r false e = rw (e) (omega arith)
-
 module _ {words : List ℕ} {offer low size : ℕ} (s : Halving words offer low size) where
-  pub one_left : size ≤ 1 → OnlyAt words offer low
-  one_left h i l e = go (dec_lt i low) (dec_lt low i)
-    where
-      go : Dec (i < low) → Dec (low < i) → i ≡ low
-      go (yes b) a = absurd (omega (arith, s.below i b))
-      go (no b) (yes a) = absurd (omega (arith, s.above i (omega arith) l))
-      go (no b) (no a) = omega arith
-
   module _ (rises : From 0 words) (h : 1 < size) where
     abbrev half : ℕ
     half = size / 2
@@ -79,24 +57,12 @@ module _ {words : List ℕ} {offer low size : ℕ} (s : Halving words offer low 
             let bit : r ≡ 1 = rw (le-leb there offer (omega arith)) at e in
             subst (λ (n : ℕ). Halving words offer (low + half * n) (size - half)) (sym bit) (upper (omega arith))
 
--- the flag, worked out by a difference
-pub reached : (there offer : ℕ) → there < 2 ^ 32 → offer < 2 ^ 32 → (offer + 2 ^ 32 - there) / 2 ^ 32 ≡ bit_of (leb there offer)
-reached there offer t o = go (dec_lt offer there)
-  where
-    go : Dec (offer < there) → (offer + 2 ^ 32 - there) / 2 ^ 32 ≡ bit_of (leb there offer)
-    go (yes l) =
-        let bit : (offer + 2 ^ 32 - there) / 2 ^ 32 ≡ 0 = omega arith in
-        bit ∙ rw (lt-leb there offer l)
-    go (no l) =
-        let bit : (offer + 2 ^ 32 - there) / 2 ^ 32 ≡ 1 = omega arith in
-        bit ∙ rw (le-leb there offer (omega arith))
-
 -- the word at the only position is the word found
 module _ (words : List ℕ) (offer at : ℕ) (only : OnlyAt words offer at) where
-  pub none_there : length words ≤ at → find offer words ≡ Nothing
+  pub none_there : length words ≤ at → find offer words ≡ None
   none_there h = find_nowhere offer words (λ i l e. absurd (omega (arith, only i l e)))
 
-  pub other_there : (offer_of (get_or words at 0) ≡ offer → ⊥) → find offer words ≡ Nothing
+  pub other_there : (offer_of (get_or words at 0) ≡ offer → ⊥) → find offer words ≡ None
   other_there n = find_nowhere offer words (λ i l e. n (subst (λ (k : ℕ). offer_of (get_or words k 0) ≡ offer) (only i l e) e))
 
 -- a search that finds what is meant says the same

@@ -5,14 +5,13 @@ use mathlib.Core.Bool.{Bool, true, false, ◌&&◌, and-true, and-false, and_ass
 use mathlib.Core.List.{List}
 use Prim.Native.Nat.{ℕ, zero, suc, ◌+◌, ◌-◌, ◌≤◌}
 use native.Mathlib.Omega.{arith}
-use borrow.Author.Tests.{eqb-true}
 use lib.Bits.{bit_and}
 use lib.Dec.{ltb}
 use lib.ListN.{get_or}
-use Rattle.entry.specs.Word.{kind_of, offer_of, is_put, Put, is_valid, bit_of, top_of}
+use Rattle.entry.specs.Word.{offer_of, bit_of, top_of}
 use Rattle.entry.proofs.Flags.{and_flags}
 use Rattle.changes.proofs.ListTest.{and_both}
-use Rattle.lists.specs.Pairs.{is_pair, are_pairs}
+use Rattle.lists.specs.Pairs.{is_pair, are_pairs, Says}
 
 module _ (passes : ℕ → Bool) (l : List ℕ) where
   pub pairs_none : (a : ℕ) → are_pairs passes l a 0 ≡ true
@@ -53,55 +52,53 @@ module _ (passes : ℕ → Bool) (l : List ℕ) where
       let front : are_pairs passes l 0 (a + k) ≡ false = sym (pairs_join 0 a k) ∙ rw (position, e) (and-false (are_pairs passes l 0 a)) in
       ap (are_pairs passes l 0) (sym sum) ∙ sym (pairs_join 0 (a + k) (n - (a + k))) ∙ rw front
 
--- a test of a word, and what holds of a word that passes: only behind such a word does a flag say something
-pub record Test (passes : ℕ → Bool) (P : ℕ → Type 0) : Type 0 where
-  pub holds : (w : ℕ) → passes w ≡ true → P w
-
--- the flags of a list say something behind any word, those of a map behind a word of kind 1
-pub valid : Test is_valid (λ w. Unit)
-valid = record { holds = λ w e. tt }
-
-pub put : Test is_put Put
-put = record { holds = λ w e. eqb-true (kind_of w) 1 e }
-
-module _ {passes : ℕ → Bool} {P : ℕ → Type 0} (t : Test passes P) (l : List ℕ) where
-  -- it holds of the last word of a stretch that passes
-  pub pairs_last : (a n : ℕ) → P (get_or l a 0) → are_pairs passes l a n ≡ true → P (get_or l (a + n) 0)
+module _ (passes : ℕ → Bool) (l : List ℕ) where
+  -- the last word of a stretch that passes behind a word that passes
+  pub pairs_last : (a n : ℕ) → passes (get_or l a 0) ≡ true → are_pairs passes l a n ≡ true → passes (get_or l (a + n) 0) ≡ true
   pairs_last a zero p e =
       let position : a ≡ a + 0 = omega arith in
-      subst (λ (k : ℕ). P (get_or l k 0)) position p
+      subst (λ (k : ℕ). passes (get_or l k 0) ≡ true) position p
   pairs_last a (suc n) p e =
       let position : a + 1 + n ≡ a + suc n = omega arith in
       let both = and_both (is_pair passes (get_or l a 0) (get_or l (a + 1) 0)) (are_pairs passes l (a + 1) n)
       (sym (pairs_next passes l a n) ∙ e) in
       let word = and_both (passes (get_or l (a + 1) 0)) (ltb (offer_of (get_or l a 0)) (offer_of (get_or l (a + 1) 0))) both.0 in
-      subst (λ (k : ℕ). P (get_or l k 0)) position (pairs_last (a + 1) n (t.holds (get_or l (a + 1) 0) word.0) both.1)
+      subst (λ (k : ℕ). passes (get_or l k 0) ≡ true) position (pairs_last (a + 1) n word.0 both.1)
 
-  -- a flag of a stretch
-  abbrev pub Says : ℕ → ℕ → ℕ → Type 0
-  Says a n r = P (get_or l a 0) → top_of r ≡ bit_of (are_pairs passes l a n)
-
-  -- and of a pair
-  abbrev pub Flags : ℕ → ℕ → ℕ → Type 0
-  Flags a b r = P (get_or l a 0) → top_of r ≡ bit_of (is_pair passes (get_or l a 0) (get_or l b 0))
-
-  pub Says-one : (a b r : ℕ) → b ≡ a + 1 → Flags a b r → Says a 1 r
-  Says-one a b r e f p = f p ∙ ap bit_of (pairs_one passes l a b e)
-
-  pub Says-join : (a n k r s : ℕ) → Says a n r → Says (a + n) k s → Says a (n + k) (bit_and r s)
-  Says-join a n k r s x y p =
-      and_flags r s (are_pairs passes l a n) (are_pairs passes l (a + n) k) (x p) (λ e. y (pairs_last a n p e))
+  -- the flags of two stretches joined
+  pub says_both : (a n k flag next : ℕ) → Says passes l a n flag → Says passes l (a + n) k next
+      → Says passes l a (n + k) (bit_and flag next)
+  says_both a n k flag next x y p =
+      and_flags flag next (are_pairs passes l a n) (are_pairs passes l (a + n) k) (x p) (λ e. y (pairs_last a n p e))
       ∙ ap bit_of (pairs_join passes l a n k)
 
   -- of four stretches
-  pub says_four : (a n q r s u : ℕ) → Says a n q → Says (a + n) n r → Says (a + (n + n)) n s
-      → Says (a + (n + n + n)) n u → Says a (n + n + n + n) (bit_and (bit_and (bit_and q r) s) u)
+  pub says_four : (a n q r s u : ℕ) → Says passes l a n q → Says passes l (a + n) n r → Says passes l (a + (n + n)) n s
+      → Says passes l (a + (n + n + n)) n u → Says passes l a (n + n + n + n) (bit_and (bit_and (bit_and q r) s) u)
   says_four a n q r s u w x y z =
-      Says-join a (n + n + n) n (bit_and (bit_and q r) s) u (Says-join a (n + n) n (bit_and q r) s (Says-join a n n q r w x) y) z
+      says_both a (n + n + n) n (bit_and (bit_and q r) s) u
+      (says_both a (n + n) n (bit_and q r) s (says_both a n n q r w x) y) z
 
-  -- of four pairs
-  pub Flags-four : (a q r s u : ℕ) → Flags a (a + 1) q → Flags (a + 1) (a + 2) r → Flags (a + 2) (a + 3) s
-      → Flags (a + 3) (a + 4) u → Says a 4 (bit_and (bit_and (bit_and q r) s) u)
-  Flags-four a q r s u w x y z =
-      says_four a 1 q r s u (Says-one a (a + 1) q (omega arith) w) (Says-one (a + 1) (a + 2) r (omega arith) x)
-      (Says-one (a + 2) (a + 3) s (omega arith) y) (Says-one (a + 3) (a + 4) u (omega arith) z)
+  -- what a flag says of a pair
+  abbrev pub Flags : ℕ → ℕ → ℕ → Type 0
+  Flags a b flag = passes (get_or l a 0) ≡ true → top_of flag ≡ bit_of (is_pair passes (get_or l a 0) (get_or l b 0))
+
+  pub says_pair : (a b flag : ℕ) → b ≡ a + 1 → Flags a b flag → Says passes l a 1 flag
+  says_pair a b flag e f p = f p ∙ ap bit_of (pairs_one passes l a b e)
+
+  -- the flags of four pairs joined
+  pub says_pairs : (a q r s u : ℕ) → Flags a (a + 1) q → Flags (a + 1) (a + 2) r → Flags (a + 2) (a + 3) s
+      → Flags (a + 3) (a + 4) u → Says passes l a 4 (bit_and (bit_and (bit_and q r) s) u)
+  says_pairs a q r s u w x y z =
+      says_four a 1 q r s u (says_pair a (a + 1) q refl w) (says_pair (a + 1) (a + 2) r (omega arith) x)
+      (says_pair (a + 2) (a + 3) s (omega arith) y) (says_pair (a + 3) (a + 4) u (omega arith) z)
+
+  -- the flag of the next pair is joined to those of the pairs before
+  pub says_more : (i flag next : ℕ) → 1 ≤ i → Says passes l 0 (i - 1) flag → Flags (i - 1) i next
+      → Says passes l 0 (i + 1 - 1) (bit_and flag next)
+  says_more i flag next h x y =
+      let here : i - 1 ≡ 0 + (i - 1) = omega arith in
+      let there : i ≡ i - 1 + 1 = omega arith in
+      let more : i - 1 + 1 ≡ i + 1 - 1 = omega arith in
+      subst (λ (n : ℕ). Says passes l 0 n (bit_and flag next)) more
+      (says_both 0 (i - 1) 1 flag next x (subst (λ (a : ℕ). Says passes l a 1 next) here (says_pair (i - 1) i next there y)))

@@ -1,3 +1,4 @@
+pub mod InOrder
 pub mod Pairs
 pub mod Positions
 pub mod Searches

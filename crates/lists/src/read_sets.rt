@@ -6,7 +6,6 @@ ghost use Rattle.changes.specs.Calculus.{find as found};
 ghost use Rattle.entry.specs.Word.{offer_of};
 
 use crate::search::find;
-use changes::search::Found;
 use entry::Entry;
 
 // The word of the changes at the word's offer, or the word itself.
@@ -15,19 +14,18 @@ fn changed(word: u64, changes: &[u64]) -> u64
     ensures { result ≡ found_or (found (offer_of word) changes.now) word }
 {
     match find(changes, Entry::offer_of(word)) {
-        Found::Word(w) => w,
-        Found::Nothing => word,
+        Some(w) => w,
+        None => word,
     }
 }
 
 // Applies the changes to the read set in place, at its own offers.
+#[tactic(auto, unfolding(changes::specs::ReadSets::over))]
 pub fn apply_to_reads(reads: &mut [u64], changes: &[u64])
     requires { From 0 changes.now }
     ensures { reads.new ≡ over reads.old changes.now }
 {
-    let mut i = 0;
-    while i < reads.len() {
-        reads[i] = changed(reads[i], changes);
-        i += 1;
+    for word in reads.iter_mut() {
+        *word = changed(*word, changes);
     }
 }

@@ -6,12 +6,12 @@ use Prim.Native.Nat.{ℕ, ◌^◌, ◌≤◌, ◌<◌}
 use borrow.Author.Tests.{leb-false}
 use lib.ListN.{length}
 use Rattle.answers.specs.declared.call.LookUp.{LookUp}
-use Rattle.answers.specs.declared.answer.Check.TheVariants.{Passed}
+use Rattle.std.proofs.Common.{Ok}
 use Rattle.answers.proofs.Firsts.{passed_not}
 use Rattle.layout.specs.declared.head.Head.{Head}
 use Rattle.layout.proofs.HeadTests.{InRange}
 use Rattle.soundness.proofs.Passed.{store_passed, state_passed}
-use Rattle.soundness.proofs.Sounds.{Sound}
+use Rattle.soundness.specs.Facts.{Sound}
 use Rattle.lookups.specs.LookUp.{look_up_check}
 
 pub record LookUpOk (table journal : List ℕ) (head : Head) (asked : LookUp) : Type 0 where
@@ -21,7 +21,7 @@ pub record LookUpOk (table journal : List ℕ) (head : Head) (asked : LookUp) : 
   pub low : head.checkpoint ≤ asked.state
   pub high : asked.state ≤ head.tip
 
-pub look_up_ok : (table journal : List ℕ) (head : Head) (asked : LookUp) → look_up_check table journal head asked ≡ Passed
+pub look_up_ok : (table journal : List ℕ) (head : Head) (asked : LookUp) → look_up_check table journal head asked ≡ (Ok tt)
     → LookUpOk table journal head asked
 look_up_ok table journal head asked e =
     let a = store_passed table journal head _ e in

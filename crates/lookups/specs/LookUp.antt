@@ -4,12 +4,13 @@
 -- Assumes nothing.
 use Rattle.std.specs.Prelude.{List, [], ◌∷◌, ◌++◌, ℕ, ◌+◌, ◌^◌, leb}
 use Rattle.entry.specs.Word.{price_of}
-use Rattle.changes.specs.declared.search.Found.{Found}
-use Rattle.changes.specs.declared.search.Found.TheVariants.{Word, Nothing}
+use Rattle.changes.specs.Found.{Found}
+use Rattle.std.specs.Prelude.{Option, Some, None, Ok}
 use Rattle.changes.specs.Calculus.{find}
-use Rattle.answers.specs.declared.answer.Answer.{Answer}
-use Rattle.answers.specs.declared.answer.Answer.TheVariants.{Price, NoPrice}
-use Rattle.answers.specs.declared.answer.Check.{Check}
+use Rattle.answers.specs.Check.{Answered}
+use Rattle.answers.specs.declared.answer.Answer.TheVariants.{Quoted}
+use Rattle.answers.specs.declared.answer.Quote.{Quote}
+use Rattle.answers.specs.Check.{Check}
 use Rattle.answers.specs.declared.answer.Since.{Since}
 use Rattle.answers.specs.declared.answer.Since.TheVariants.{State, Table}
 use Rattle.answers.specs.declared.call.LookUp.{LookUp}
@@ -19,20 +20,26 @@ use Rattle.answers.specs.First.{Test, met, first}
 use Rattle.layout.specs.declared.head.Head.{Head}
 use Rattle.layout.specs.States.{steps_between, map_here}
 use Rattle.soundness.specs.Checks.{store_grounds, state_grounds}
-use Rattle.last_changes.specs.declared.Last.{Last}
-use Rattle.last_changes.specs.declared.Last.TheVariants.{Word as Last-Word, Nothing as Last-Nothing}
+use Rattle.last_changes.specs.Last.{Last}
 use Rattle.last_changes.specs.Last.{last_in}
 
 -- the price of the word that a map has at an offer, or none; "zero is a true price"
-abbrev pub quote_of : Found → Since → Answer
-quote_of (Word w) since = Price (price_of w) since
-quote_of Nothing since = NoPrice since
+abbrev pub price_in : Found → Option ℕ
+price_in (Some w) = Some (price_of w)
+price_in None = None
+
+-- and since when
+abbrev pub quote_at : Found → Since → Quote
+quote_at found since = record { price = price_in found; since = since }
+
+abbrev pub quote_of : Found → Since → Answered
+quote_of found since = Ok (Quoted (quote_at found since))
 
 -- "the state to which the last step naming the offer leads" among steps that lead on from a state, "or, if none did, that the book
 -- answered"
 abbrev pub since_of : ℕ → Last → Since
-since_of from (Last-Word w n) = State (from + n)
-since_of from Last-Nothing = Table
+since_of from (Some (w, n)) = State (from + n)
+since_of from None = Table
 
 -- "searched among the steps above the anchor and up to the state named"
 abbrev pub since_here : List ℕ → Head → LookUp → Since
@@ -52,7 +59,7 @@ abbrev pub look_up_check : List ℕ → List ℕ → Head → LookUp → Check
 look_up_check table journal head asked = first (look_up_grounds table journal head asked)
 
 -- the price or none, and since when, where the call is accepted, else the ground
-abbrev pub look_up : List ℕ → List ℕ → Head → LookUp → Answer
+abbrev pub look_up : List ℕ → List ℕ → Head → LookUp → Answered
 look_up table journal head asked =
     answered (look_up_check table journal head asked)
     (quote_of (find asked.offer (map_here table journal head asked.state)) (since_here journal head asked))

@@ -1,3 +1,2 @@
-mod Allowed
 pub mod OneOrder
 pub mod OrderKinds

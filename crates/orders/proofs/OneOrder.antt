@@ -1,81 +1,64 @@
 -- The effect of an order, an equation for each way it can go.
 -- Assumes nothing.
-use mathlib.Core.Path.{◌≡◌, sym, ◌∙◌, ap, subst}
+use mathlib.Core.Path.{◌≡◌, ap, subst}
 use mathlib.Core.Bool.{Bool, true, false, cond}
-use Prim.Native.Nat.{ℕ, ◌+◌, ◌-◌, ◌*◌, ◌/◌, ◌%◌, ◌^◌, ◌≤◌, ◌<◌}
+use Prim.Native.Nat.{ℕ, ◌+◌, ◌-◌, ◌*◌, ◌^◌, ◌≤◌, ◌<◌}
 use native.Mathlib.Nat.{mul-le-mul_left}
-use native.Mathlib.Decide.{ℕ_discrete, dec_lt}
+use native.Mathlib.Decide.{dec_lt}
 use native.Mathlib.Omega.{arith}
-use borrow.Author.Tests.{eq-eqb, ne_eqb, le-leb, lt-leb, lt-ltb, le-ltb}
+use Rattle.std.proofs.lemmas.Bool.Decides.{nat_tests}
 use lib.Dec.{leb}
-use Rattle.entry.specs.Word.{kind_of, offer_of, price_of, put_of, Valid}
-use Rattle.changes.specs.declared.search.Found.{Found}
-use Rattle.changes.specs.declared.search.Found.TheVariants.{Word, Nothing}
+use Rattle.entry.specs.Word.{kind_of, offer_of, price_of, put_of, is_put, Valid}
+use Rattle.changes.specs.Found.{Found}
 use Rattle.answers.specs.declared.ground.Ground.TheVariants.{OrderNoPrice, PriceRange}
-use Rattle.orders.specs.declared.effects.Effect.{Effect}
-use Rattle.orders.specs.declared.effects.Effect.TheVariants.{Change, Fails}
+use Rattle.orders.specs.Effect.{Effect}
+use Rattle.std.proofs.Common.{Some, None, Ok, Err}
 use Rattle.orders.specs.Orders.{order_kind, order_amount, order_offer, Kind, lists, withdraws, raises, cuts, keeps, unknown, kind_named}
-use Rattle.orders.specs.Effects.{sixteenths, put_at, with_price, raised, lowered, kept, effect_by, effect, said_by_effect, Does}
+use Rattle.orders.specs.Effects.{sixteenths, put_at, with_price, raised, lowered, kept, effect_by, effect}
 
 -- a share of a price is at most the price
 pub share_small : (p n : ℕ) → n ≤ 16 → p * n ≤ p * 16
 share_small p n h = mul-le-mul_left p h
 
-pub sixteenths_amount : (kind amount price : ℕ) → (price * (kind - 15) + 8) / 16 < amount → sixteenths kind amount price ≡ amount
-unfolding sixteenths
-sixteenths_amount kind amount price h = omega arith
-
-pub sixteenths_share : (kind amount price : ℕ) → amount ≤ (price * (kind - 15) + 8) / 16
-    → sixteenths kind amount price ≡ (price * (kind - 15) + 8) / 16
-unfolding sixteenths
-sixteenths_share kind amount price h = omega arith
-
 pub sixteenths_small : (kind amount price : ℕ) → kind ≤ 31 → amount < 2 ^ 32 → price < 2 ^ 32 → sixteenths kind amount price < 2 ^ 32
 unfolding sixteenths
 sixteenths_small kind amount price k a p = omega (arith, share_small price (kind - 15) (omega arith))
 
-pub put_fits : (offer price : ℕ) → price < 2 ^ 32 → put_at offer price ≡ Change (put_of offer price)
+pub put_fits : (offer price : ℕ) → price < 2 ^ 32 → put_at offer price ≡ Ok (put_of offer price)
 unfolding put_at
-put_fits offer price h = rw (lt-ltb price (2 ^ 32) h)
+put_fits offer price h = grind (arith, nat_tests)
 
-pub put_over : (offer price : ℕ) → 2 ^ 32 ≤ price → put_at offer price ≡ Fails PriceRange
+pub put_over : (offer price : ℕ) → 2 ^ 32 ≤ price → put_at offer price ≡ Err PriceRange
 unfolding put_at
-put_over offer price h = rw (le-ltb price (2 ^ 32) h)
+put_over offer price h = grind (arith, nat_tests)
 
 module _ (w : ℕ) (f : ℕ → Effect) where
-  pub no_price : (kind_of w ≡ 1 → ⊥) → with_price (Word w) f ≡ Fails OrderNoPrice
+  pub no_price : (kind_of w ≡ 1 → ⊥) → with_price (Some w) f ≡ Err OrderNoPrice
   unfolding with_price
-  no_price n = rw (ne_eqb (kind_of w) 1 n)
-
-  pub with_price_lem : kind_of w ≡ 1 → with_price (Word w) f ≡ f (price_of w)
-  unfolding with_price
-  with_price_lem e = rw (eq-eqb (kind_of w) 1 e)
+  no_price n = grind (arith, nat_tests)
 
 -- a word of kind 1 and its price, with what an order makes of it
 module _ (offer amount w : ℕ) (put : kind_of w ≡ 1) where
-  pub raise_over : 2 ^ 32 ≤ price_of w + amount → raised offer amount (Word w) ≡ Fails PriceRange
-  raise_over h = with_price_lem w _ put ∙ put_over offer (price_of w + amount) h
+  pub raise_over : 2 ^ 32 ≤ price_of w + amount → raised offer amount (Some w) ≡ Err PriceRange
+  unfolding with_price put_at
+  raise_over h = grind (arith, nat_tests)
 
-  pub raise_fits : price_of w + amount < 2 ^ 32 → raised offer amount (Word w) ≡ Change (put_of offer (price_of w + amount))
-  raise_fits h = with_price_lem w _ put ∙ put_fits offer (price_of w + amount) h
+  pub raise_fits : price_of w + amount < 2 ^ 32 → raised offer amount (Some w) ≡ Ok (put_of offer (price_of w + amount))
+  unfolding with_price put_at
+  raise_fits h = grind (arith, nat_tests)
 
-  pub cut_under : price_of w < amount → lowered offer amount (Word w) ≡ Fails PriceRange
-  cut_under h = with_price_lem w _ put ∙ rw (lt-leb amount (price_of w) h)
+  pub cut_under : price_of w < amount → lowered offer amount (Some w) ≡ Err PriceRange
+  unfolding with_price put_at
+  cut_under h = grind (arith, nat_tests)
 
-  pub cut_fits : amount ≤ price_of w → lowered offer amount (Word w) ≡ Change (put_of offer (price_of w - amount))
-  cut_fits h = with_price_lem w _ put ∙ rw (le-leb amount (price_of w) h) (put_fits offer (price_of w - amount) (omega arith))
+  pub cut_fits : amount ≤ price_of w → lowered offer amount (Some w) ≡ Ok (put_of offer (price_of w - amount))
+  unfolding with_price put_at
+  cut_fits h = grind (arith, nat_tests)
 
   pub keep_fits : (kind price : ℕ) → price ≡ sixteenths kind amount (price_of w) → price < 2 ^ 32
-      → kept kind offer amount (Word w) ≡ Change (put_of offer price)
-  keep_fits kind price e h = with_price_lem w _ put ∙ ap (put_at offer) (sym e) ∙ put_fits offer price h
-
--- a word built from an offer that fits
-pub put_is : (r o p : ℕ) → r ≡ put_of (o % 2 ^ 31) p → o < 2 ^ 31 → r ≡ put_of o p
-put_is r o p e h = omega arith
-
--- an effect that is the one meant says the same
-pub does : {a b : Effect} → a ≡ b → Does a b
-does e = (e, ap said_by_effect e)
+      → kept kind offer amount (Some w) ≡ Ok (put_of offer price)
+  unfolding with_price put_at
+  keep_fits kind price e h = grind (arith, nat_tests)
 
 -- an order of a kind does as the kind says
 pub effect_as : (o : ℕ) (found : Found) {kind : Kind} → kind_named (order_kind o) ≡ kind → effect o found
@@ -88,8 +71,8 @@ abbrev pub Names : ℕ → ℕ → Type 0
 Names offer w = (offer_of w ≡ offer) × Valid w
 
 abbrev pub Changing : ℕ → Effect → Type 0
-Changing offer (Change w) = Names offer w
-Changing offer (Fails ground) = Unit
+Changing offer (Ok w) = Names offer w
+Changing offer (Err ground) = Unit
 
 module _ (offer : ℕ) (small : offer < 2 ^ 31) where
   put_Changing : (price : ℕ) → Changing offer (put_at offer price)
@@ -101,17 +84,17 @@ module _ (offer : ℕ) (small : offer < 2 ^ 31) where
 
   price_Changing : (found : Found) (f : ℕ → Effect) → ((price : ℕ) → Changing offer (f price)) → Changing offer (with_price found f)
   unfolding with_price
-  price_Changing (Word w) f h = go (ℕ_discrete (kind_of w) 1)
+  price_Changing (Some w) f h = go (is_put w)
     where
-      go : Dec (kind_of w ≡ 1) → Changing offer (with_price (Word w) f)
-      go (yes e) = rw (with_price_lem w f e) (h (price_of w))
-      go (no n) = rw (no_price w f n) tt
-  price_Changing Nothing f h = tt
+      go : (b : Bool) → Changing offer (cond b (f (price_of w)) (Err OrderNoPrice))
+      go true = h (price_of w)
+      go false = tt
+  price_Changing None f h = tt
 
-  cut_Changing : (amount price : ℕ) → Changing offer (cond (leb amount price) (put_at offer (price - amount)) (Fails PriceRange))
+  cut_Changing : (amount price : ℕ) → Changing offer (cond (leb amount price) (put_at offer (price - amount)) (Err PriceRange))
   cut_Changing amount price = go (leb amount price)
     where
-      go : (b : Bool) → Changing offer (cond b (put_at offer (price - amount)) (Fails PriceRange))
+      go : (b : Bool) → Changing offer (cond b (put_at offer (price - amount)) (Err PriceRange))
       go true = put_Changing (price - amount)
       go false = tt
 
@@ -124,7 +107,7 @@ module _ (offer : ℕ) (small : offer < 2 ^ 31) where
   by_Changing unknown k amount found = tt
 
 -- an order that does not fail changes the price of its own offer
-pub effect-Names : (o : ℕ) (found : Found) (w : ℕ) → effect o found ≡ Change w → Names (order_offer o) w
+pub effect-Names : (o : ℕ) (found : Found) (w : ℕ) → effect o found ≡ Ok w → Names (order_offer o) w
 unfolding effect
 effect-Names o found w e =
     subst (Changing (order_offer o)) e

@@ -1,2 +1,4 @@
 pub mod Orders
+pub mod Kinds
+pub mod Effect
 pub mod Effects

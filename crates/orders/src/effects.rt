@@ -1,90 +1,77 @@
 // What one order does (document 01, "Batches"; document 02, Q-3), seen the word that shows its offer's price or none.
-ghost use Rattle.std.specs.Prelude.{◌≡◌, ◌^◌, ◌≤◌, ◌<◌};
-ghost use Rattle.changes.specs.declared.search.Found.TheVariants.{Word};
-ghost use Rattle.orders.specs.Effects.{sixteenths as sixteenths_of, raised, lowered, kept, effect, Does};
+ghost use Rattle.std.specs.Prelude.{◌≡◌, ◌+◌, ◌^◌, ◌≤◌, ◌<◌, Some, Ok};
+ghost use Rattle.orders.specs.Effects.{sixteenths as sixteenths_of, with_price, raised, lowered, kept, effect, Does};
 
 use crate::Order;
+use crate::kind::Kind;
 use answers::ground::Ground;
 use entry::Entry;
 
-// The highest price.
-const MAX_PRICE: u64 = (1 << Entry::PRICE_BITS) - 1;
-
-// What an order does: it puts or removes a price by an entry word, or it fails.
-#[derive(Clone, Copy)]
-pub enum Effect {
-    Change(u64),
-    Fails(Ground),
+// So many sixteenths of a price, to the nearest unit and a half upward, or the amount if that is more.
+#[tactic(auto, unfolding(crate::specs::Effects::sixteenths))]
+fn sixteenths(count: u32, amount: u32, price: u32) -> u32
+    requires { count ≤ 16 }
+    ensures { result ≡ sixteenths_of (15 + count) amount price }
+{
+    let share = ((u64::from(price) * u64::from(count) + 8) / 16) as u32;
+    share.max(amount)
 }
 
-// So many sixteenths of a price, to the nearest unit and a half upward, or the amount if that is more.
-fn sixteenths(kind: u32, amount: u32, price: u32) -> u32
-    requires { (16 ≤ kind) × (kind ≤ 31) }
-    ensures { result ≡ sixteenths_of kind amount price }
+// The price that a word shows; ground 9 where it shows none.
+#[tactic(auto, unfolding(crate::specs::Effects::with_price))]
+fn price_shown(shown: u64) -> Result<u32, Ground>
+    ensures { result ≡ with_price (Some shown) (λ price. Ok price) }
 {
-    let share = (((price as u64) * ((kind - 15) as u64) + 8) / 16) as u32;
-    if share < amount {
-        return amount;
+    if Entry::kind_of(shown) != Entry::PUT {
+        return Err(Ground::OrderNoPrice);
     }
-    share
+    Ok(Entry::price_of(shown))
 }
 
 // Raises the price shown by the amount.
-fn raise(offer: u32, amount: u32, shown: u64) -> Effect
+#[tactic(auto, unfolding(crate::specs::Effects::with_price, crate::specs::Effects::put_at))]
+fn raise(offer: u32, amount: u32, shown: u64) -> Result<u64, Ground>
     requires { offer < 2 ^ 31 }
-    ensures { result ≡ raised offer amount (Word shown) }
+    ensures { result ≡ raised offer amount (Some shown) }
 {
-    if Entry::kind_of(shown) != Entry::PUT {
-        return Effect::Fails(Ground::OrderNoPrice);
-    }
-    let sum = (Entry::price_of(shown) as u64) + (amount as u64);
-    if MAX_PRICE < sum {
-        return Effect::Fails(Ground::PriceRange);
-    }
-    Effect::Change(Entry::put(offer, sum as u32))
+    let price = price_shown(shown)?;
+    let sum = price.checked_add(amount).ok_or(Ground::PriceRange)?;
+    Ok(Entry::put(offer, sum))
 }
 
 // Cuts the price shown by the amount.
-fn cut(offer: u32, amount: u32, shown: u64) -> Effect
+#[tactic(auto, unfolding(crate::specs::Effects::with_price, crate::specs::Effects::put_at))]
+fn cut(offer: u32, amount: u32, shown: u64) -> Result<u64, Ground>
     requires { offer < 2 ^ 31 }
-    ensures { result ≡ lowered offer amount (Word shown) }
+    ensures { result ≡ lowered offer amount (Some shown) }
 {
-    if Entry::kind_of(shown) != Entry::PUT {
-        return Effect::Fails(Ground::OrderNoPrice);
-    }
-    let price = Entry::price_of(shown);
-    if amount <= price {
-        return Effect::Change(Entry::put(offer, price - amount));
-    }
-    Effect::Fails(Ground::PriceRange)
+    let price = price_shown(shown)?;
+    let rest = price.checked_sub(amount).ok_or(Ground::PriceRange)?;
+    Ok(Entry::put(offer, rest))
 }
 
 // Keeps so many sixteenths of the price shown.
-fn keep(kind: u32, offer: u32, amount: u32, shown: u64) -> Effect
-    requires { (16 ≤ kind) × (kind ≤ 31) × (offer < 2 ^ 31) }
-    ensures { result ≡ kept kind offer amount (Word shown) }
+#[tactic(auto, unfolding(crate::specs::Effects::with_price, crate::specs::Effects::put_at))]
+fn keep(count: u32, offer: u32, amount: u32, shown: u64) -> Result<u64, Ground>
+    requires { (count ≤ 16) × (offer < 2 ^ 31) }
+    ensures { result ≡ kept (15 + count) offer amount (Some shown) }
 {
-    let shows = Entry::kind_of(shown);
-    let price = Entry::price_of(shown);
-    if Entry::PUT <= shows {
-        return Effect::Change(Entry::put(offer, sixteenths(kind, amount, price)));
-    }
-    Effect::Fails(Ground::OrderNoPrice)
+    let share = sixteenths(count, amount, price_shown(shown)?);
+    Ok(Entry::put(offer, share))
 }
 
 // The effect of an order where its offer is shown by a word.
-pub fn effect_of(order: u64, shown: u64) -> Effect
-    ensures { Does result (effect order (Word shown)) }
+#[tactic(auto, unfolding(crate::specs::Orders::kind_named, crate::specs::Effects::put_at, crate::specs::Effects::effect))]
+pub fn effect_of(order: u64, shown: u64) -> Result<u64, Ground>
+    ensures { Does result (effect order (Some shown)) }
 {
-    let kind = Order::kind_of(order);
     let amount = Order::amount_of(order);
     let offer = Order::offer_of(order);
-    match kind {
-        0 => Effect::Change(Entry::put(offer, amount)),
-        1 => Effect::Change(Entry::none(offer)),
-        2 => raise(offer, amount, shown),
-        3 => cut(offer, amount, shown),
-        16..=31 => keep(kind, offer, amount, shown),
-        _ => Effect::Fails(Ground::BadOrder),
+    match Kind::try_from(Order::kind_of(order))? {
+        Kind::Put => Ok(Entry::put(offer, amount)),
+        Kind::Withdraw => Ok(Entry::none(offer)),
+        Kind::Raise => raise(offer, amount, shown),
+        Kind::Cut => cut(offer, amount, shown),
+        Kind::Keep(count) => keep(count, offer, amount, shown),
     }
 }

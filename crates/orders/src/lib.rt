@@ -8,10 +8,12 @@ ghost use Rattle.std.specs.Prelude.{◌≡◌};
 ghost use Rattle.orders.specs.Orders.{order_kind, order_amount, order_offer, is_allowed};
 
 use entry::Entry;
+use kind::Kind;
 
 pub mod effects;
+pub mod kind;
 
-#[derive(Clone, Copy)]
+#[derive(Clone, Copy, Debug, PartialEq, Eq)]
 pub struct Order;
 
 impl Order {
@@ -52,10 +54,10 @@ impl Order {
 
 // Whether an order may be in a batch: its kind is known, and a withdrawal's amount is 0. Orders of all kinds come mixed, so that a
 // branch on the kind could not be foreseen; the tests are joined without one.
+#[tactic(auto, unfolding(crate::specs::Orders::kind_named, crate::specs::Orders::is_allowed))]
 pub fn is_allowed(order: u64) -> bool
     ensures { result ≡ is_allowed order }
 {
-    let kind = Order::kind_of(order);
-    let amount = Order::amount_of(order);
-    ((kind < 4) & ((kind != 1) | (amount == 0))) | ((16 <= kind) & (kind <= 31))
+    let kind = Kind::try_from(Order::kind_of(order));
+    kind.is_ok() & (!matches!(kind, Ok(Kind::Withdraw)) | (Order::amount_of(order) == 0))
 }

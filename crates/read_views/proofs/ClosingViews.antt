@@ -11,14 +11,14 @@ use Rattle.changes.specs.Calculus.{compose_all}
 use Rattle.changes.specs.ReadSets.{over}
 use Rattle.changes.specs.Runs.{run_of}
 use Rattle.answers.specs.declared.call.Reader.{Reader}
-use Rattle.answers.specs.declared.answer.Check.TheVariants.{Passed}
+use Rattle.std.proofs.Common.{Ok}
 use Rattle.layout.specs.declared.head.Head.{Head}
 use Rattle.layout.specs.Heads.{with_slots}
 use Rattle.layout.specs.States.{held_of, step_index, steps_between}
 use Rattle.views.specs.Trim.{trimmed}
 use Rattle.views.specs.View.{Store, View, closed, holding, held_steps, encode, decode, open_of, issued_of, NotAbove, Good, Nearly, Shaped}
 use Rattle.views.proofs.Setters.{good_slots}
-use Rattle.soundness.proofs.Sounds.{Sound}
+use Rattle.soundness.specs.Facts.{Sound}
 use Rattle.views.proofs.States.{run_middle}
 use Rattle.views.proofs.Trims.{trim_store, trim_leaves, trim_Good}
 use Rattle.views.proofs.Encodes.{Encodes}
@@ -102,11 +102,11 @@ module _ (table journal : List ℕ) (head : Head) (p : Shaped head) where
         slot_there (decode here).slots slot (ap (λ (l : List Bool). get_or l slot false) opens ∙ e)
         ∙ ap (λ (l : List ℕ). holding (get_or l slot 0)) numbers
 
-  module _ (reader : Reader) (e : release_check table journal head reader ≡ Passed) where
+  module _ (reader : Reader) (e : release_check table journal head reader ≡ (Ok tt)) where
     pub release_leaves : Encodes (trim_store (closed_in reader.slot here)) head (closed_view reader.slot)
     release_leaves = closed_leaves (release_ok table journal head reader e).sound reader.slot
 
-  module _ (reader : Reader) (state : ℕ) (words : List ℕ) (e : forward_check table journal head reader state words ≡ Passed) where
+  module _ (reader : Reader) (state : ℕ) (words : List ℕ) (e : forward_check table journal head reader state words ≡ (Ok tt)) where
     ok : ForwardOk table journal head reader state words
     ok = forward_ok table journal head reader state words e
 

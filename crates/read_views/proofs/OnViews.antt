@@ -9,7 +9,7 @@ use lib.ListN.{take, get_or, set, length-set}
 use Rattle.changes.specs.ReadSets.{read_of}
 use Rattle.answers.specs.declared.call.LookUp.{LookUp}
 use Rattle.answers.specs.declared.call.Reader.{Reader}
-use Rattle.answers.specs.declared.answer.Check.TheVariants.{Passed}
+use Rattle.std.proofs.Common.{Ok}
 use Rattle.layout.specs.declared.head.Head.{Head}
 use Rattle.layout.specs.States.{steps_between, map_here}
 use Rattle.layout.specs.Heads.{with_slots}
@@ -31,7 +31,7 @@ module _ (table journal : List ℕ) (head : Head) where
   here = record { table = table; journal = journal; head = head }
 
   -- a lookup reads the map of the state named
-  module _ (asked : LookUp) (e : look_up_check table journal head asked ≡ Passed) where
+  module _ (asked : LookUp) (e : look_up_check table journal head asked ≡ (Ok tt)) where
     ok : LookUpOk table journal head asked
     ok = look_up_ok table journal head asked e
 
@@ -44,7 +44,7 @@ module _ (table journal : List ℕ) (head : Head) where
     look_up_steps = steps_since table journal head ok.sound asked.state ok.low ok.high
 
   -- an issue opens its slot in the view and changes nothing else of it
-  module _ (p : Shaped head) (reader : Reader) (list : List ℕ) (e : issue_check table journal head reader list ≡ Passed) where
+  module _ (p : Shaped head) (reader : Reader) (list : List ℕ) (e : issue_check table journal head reader list ≡ (Ok tt)) where
     abbrev slot : ℕ
     slot = reader.slot
 

@@ -7,13 +7,13 @@ use Prim.Native.Nat.{ℕ, ◌<◌}
 use borrow.Author.Tests.{not-false}
 use lib.ListN.{length, get_or}
 use Rattle.answers.specs.declared.call.Reader.{Reader}
-use Rattle.answers.specs.declared.answer.Check.TheVariants.{Passed}
+use Rattle.std.proofs.Common.{Ok}
 use Rattle.answers.proofs.Firsts.{passed_not}
 use Rattle.layout.specs.declared.head.Head.{Head}
 use Rattle.layout.proofs.HeadTests.{InRange}
 use Rattle.slots.proofs.Passed.{slot_passed}
 use Rattle.soundness.proofs.Passed.{store_passed}
-use Rattle.soundness.proofs.Sounds.{Sound}
+use Rattle.soundness.specs.Facts.{Sound}
 use Rattle.releases.specs.Release.{release_check}
 
 pub record ReleaseOk (table journal : List ℕ) (head : Head) (reader : Reader) : Type 0 where
@@ -23,7 +23,7 @@ pub record ReleaseOk (table journal : List ℕ) (head : Head) (reader : Reader) 
   pub taken : get_or head.taken reader.slot false ≡ true
 
 pub release_ok : (table journal : List ℕ) (head : Head) (reader : Reader) → release_check table journal head reader
-    ≡ Passed → ReleaseOk table journal head reader
+    ≡ Ok tt → ReleaseOk table journal head reader
 release_ok table journal head reader e =
     let a = store_passed table journal head _ e in
     let c = slot_passed reader _ a.1 in

@@ -1,7 +1,7 @@
 -- Release (document 01, "Laws of changes"): "Drop only closes it." "After flush, forward or drop the floor is worked out anew".
 -- Assumes nothing.
 use Rattle.std.specs.Prelude.{false, not, List, [], ◌∷◌, ◌++◌, ℕ, get_or}
-use Rattle.answers.specs.declared.answer.Check.{Check}
+use Rattle.answers.specs.Check.{Check}
 use Rattle.answers.specs.declared.call.Reader.{Reader}
 use Rattle.answers.specs.declared.ground.Ground.TheVariants.{SlotClosed}
 use Rattle.answers.specs.First.{Test, met, first, if_passed}

@@ -5,7 +5,7 @@ use mathlib.Core.Path.{◌≡◌, sym, ap, ap₂, ◌∙◌}
 use mathlib.Core.List.{List}
 use Prim.Native.Nat.{ℕ, ◌^◌, ◌<◌}
 use lib.ListN.{length, take, replicate}
-use Rattle.answers.specs.declared.answer.Check.TheVariants.{Passed}
+use Rattle.std.proofs.Common.{Ok}
 use Rattle.image.specs.Image.{count_in, number_in, words_in}
 use Rattle.layout.specs.declared.head.Head.{Head}
 use Rattle.views.specs.Laid.{padded}
@@ -17,7 +17,7 @@ use Rattle.snapshot.proofs.OnViews.{limits_of, fresh_encoded, fresh_Good}
 use Rattle.restarts.specs.Restart.{restart_check, restart_image}
 use Rattle.restarts.proofs.Restarting.{map_is, map_room, still_deep, number_back, words_back, count_back}
 
-module _ (table journal : List ℕ) (head : Head) (room : ℕ) (e : restart_check table journal head room ≡ Passed)
+module _ (table journal : List ℕ) (head : Head) (room : ℕ) (e : restart_check table journal head room ≡ (Ok tt))
     (small : head.checkpoint < 2 ^ 32) where
   abbrev image : List ℕ
   image = restart_image table journal head

@@ -4,7 +4,7 @@
 -- "everything lent and the head keep their values" where a call is turned away.
 -- Assumes nothing.
 use Rattle.std.specs.Prelude.{List, ℕ, length, replicate}
-use Rattle.answers.specs.declared.answer.Check.{Check}
+use Rattle.answers.specs.Check.{Check}
 use Rattle.answers.specs.declared.call.Format.TheVariants.{Image}
 use Rattle.answers.specs.First.{Test, first, if_passed}
 use Rattle.image.specs.Image.{count_in, number_in, words_in}

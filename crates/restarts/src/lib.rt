@@ -2,34 +2,53 @@
 // all slots close. The depth stays.
 #![tactic(auto)]
 
-ghost use Rattle.std.specs.Prelude.{◌≡◌, length};
-ghost use Rattle.answers.specs.declared.answer.Answer.TheVariants.{Done};
-ghost use Rattle.answers.specs.Answers.{Gives, answered};
+ghost use Rattle.std.specs.Prelude.{◌≡◌, Err, MatchResult, length};
+ghost use Rattle.answers.specs.Answers.{Checks};
 ghost use Rattle.restarts.specs.Restart.{restart_check, restart_head, restart_table, restart_journal, restart_bytes};
+ghost use Rattle.restarts.specs.Written.{Written};
 
-use answers::answer::Answer;
 use answers::call::Format;
+use answers::ground::Ground;
 use exports::write::write_state;
 use formats::reading::read;
-use layout::head::{Head, Reply};
+use layout::head::Head;
 use snapshot::fresh::fresh_store;
+use soundness::StoreRef;
 
-pub fn restart(table: &mut [u64], journal: &mut [u64], head: Head, bytes: &mut [u8]) -> Reply
-    ensures { Gives result.answer
-        (answered (restart_check table.old journal.old head (length bytes.old)) Done)
-        × (result.head ≡ restart_head table.old journal.old head (length bytes.old))
-        × (table.new ≡ restart_table table.old journal.old head (length bytes.old))
-        × (journal.new ≡ restart_journal table.old journal.old head (length bytes.old))
-        × (bytes.new ≡ restart_bytes table.old journal.old head bytes.old) }
+// Writes the checkpoint's image, and gives how many bytes it takes.
+fn write_checkpoint(
+    table: &[u64],
+    journal: &[u64],
+    head: &Head,
+    bytes: &mut [u8],
+) -> Result<usize, Ground>
+    ensures { MatchResult result
+        (λ count. Written table.now journal.now head.now bytes.old bytes.new count)
+        (λ why. (restart_check table.now journal.now head.now (length bytes.old) ≡ Err why) × (bytes.new ≡ bytes.old)) }
 {
-    let answer = write_state(table, journal, head, Format::Image, head.checkpoint, bytes);
-    let Answer::Count(written) = answer else {
-        return Reply { answer, head };
+    let store = StoreRef {
+        table,
+        journal,
+        head,
     };
+    write_state(store, Format::Image, head.checkpoint, bytes)
+}
+
+// Writes the checkpoint's image, and makes a store of it in the memory lent.
+pub fn restart(
+    table: &mut [u64],
+    journal: &mut [u64],
+    head: &mut Head,
+    bytes: &mut [u8],
+) -> Result<(), Ground>
+    ensures answer { Checks result (restart_check table.old journal.old head.old (length bytes.old)) }
+    ensures head { head.new ≡ restart_head table.old journal.old head.old (length bytes.old) }
+    ensures table { table.new ≡ restart_table table.old journal.old head.old (length bytes.old) }
+    ensures journal { journal.new ≡ restart_journal table.old journal.old head.old (length bytes.old) }
+    ensures bytes { bytes.new ≡ restart_bytes table.old journal.old head.old bytes.old }
+{
+    let written = write_checkpoint(table, journal, head, bytes)?;
     read(Format::Image, &bytes[..written], table);
-    let next = fresh_store(table, journal, head.used, head.checkpoint, head.depth);
-    Reply {
-        answer: Answer::Done,
-        head: next,
-    }
+    *head = fresh_store(table, journal, head.used, head.checkpoint, head.depth);
+    Ok(())
 }

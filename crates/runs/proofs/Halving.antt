@@ -4,25 +4,15 @@ use mathlib.Core.Path.{◌≡◌, refl, sym, ap, ap₂, subst, ◌∙◌}
 use mathlib.Core.List.{List, [], ◌++◌}
 use Prim.Native.Nat.{ℕ, ◌+◌, ◌-◌, ◌≤◌, ◌<◌}
 use native.Mathlib.Omega.{arith}
-use lib.ListN.{length, take, drop, length-append, length-drop}
-use lib.Seq.{length-take-le, take_at, drop_at, take-append-add, drop-append-add, drop-drop}
+use lib.ListN.{length, take, drop, length-take, length-drop}
+use lib.Seq.{length-take-le, take_at, drop_at, drop-append-add, drop-drop}
 use borrow.Rule.Slice.PartMut.{put_mid}
 use Rattle.changes.specs.Calculus.{compose, compose_all}
 use Rattle.changes.specs.Runs.{start_of, step_of, run_of, run_words, Marked}
 use Rattle.changes.proofs.Applying.{compose_all-nil, compose_all_one, compose_all_split}
-use Rattle.changes.proofs.Running.{Marked-fewer, run_none, run_one, run_split, step_length, run_length}
+use Rattle.changes.proofs.Running.{run_none, run_one, run_split, step_length, run_length}
 use Rattle.words.proofs.Parts.{part, put_part, further}
 use Rattle.runs.specs.Composed.{RunRoom, Composed}
-
--- a step that was copied
-pub copied_step : (words ends : List ℕ) (i : ℕ) → Marked words ends (i + 1) → (a b : ℕ) → a ≡ start_of ends i → b ≡ start_of ends (i + 1)
-    → (last out : List ℕ) → last ≡ take (b - a) (drop a words) ++ drop (length (take (b - a) (drop a words))) out → last
-    ≡ step_of words ends i ++ drop (b - a) out
-copied_step words ends i m a b ea eb last out e =
-    let step : take (b - a) (drop a words) ≡ step_of words ends i = ap₂ (λ (x y : ℕ). take (y - x) (drop x words)) ea eb in
-    let long : length (take (b - a) (drop a words)) ≡ b - a = ap length step
-    ∙ step_length words ends (i + 1) m i (omega arith) ∙ ap₂ (λ (x y : ℕ). y - x) (sym ea) (sym eb) in
-    e ∙ ap₂ (λ (x : List ℕ) (y : ℕ). x ++ drop y out) step long
 
 -- no step
 pub compose_none : {words ends : List ℕ} {i j o s : ℕ} → RunRoom words ends i j o s → j ≤ i → (out spare : List ℕ)
@@ -61,15 +51,6 @@ module _ {words ends : List ℕ} {i j o s : ℕ} (r : RunRoom words ends i j o s
   pub rise_right : start_of ends mid ≤ start_of ends j
   rise_right = r.marked.rises mid j (omega arith) (omega arith)
 
-  pub left_room : RunRoom words ends i mid s o
-  left_room =
-      record {
-        marked = Marked-fewer r.marked mid (omega arith);
-        order = omega arith;
-        out_room = omega (arith, r.spare_room, rise_left, rise_right);
-        spare_room = omega (arith, r.out_room, rise_left, rise_right);
-      }
-
 -- the left half is composed
 pub record Left (words ends : List ℕ) (i j mid : ℕ) (out₀ spare₀ out₁ spare₁ : List ℕ) (n : ℕ) : Type 0 where
   pub room : RunRoom words ends i j (length out₀) (length spare₀)
@@ -78,6 +59,11 @@ pub record Left (words ends : List ℕ) (i j mid : ℕ) (out₀ spare₀ out₁ 
   pub long_o : length out₁ ≡ length out₀
   pub long_s : length spare₁ ≡ length spare₀
   pub done : Composed words ends i mid spare₀ out₀ spare₁ out₁ n
+
+pub left_of : {words ends : List ℕ} {i j mid : ℕ} {out₀ spare₀ out₁ spare₁ : List ℕ} {n : ℕ}
+    → Composed words ends i mid spare₀ out₀ spare₁ out₁ n → RunRoom words ends i j (length out₀) (length spare₀) → i < mid → mid < j
+    → length out₁ ≡ length out₀ → length spare₁ ≡ length spare₀ → Left words ends i j mid out₀ spare₀ out₁ spare₁ n
+left_of d r l h o s = record { room = r; low = l; high = h; long_o = o; long_s = s; done = d }
 
 module _ {words ends : List ℕ} {i j mid : ℕ} {out₀ spare₀ out₁ spare₁ : List ℕ} {n : ℕ}
     (l : Left words ends i j mid out₀ spare₀ out₁ spare₁ n) where
@@ -122,6 +108,13 @@ pub record Right (words ends : List ℕ) (i j mid : ℕ) (out₀ spare₀ out₁
   pub long_t : length tail ≡ length (take (length spare₁ - n) (drop n spare₁))
   pub done : Composed words ends mid j (take (length spare₁ - n) (drop n spare₁)) out₁ tail out₂ m
 
+pub right_of : {words ends : List ℕ} {i j mid : ℕ} {out₀ spare₀ out₁ spare₁ : List ℕ} {n : ℕ} {out₂ tail : List ℕ} {m : ℕ}
+    → Left words ends i j mid out₀ spare₀ out₁ spare₁ n
+    → Composed words ends mid j (take (length spare₁ - n) (drop n spare₁)) out₁ tail out₂ m → length out₂ ≡ length out₁
+    → length tail ≡ length (take (length spare₁ - n) (drop n spare₁))
+    → Right words ends i j mid out₀ spare₀ out₁ spare₁ n out₂ tail m
+right_of l d o t = record { left = l; long_o = o; long_t = t; done = d }
+
 module _ {words ends : List ℕ} {i j mid : ℕ} {out₀ spare₀ out₁ spare₁ : List ℕ} {n : ℕ} {out₂ tail : List ℕ} {m : ℕ}
     (r : Right words ends i j mid out₀ spare₀ out₁ spare₁ n out₂ tail m) where
   right_short : m ≤ run_words ends mid j
@@ -138,58 +131,47 @@ module _ {words ends : List ℕ} {i j mid : ℕ} {out₀ spare₀ out₁ spare�
   first_long : length (take n spare₁) ≡ n
   first_long = length-take-le n spare₁ (left_inside r.left)
 
-  tail_long : length tail ≡ length spare₁ - n
-  tail_long = omega (arith, r.long_t, ap length (part spare₁ n), length-drop n spare₁)
+  abbrev both : List ℕ
+  both = put_mid n (length spare₁ - n) spare₁ tail
 
-  pub spare_long : length (put_mid n (length spare₁ - n) spare₁ tail) ≡ length spare₀
-  spare_long = ap length spare_is ∙ simp length-append (omega (arith, first_long, tail_long, left_inside r.left, r.left.long_s))
-
-  pub both_words : n + m ≤ run_words ends i j
+  both_words : n + m ≤ run_words ends i j
   both_words = omega (arith, left_short r.left, right_short, up_left r.left, up_right r.left)
 
-  pub both_inside : n + m ≤ length (put_mid n (length spare₁ - n) spare₁ tail)
-  both_inside = omega (arith, spare_long, both_words, r.left.room.spare_room)
+  pub both_room : length (take n both) + length (take (n + m - n) (drop n both)) ≤ length out₂
+  both_room =
+      omega (
+        arith,
+        length-take n both,
+        length-take (n + m - n) (drop n both),
+        both_words,
+        r.left.room.out_room,
+        r.long_o,
+        r.left.long_o,
+      )
 
-  pub both_fit : n + m ≤ length out₂
-  both_fit = omega (arith, both_words, r.left.room.out_room, r.long_o, r.left.long_o)
+  -- each of the halves in the second buffer
+  first_is : take n both ≡ take n spare₁
+  first_is = ap (take n) spare_is ∙ take_at (take n spare₁) tail n first_long
 
-  -- both halves as a part of the second buffer
-  pub both_long : n + m ≡ length (take (n + m) (put_mid n (length spare₁ - n) spare₁ tail))
-  both_long = sym (length-take-le (n + m) (put_mid n (length spare₁ - n) spare₁ tail) both_inside)
+  second_is : take (n + m - n) (drop n both) ≡ take m tail
+  second_is =
+      let count : n + m - n ≡ m = omega arith in
+      ap₂ take count (ap (drop n) spare_is ∙ drop_at (take n spare₁) tail n first_long)
 
-  pub left_of_both : n ≤ length (take (n + m) (put_mid n (length spare₁ - n) spare₁ tail))
-  left_of_both = omega (arith, both_long)
-
-  pub both_room : length (take (n + m) (put_mid n (length spare₁ - n) spare₁ tail)) ≤ length out₂
-  both_room = omega (arith, both_long, both_fit)
-
-  -- both halves, and each of them
-  both_are : take (n + m) (put_mid n (length spare₁ - n) spare₁ tail) ≡ take n spare₁ ++ take m tail
-  both_are =
-      ap (take (n + m)) spare_is
-      ∙ ap (λ (k : ℕ). take (k + m) (take n spare₁ ++ tail)) (sym first_long)
-      ∙ take-append-add (take n spare₁) tail m
-
-  halves : compose (take n (take (n + m) (put_mid n (length spare₁ - n) spare₁ tail)))
-      (drop n (take (n + m) (put_mid n (length spare₁ - n) spare₁ tail)))
-      ≡ compose_all (run_of words ends i (j - i))
+  halves : compose (take n both) (take (n + m - n) (drop n both)) ≡ compose_all (run_of words ends i (j - i))
   halves =
       let sum : j - i ≡ (mid - i) + (j - mid) = omega (arith, r.left.low, r.left.high) in
       let next : i + (mid - i) ≡ mid = omega (arith, r.left.low) in
-      ap₂ compose
-      (ap (take n) both_are ∙ take_at (take n spare₁) (take m tail) n first_long ∙ r.left.done.front)
-      (ap (drop n) both_are ∙ drop_at (take n spare₁) (take m tail) n first_long ∙ r.done.front)
+      ap₂ compose (first_is ∙ r.left.done.front) (second_is ∙ r.done.front)
       ∙ ap (λ (k : ℕ). compose (compose_all (run_of words ends i (mid - i))) (compose_all (run_of words ends k (j - mid)))) (sym next)
       ∙ sym (compose_all_split (run_of words ends i (mid - i)) (run_of words ends (i + (mid - i)) (j - mid)))
       ∙ ap compose_all (sym (run_split words ends (mid - i) (j - mid) i))
       ∙ ap (λ (k : ℕ). compose_all (run_of words ends i k)) (sym sum)
 
   pub Composed-halves : (last : List ℕ) (k : ℕ)
-      → k ≡ length (compose (take n (take (n + m) (put_mid n (length spare₁ - n) spare₁ tail)))
-      (drop n (take (n + m) (put_mid n (length spare₁ - n) spare₁ tail))))
-      → last ≡ compose (take n (take (n + m) (put_mid n (length spare₁ - n) spare₁ tail)))
-      (drop n (take (n + m) (put_mid n (length spare₁ - n) spare₁ tail))) ++ drop k out₂
-      → Composed words ends i j out₀ spare₀ last (put_mid n (length spare₁ - n) spare₁ tail) k
+      → k ≡ length (compose (take n both) (take (n + m - n) (drop n both)))
+      → last ≡ compose (take n both) (take (n + m - n) (drop n both)) ++ drop k out₂
+      → Composed words ends i j out₀ spare₀ last both k
   Composed-halves last k ek el = record { size = size; front = front; out_behind = out-behind; spare_behind = spare-behind }
     where
       size : k ≡ length (compose_all (run_of words ends i (j - i)))

@@ -17,7 +17,7 @@ fn start_of(ends: &[u16], step: usize) -> usize
     if step == 0 {
         return 0;
     }
-    ends[step - 1] as usize
+    usize::from(ends[step - 1])
 }
 
 // Copies the words of a step to the start of `out`, and gives their count; the words behind them stay.
@@ -30,16 +30,6 @@ fn copy_step(words: &[u64], ends: &[u16], step: usize, out: &mut [u64]) -> usize
     let end = start_of(ends, step + 1);
     copy(&words[start..end], out);
     end - start
-}
-
-// Composes the words before `middle` with those from it on.
-fn compose_parts(words: &[u64], middle: usize, out: &mut [u64]) -> usize
-    requires { (middle ≤ length words.now) × (length words.now ≤ length out.old) }
-    ensures { (result ≡ length (composed (take middle words.now) (drop middle words.now)))
-        × (out.new ≡ composed (take middle words.now) (drop middle words.now)
-        ++ drop result out.old) }
-{
-    compose(&words[..middle], &words[middle..], out)
 }
 
 // Composes the steps from `from` up to `to`, exclusive, into the start of `out`, and gives the count: the run is
@@ -66,6 +56,6 @@ pub fn compose_run(
     let middle = from + (to - from) / 2;
     let left = compose_run(words, ends, from, middle, spare, out);
     let right = compose_run(words, ends, middle, to, &mut spare[left..], out);
-    let both = left + right;
-    compose_parts(&spare[..both], left, out)
+    let halves = &spare[..];
+    compose(&halves[..left], &halves[left..left + right], out)
 }

@@ -7,14 +7,15 @@ use Prim.Native.Nat.{ℕ, suc, ◌+◌, ◌-◌, ◌*◌, ◌/◌, ◌^◌, ◌�
 use native.Mathlib.Omega.{arith}
 use borrow.Author.Tests.{eq-eqb, ne_eqb}
 use lib.Dec.{eqb}
-use lib.ListN.{length, take, drop, length-append, length-drop}
-use lib.Seq.{drop-drop}
-use Rattle.big_endian.specs.Bytes.{value_of}
-use Rattle.sheet.specs.Sheet.{set_bits, seat_words, tag_in, mask_in, row_in, row_size, is_row, are_rows, are_bytes, row_count_in, is_sheet, words_in}
+use lib.ListN.{length, drop, length-append, length-drop}
+use Rattle.std.specs.Prelude.{Option, Some, None}
+use Rattle.changes.specs.Lists.{All}
+use Rattle.changes.proofs.Each.{all_drop}
+use Rattle.big_endian.specs.Bytes.{Byte}
+use Rattle.sheet.specs.Sheet.{set_bits, seat_words, tag_in, mask_in, row_in, row_size, is_row, are_rows, row_count_in, is_sheet, words_in}
 use Rattle.sheet.proofs.Clauses.{left_words, left_none, left_more, test_none, test_more, words_in_lem}
-use Rattle.sheet.proofs.RowTest.{good_size}
 use Rattle.sheet.proofs.Seats.{row_length}
-use Rattle.sheet.proofs.SheetTest.{row_short, row_long, sheet_long}
+use Rattle.sheet.proofs.SheetTest.{facts_bytes, row_facts, mask_small, sheet_long}
 
 -- how many words some rows at the start of bytes have
 abbrev pub word_count : ℕ → List ℕ → ℕ
@@ -29,89 +30,78 @@ count_more n b h =
 
 -- A loop over the rows: those that are left are good exactly when the bytes are a sheet, and the bytes before them are the sheet's header,
 -- a header a row, and a price for each word that is not left.
-pub record Counting (b : List ℕ) (rows least at row : ℕ) : Type 0 where
+pub record Counting (b left : List ℕ) (rows least row : ℕ) : Type 0 where
   pub all : rows ≡ row_count_in b
   pub inside : row ≤ rows
-  pub within : at ≤ length b
-  pub tested : are_rows (rows - row) least (drop at b) ≡ is_sheet b
-  pub counted : at + 4 * word_count (rows - row) (drop at b) ≡ 8 + 8 * row + 4 * length (words_in b)
+  pub small : All Byte left
+  pub tested : are_rows (rows - row) least left ≡ is_sheet b
+  pub counted : length b + 4 * word_count (rows - row) left ≡ length left + 8 + 8 * row + 4 * length (words_in b)
 
-pub Counting-all : (b : List ℕ) (rows : ℕ) → rows ≡ row_count_in b → are_bytes b ≡ true → 8 ≤ length b → Counting b rows 0 8 0
+pub Counting-all : (b : List ℕ) (rows : ℕ) → rows ≡ row_count_in b → All Byte b → 8 ≤ length b → Counting b (drop 8 b) rows 0 0
 Counting-all b rows a e h =
     let all : rows - 0 ≡ row_count_in b = omega arith in
     record {
       all = a;
       inside = omega arith;
-      within = h;
-      tested = ap (λ (n : ℕ). are_rows n 0 (drop 8 b)) all ∙ sym (sheet_long b e h);
-      counted = omega (arith, ap (λ (n : ℕ). word_count n (drop 8 b)) all, ap length (words_in_lem b));
+      small = all_drop Byte 8 b e;
+      tested = ap (λ (n : ℕ). are_rows n 0 (drop 8 b)) all ∙ sym (sheet_long b (facts_bytes b e) h);
+      counted = omega (arith, ap (λ (n : ℕ). word_count n (drop 8 b)) all, ap length (words_in_lem b), length-drop 8 b);
     }
 
--- what a choice between a size and none says of the test
-chosen_none : (t : Bool) (r s : ℕ) → r ≡ cond t s 0 → 0 < s → r ≡ 0 → t ≡ false
-chosen_none true r s e p z = absurd (omega arith)
-chosen_none false r s e p z = refl
+-- the row at the start of some bytes, if one stands there: its number and its size
+abbrev pub row_there : ℕ → List ℕ → Option (ℕ × ℕ)
+row_there least b = cond (is_row least b) (Some (tag_in b / 64, row_size (mask_in b))) None
 
-chosen_some : (t : Bool) (r s : ℕ) → r ≡ cond t s 0 → (r ≡ 0 → ⊥) → (t ≡ true) × (r ≡ s)
-chosen_some true r s e n = (refl, e)
-chosen_some false r s e n = absurd (n e)
+-- what that says of the test
+chosen_none : (t : Bool) (r : ℕ × ℕ) → cond {A = Option (ℕ × ℕ)} t (Some r) None ≡ None → t ≡ false
+chosen_none true r e = absurd (let z : ◌≡◌ {A = ℕ} 0 1 = cc in omega arith)
+chosen_none false r e = refl
 
-module _ {b : List ℕ} {rows least at row : ℕ} (t : Counting b rows least at row) where
+chosen_some : (t : Bool) (n s n' s' : ℕ) → cond {A = Option (ℕ × ℕ)} t (Some (n, s)) None ≡ Some (n', s') → (t ≡ true) × (n' ≡ n) × (s' ≡ s)
+chosen_some true n s n' s' e =
+    let same : (n, s) ≡ (n', s') = cc in
+    (refl, sym (ap (λ (p : ℕ × ℕ). p.0) same), sym (ap (λ (p : ℕ × ℕ). p.1) same))
+chosen_some false n s n' s' e = absurd (let z : ◌≡◌ {A = ℕ} 0 1 = cc in omega arith)
+
+module _ {b left : List ℕ} {rows least row : ℕ} (t : Counting b left rows least row) where
   module _ (h : row < rows) where
-    abbrev here : List ℕ
-    here = drop at b
-
     more : rows - row ≡ suc (rows - (row + 1))
     more = omega arith
 
-    test_here : (is_row least here && are_rows (rows - (row + 1)) (tag_in here / 64 + 1) (drop (row_size (mask_in here)) here)) ≡ is_sheet b
-    test_here = sym (test_more (rows - (row + 1)) least here) ∙ ap (λ (n : ℕ). are_rows n least here) (sym more) ∙ t.tested
+    test_here : (is_row least left && are_rows (rows - (row + 1)) (tag_in left / 64 + 1) (drop (row_size (mask_in left)) left)) ≡ is_sheet b
+    test_here = sym (test_more (rows - (row + 1)) least left) ∙ ap (λ (n : ℕ). are_rows n least left) (sym more) ∙ t.tested
 
-    row_broken : is_row least here ≡ false → is_sheet b ≡ false
-    row_broken e = sym test_here ∙ rw e
+    pub refused : row_there least left ≡ None → is_sheet b ≡ false
+    refused e = sym test_here ∙ rw (chosen_none (is_row least left) (tag_in left / 64, row_size (mask_in left)) e)
 
-    pub too_short : length b - at < 8 → is_sheet b ≡ false
-    too_short l = row_broken (row_short least here (omega (arith, length-drop at b)))
+    -- a row stands at the start of what is left
+    module _ (number size : ℕ) (e : row_there least left ≡ Some (number, size)) where
+      good : (is_row least left ≡ true) × (number ≡ tag_in left / 64) × (size ≡ row_size (mask_in left))
+      good = chosen_some (is_row least left) (tag_in left / 64) (row_size (mask_in left)) number size e
 
-    -- the row's tag and mask, as they were read, and its size
-    module _
-        (long : 8 ≤ length b - at)
-        (tag mask size : ℕ)
-        (fits : mask < 2 ^ 32)
-        (e : tag ≡ value_of (take 4 (drop at b)))
-        (m : mask ≡ value_of (take 4 (drop (at + 4) b)))
-        (s : size ≡ good_size tag mask least (length b - at)) where
-      same_mask : mask ≡ mask_in here
-      same_mask = m ∙ ap (λ (l : List ℕ). value_of (take 4 l)) (sym (drop-drop 4 at b))
+      room : size ≤ length left
+      room = omega (arith, good.2, (row_facts least left good.0).room)
 
-      size_is : size ≡ cond (is_row least here) (row_size (mask_in here)) 0
-      size_is =
-          rw (row_long least here (omega (arith, length-drop at b)), ← same_mask, ← e, length-drop at b) s
-
-      pub refused : size ≡ 0 → is_sheet b ≡ false
-      refused z = row_broken (chosen_none (is_row least here) size (row_size (mask_in here)) size_is (omega arith) z)
-
-      pub passed : (size ≡ 0 → ⊥) → size ≤ length b - at → Counting b rows (tag / 64 + 1) (at + size) (row + 1)
-      passed n l =
-          let good = chosen_some (is_row least here) size (row_size (mask_in here)) size_is n in
-          let behind : drop (row_size (mask_in here)) here ≡ drop (at + size) b =
-          ap (λ (k : ℕ). drop k here) (sym good.1) ∙ drop-drop size at b in
-          let count = count_more (rows - (row + 1)) here (rw (← same_mask) fits) in
+      pub passed : Counting b (drop size left) rows (number + 1) (row + 1)
+      passed =
+          let count = count_more (rows - (row + 1)) left (mask_small left t.small) in
           record {
             all = t.all;
             inside = omega arith;
-            within = omega (arith, t.within);
+            small = all_drop Byte size left t.small;
             tested =
-                ap₂ (λ (k : ℕ) (l : List ℕ). are_rows (rows - (row + 1)) (k / 64 + 1) l) e (sym behind)
+                ap₂ (λ (k s : ℕ). are_rows (rows - (row + 1)) (k + 1) (drop s left)) good.1 good.2
                 ∙ (rw good.0 at test_here);
             counted =
                 omega (
                   arith,
                   t.counted,
-                  good.1,
+                  good.2,
+                  room,
                   count,
-                  ap (λ (n : ℕ). word_count n here) more,
-                  ap (λ (l : List ℕ). word_count (rows - (row + 1)) l) behind,
+                  length-drop size left,
+                  ap (λ (n : ℕ). word_count n left) more,
+                  ap (λ (s : ℕ). word_count (rows - (row + 1)) (drop s left)) good.2,
                 );
           }
 
@@ -120,14 +110,14 @@ module _ {b : List ℕ} {rows least at row : ℕ} (t : Counting b rows least at 
     none : rows - row ≡ 0
     none = omega arith
 
-    last : eqb (length (drop at b)) 0 ≡ is_sheet b
-    last = sym (test_none least (drop at b)) ∙ ap (λ (n : ℕ). are_rows n least (drop at b)) (sym none) ∙ t.tested
+    last : eqb (length left) 0 ≡ is_sheet b
+    last = sym (test_none least left) ∙ ap (λ (n : ℕ). are_rows n least left) (sym none) ∙ t.tested
 
-    pub left_over : (at ≡ length b → ⊥) → is_sheet b ≡ false
-    left_over n = sym last ∙ ne_eqb (length (drop at b)) 0 (λ e. omega (arith, n, t.within, length-drop at b))
+    pub left_over : (length left ≡ 0 → ⊥) → is_sheet b ≡ false
+    left_over n = sym last ∙ ne_eqb (length left) 0 n
 
-    pub all_read : at ≡ length b → is_sheet b ≡ true
-    all_read e = sym last ∙ eq-eqb (length (drop at b)) 0 (omega (arith, length-drop at b))
+    pub all_read : length left ≡ 0 → is_sheet b ≡ true
+    all_read e = sym last ∙ eq-eqb (length left) 0 e
 
-    pub all_counted : at ≡ 8 + 8 * row + 4 * length (words_in b)
-    all_counted = omega (arith, t.counted, ap (λ (n : ℕ). word_count n (drop at b)) none, ap length (left_none (drop at b)))
+    pub all_counted : length left ≡ 0 → length b ≡ 8 + 8 * row + 4 * length (words_in b)
+    all_counted e = omega (arith, t.counted, ap (λ (n : ℕ). word_count n left) none, ap length (left_none left))

@@ -14,7 +14,6 @@ pub mod RowBytes
 pub mod RowCounts
 pub mod RowReading
 pub mod RowRuns
-pub mod RowTest
 pub mod RowsOfMap
 pub mod RowsToMap
 pub mod RunBits

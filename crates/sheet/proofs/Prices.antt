@@ -155,41 +155,41 @@ module _ {words : List ℕ} {at : ℕ} {out out₀ : List ℕ} {row mask count :
 -- the mask, which is stored before the prices
 
 -- the first row's mask and prices are stored: what is so of its words, and of the bytes
-abbrev pub SeatsPut : List ℕ → List ℕ → List ℕ → ℕ → ℕ → ℕ → Type 0
-SeatsPut words out last at mask count =
+abbrev pub SeatsPut : List ℕ → List ℕ → List ℕ → ℕ → ℕ → Type 0
+SeatsPut words out last mask count =
     (0 < count)
     × (count ≤ length words)
     × (mask ≡ bits_of (take count words))
     × (rows_of words ≡ run_row (take count words) ∷ rows_of (drop count words))
-    × (last ≡ take (at + 4) out ++ bytes_of 4 mask ++ price_bytes (take count words) ++ drop (at + 8 + 4 * count) out)
+    × (last ≡ take 4 out ++ bytes_of 4 mask ++ price_bytes (take count words) ++ drop (8 + 4 * count) out)
 
--- bytes with a mask before a position
-abbrev pub masked : List ℕ → ℕ → ℕ → List ℕ
-masked out at m = take (at + 4) out ++ bytes_of 4 m ++ drop (at + 8) out
+-- bytes with a mask before their eighth
+abbrev pub masked : List ℕ → ℕ → List ℕ
+masked out m = take 4 out ++ bytes_of 4 m ++ drop 8 out
 
-module _ (out : List ℕ) (at m : ℕ) (room : at + 8 ≤ length out) where
-  seam : length (take (at + 4) out ++ bytes_of 4 m) ≡ at + 8
+module _ (out : List ℕ) (m : ℕ) (room : 8 ≤ length out) where
+  seam : length (take 4 out ++ bytes_of 4 m) ≡ 8
   seam =
-      length-append (take (at + 4) out) (bytes_of 4 m)
-      ∙ omega (arith, length-take-le (at + 4) out (omega arith), length_bytes 4 m)
+      length-append (take 4 out) (bytes_of 4 m)
+      ∙ omega (arith, length-take-le 4 out (omega arith), length_bytes 4 m)
 
-  masked_front : take (at + 8) (masked out at m) ≡ take (at + 4) out ++ bytes_of 4 m
-  masked_front = take_at (take (at + 4) out ++ bytes_of 4 m) (drop (at + 8) out) (at + 8) seam
+  masked_front : take 8 (masked out m) ≡ take 4 out ++ bytes_of 4 m
+  masked_front = take_at (take 4 out ++ bytes_of 4 m) (drop 8 out) 8 seam
 
-  masked_behind : (k : ℕ) → drop (at + 8 + k) (masked out at m) ≡ drop (at + 8 + k) out
+  masked_behind : (k : ℕ) → drop (8 + k) (masked out m) ≡ drop (8 + k) out
   masked_behind k =
-      sym (drop-drop k (at + 8) (masked out at m))
-      ∙ ap (drop k) (drop_at (take (at + 4) out ++ bytes_of 4 m) (drop (at + 8) out) (at + 8) seam)
-      ∙ drop-drop k (at + 8) out
+      sym (drop-drop k 8 (masked out m))
+      ∙ ap (drop k) (drop_at (take 4 out ++ bytes_of 4 m) (drop 8 out) 8 seam)
+      ∙ drop-drop k 8 out
 
-  masked-length : length (masked out at m) ≡ length out
+  masked-length : length (masked out m) ≡ length out
   masked-length =
-      length-append (take (at + 4) out ++ bytes_of 4 m) (drop (at + 8) out)
-      ∙ omega (arith, seam, length-drop (at + 8) out)
+      length-append (take 4 out ++ bytes_of 4 m) (drop 8 out)
+      ∙ omega (arith, seam, length-drop 8 out)
 
   -- what is stored in such bytes
   pub seats_stored : (words : List ℕ) (count : ℕ) {last : List ℕ}
-      → PricesPut words (masked out at m) last (at + 8) m count → SeatsPut words out last at m count
+      → PricesPut words (masked out m) last 8 m count → SeatsPut words out last m count
   seats_stored words count p = (
     p.0,
     p.1,
@@ -198,41 +198,40 @@ module _ (out : List ℕ) (at m : ℕ) (room : at + 8 ≤ length out) where
     p.4 ∙ ap₂ (λ (a c : List ℕ). a ++ price_bytes (take count words) ++ c) masked_front (masked_behind (4 * count)),
   )
 
-module _ (at : ℕ) {words : List ℕ} {out out₀ : List ℕ} {row mask count : ℕ} (h : Pass words (at + 8) out out₀ row mask count) where
+module _ {words : List ℕ} {out out₀ : List ℕ} {row mask count : ℕ} (h : Pass words 8 out out₀ row mask count) where
   -- there is room for the mask
-  pub mask_room : at + 8 ≤ length out
+  pub mask_room : 8 ≤ length out
   mask_room = omega (arith, price_fits h)
 
-  module _ (m : ℕ) {last : List ℕ} (e : last ≡ take (at + 4) out ++ bytes_of 4 m ++ drop (at + 4 + 4) out) where
-    before : at + 8 ≤ length out₀
+  module _ (m : ℕ) {last : List ℕ} (e : last ≡ take 4 out ++ bytes_of 4 m ++ drop (8) out) where
+    before : 8 ≤ length out₀
     before = omega (arith, mask_room, h.written.same)
 
-    bytes_are : last ≡ take (at + 8) (masked out₀ at m) ++ price_bytes (take count words)
-        ++ drop (at + 8 + 4 * count) (masked out₀ at m)
+    bytes_are : last ≡ take 8 (masked out₀ m) ++ price_bytes (take count words)
+        ++ drop (8 + 4 * count) (masked out₀ m)
     bytes_are =
         let prices = price_bytes (take count words) in
-        let rest = drop (at + 8 + 4 * count) out₀ in
-        let start = take (at + 8) out₀ in
-        let long : length (take (at + 8) out₀) ≡ at + 8 = length-take-le (at + 8) out₀ before in
-        let on : at + 4 + 4 ≡ at + 8 = omega arith in
-        let whole : out ≡ take (at + 8) out₀ ++ (price_bytes (take count words) ++ drop (at + 8 + 4 * count) out₀) =
+        let rest = drop (8 + 4 * count) out₀ in
+        let start = take 8 out₀ in
+        let long : length (take 8 out₀) ≡ 8 = length-take-le 8 out₀ before in
+        let whole : out ≡ take 8 out₀ ++ (price_bytes (take count words) ++ drop (8 + 4 * count) out₀) =
         completed h.written ∙ append_assoc start prices rest in
-        let front : take (at + 4) out ≡ take (at + 4) out₀ =
-        ap (take (at + 4)) whole
-        ∙ take-append-le (at + 4) start (prices ++ rest) (omega (arith, long))
-        ∙ take-take (at + 4) (at + 8) out₀ (omega arith) in
-        let behind : drop (at + 4 + 4) out ≡ price_bytes (take count words) ++ drop (at + 8 + 4 * count) out₀ =
-        ap₂ drop on whole ∙ drop_at start (prices ++ rest) (at + 8) long in
+        let front : take 4 out ≡ take 4 out₀ =
+        ap (take 4) whole
+        ∙ take-append-le 4 start (prices ++ rest) (omega (arith, long))
+        ∙ take-take 4 8 out₀ (omega arith) in
+        let behind : drop (8) out ≡ price_bytes (take count words) ++ drop (8 + 4 * count) out₀ =
+        ap (drop 8) whole ∙ drop_at start (prices ++ rest) 8 long in
         e
         ∙ ap₂ (λ (a c : List ℕ). a ++ bytes_of 4 m ++ c) front behind
-        ∙ sym (append_assoc (take (at + 4) out₀ ++ bytes_of 4 m) prices rest)
-        ∙ ap₂ (λ (a c : List ℕ). a ++ prices ++ c) (sym (masked_front out₀ at m before)) (sym (masked_behind out₀ at m before (4 * count)))
+        ∙ sym (append_assoc (take 4 out₀ ++ bytes_of 4 m) prices rest)
+        ∙ ap₂ (λ (a c : List ℕ). a ++ prices ++ c) (sym (masked_front out₀ m before)) (sym (masked_behind out₀ m before (4 * count)))
 
-    pub mask_stored : Pass words (at + 8) last (masked out₀ at m) row mask count
+    pub mask_stored : Pass words 8 last (masked out₀ m) row mask count
     mask_stored =
-        let long = masked-length out₀ at m before in
+        let long = masked-length out₀ m before in
         let prices = price_bytes (take count words) in
-        let k : at + 8 + 4 * count ≡ at + 8 + length (price_bytes (take count words)) =
+        let k : 8 + 4 * count ≡ 8 + length (price_bytes (take count words)) =
         omega (arith, price_bytes-length (take count words), length-take-le count words (omega (arith, h.here))) in
         record {
           rises = h.rises;
@@ -242,6 +241,6 @@ module _ (at : ℕ) {words : List ℕ} {out out₀ : List ℕ} {row mask count :
           same = h.same;
           passed = h.passed;
           written =
-              wrote_piece (start_at (masked out₀ at m) prices (at + 8) (omega (arith, long, before))) prices []
-              (sym (append-nil prices)) (at + 8 + 4 * count) k (omega (arith, long, price_fits h, h.written.same)) bytes_are;
+              wrote_piece (start_at (masked out₀ m) prices 8 (omega (arith, long, before))) prices []
+              (sym (append-nil prices)) (8 + 4 * count) k (omega (arith, long, price_fits h, h.written.same)) bytes_are;
         }

@@ -3,14 +3,16 @@
 use mathlib.Core.Path.{◌≡◌, refl, sym, ◌∙◌}
 use mathlib.Core.Bool.{true, false, not, ◌&&◌}
 use mathlib.Core.List.{List, [], ◌∷◌}
-use Prim.Native.Nat.{ℕ, suc, ◌+◌, ◌/◌, ◌%◌, ◌≤◌, ◌<◌}
+use Prim.Native.Nat.{ℕ, suc, ◌+◌, ◌/◌, ◌%◌, ◌^◌, ◌≤◌, ◌<◌}
 use native.Mathlib.Omega.{arith}
 use borrow.Author.Tests.{eq-eqb, ne_eqb, eqb-true, eqb-false, le-leb, lt-leb, leb-true, lt-ltb, ltb-true, not-true}
 use lib.Dec.{eqb, leb, ltb}
-use lib.ListN.{length, drop, get_or}
+use lib.ListN.{length, drop}
 use Rattle.changes.specs.Lists.{All}
+use Rattle.changes.proofs.Each.{all_drop}
 use Rattle.changes.proofs.ListTest.{and_both}
 use Rattle.big_endian.specs.Bytes.{Byte}
+use Rattle.big_endian.proofs.Fields.{value_first}
 use Rattle.sheet.specs.Sheet.{row_count_in, tag_in, mask_in, row_size, is_row, are_rows, are_bytes, is_sheet}
 use Rattle.sheet.proofs.Clauses.{test_none, test_more}
 
@@ -22,15 +24,13 @@ bytes_facts (n ∷ b) e =
     let both = and_both (ltb n 256) (are_bytes b) e in
     (ltb-true _ _ both.0, bytes_facts b both.1)
 
-facts_bytes : (b : List ℕ) → All Byte b → are_bytes b ≡ true
+pub facts_bytes : (b : List ℕ) → All Byte b → are_bytes b ≡ true
 unfolding are_bytes All
 facts_bytes [] h = refl
 facts_bytes (n ∷ b) h = rw (lt-ltb n 256 h.0, facts_bytes b h.1)
 
-pub all_bytes : (b : List ℕ) → ((i : ℕ) → get_or b i 0 < 256) → are_bytes b ≡ true
-unfolding are_bytes
-all_bytes [] h = refl
-all_bytes (n ∷ b) h = rw (lt-ltb n 256 (h 0)) (all_bytes b (λ i. h (suc i)))
+pub mask_small : (b : List ℕ) → All Byte b → mask_in b < 2 ^ 32
+mask_small b h = value_first 4 (drop 4 b) (all_drop Byte 4 b h)
 
 -- what holds of bytes that a row stands at the start of
 pub record RowAt (least : ℕ) (b : List ℕ) : Type 0 where
@@ -71,16 +71,6 @@ facts_row least b r =
       le-leb (row_size (mask_in b)) (length b) r.room,
     )
 
--- no header of a row, or one whose fields are to be tested
-pub row_short : (least : ℕ) (b : List ℕ) → length b < 8 → is_row least b ≡ false
-unfolding is_row
-row_short least b h = rw (lt-leb 8 (length b) h)
-
-pub row_long : (least : ℕ) (b : List ℕ) → 8 ≤ length b → is_row least b
-    ≡ (eqb (tag_in b % 64) 0 && leb least (tag_in b / 64) && not (eqb (mask_in b) 0) && leb (row_size (mask_in b)) (length b))
-unfolding is_row
-row_long least b h = rw (le-leb 8 (length b) h)
-
 -- rows, one by one
 pub none_left : (least : ℕ) (b : List ℕ) → are_rows 0 least b ≡ true → length b ≡ 0
 none_left least b e = eqb-true (length b) 0 (sym (test_none least b) ∙ e)
@@ -106,6 +96,9 @@ Sheet-facts b e =
       long = leb-true _ _ first.1;
       rows = all.1;
     }
+
+pub has_header : (b : List ℕ) → is_sheet b ≡ true → 8 ≤ length b
+has_header b e = (Sheet-facts b e).long
 
 -- no header, or one with rows behind it that are to be tested
 pub sheet_short : (b : List ℕ) → are_bytes b ≡ true → length b < 8 → is_sheet b ≡ false

@@ -15,3 +15,6 @@ pub const ROW_BYTES: usize = 8;
 pub const PRICE_BYTES: usize = 4;
 
 pub const SEATS: u32 = 32;
+
+// A row begins with its tag, four bytes that are its number and six zero bits.
+const NUMBER_UNIT: u64 = 64;

@@ -3,6 +3,7 @@ ghost use Rattle.std.specs.Prelude.{◌≡◌, ◌-◌, ◌^◌, ◌<◌, ◌≤
 ghost use Rattle.sheet.specs.Sheet.{set_bits, place_in};
 
 // The bits of the seats before a seat.
+#[tactic(auto, using(crate::proofs::Bits::seats_before))]
 fn before(seat: u32) -> u32
     requires { seat < 32 }
     ensures { result ≡ 2 ^ 32 - 2 ^ (32 - seat) }
@@ -20,18 +21,20 @@ pub fn place(mask: u32, seat: u32) -> usize
         // The row's first price, for which no count is waited for.
         return 0;
     }
-    u32::count_ones(earlier) as usize
+    earlier.count_ones() as usize
 }
 
 // How many prices a row has: one more than precede that of its last seat.
+#[tactic(auto, using(crate::proofs::MaskBits::all_prices))]
 pub fn prices(mask: u32) -> usize
     requires { 0 < mask }
     ensures { (result ≡ set_bits mask) × (result ≤ 32) }
 {
-    place(mask, 31 - u32::trailing_zeros(mask)) + 1
+    place(mask, 31 - mask.trailing_zeros()) + 1
 }
 
 // The bit of a seat.
+#[tactic(auto, using(crate::proofs::Bits::seat_bit))]
 pub fn bit(seat: u32) -> u32
     requires { seat < 32 }
     ensures { result ≡ 2 ^ (31 - seat) }

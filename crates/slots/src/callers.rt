@@ -1,10 +1,10 @@
-// What a caller has: its slots, and how many words its lists may have.
-ghost use Rattle.std.specs.Prelude.{◌≡◌};
+// What a caller has: its slots, and how many words its lists may have. These are functions and no methods, since `Caller` stands in the
+// crate of calls and answers, which knows no slots.
+ghost use Rattle.std.specs.Prelude.{◌≡◌, ◌≤◌, OnOk};
 ghost use Rattle.answers.specs.Answers.{Checks};
 ghost use Rattle.answers.specs.First.{first};
 ghost use Rattle.slots.specs.Callers.{has_slot, most_words, long_grounds};
 
-use answers::answer::Check;
 use answers::call::Caller;
 use answers::ground::Ground;
 use lists::rules::LIST_WORDS;
@@ -36,11 +36,13 @@ pub fn most_words(caller: Caller) -> usize
 }
 
 // Whether a list or read set of so many words is too long for the caller.
-pub fn long_check(caller: Caller, count: usize) -> Check
-    ensures { Checks result (first (long_grounds caller count)) }
+#[tactic(auto, unfolding(answers::specs::First::first))]
+pub fn long_check(caller: Caller, count: usize) -> Result<(), Ground>
+    ensures grounds { Checks result (first (long_grounds caller count)) }
+    ensures short { OnOk result (count ≤ most_words caller) }
 {
     if most_words(caller) < count {
-        return Check::Refused(Ground::LongList);
+        return Err(Ground::LongList);
     }
-    Check::Passed
+    Ok(())
 }

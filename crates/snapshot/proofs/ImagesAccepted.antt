@@ -7,7 +7,7 @@ use Prim.Native.Nat.{ℕ, ◌≤◌}
 use borrow.Author.Tests.{leb-true, ltb-false, not-false}
 use lib.ListN.{length}
 use Rattle.changes.specs.Lists.{Map}
-use Rattle.answers.specs.declared.answer.Check.TheVariants.{Passed}
+use Rattle.std.proofs.Common.{Ok}
 use Rattle.answers.specs.declared.call.Format.{Format}
 use Rattle.answers.specs.First.{Test, first}
 use Rattle.answers.proofs.Firsts.{passed_not}
@@ -17,8 +17,8 @@ use Rattle.layout.proofs.HeadTests.{InRange, lengths_facts}
 use Rattle.snapshot.specs.Snapshots.{fresh_grounds, load_grounds}
 
 -- a store that can be made: the lengths are in range and the depth is one that it can have; and so is what the grounds behind say
-pub fresh_passed : (table journal depth : ℕ) (gs : List Test) → first (fresh_grounds table journal depth ++ gs) ≡ Passed
-    → (InRange table journal × (depth ≤ 63)) × (first gs ≡ Passed)
+pub fresh_passed : (table journal depth : ℕ) (gs : List Test) → first (fresh_grounds table journal depth ++ gs) ≡ (Ok tt)
+    → (InRange table journal × (depth ≤ 63)) × (first gs ≡ (Ok tt))
 fresh_passed table journal depth gs e =
     let a = passed_not _ _ _ e in
     let d = passed_not _ _ _ a.1 in
@@ -31,7 +31,7 @@ pub record LoadOk (table journal depth : ℕ) (format : Format) (bytes : List �
   pub map : Map (map_in format bytes)
   pub room : length (map_in format bytes) ≤ table
 
-pub load_ok : (table journal depth : ℕ) (format : Format) (bytes : List ℕ) → first (load_grounds table journal depth format bytes) ≡ Passed
+pub load_ok : (table journal depth : ℕ) (format : Format) (bytes : List ℕ) → first (load_grounds table journal depth format bytes) ≡ (Ok tt)
     → LoadOk table journal depth format bytes
 load_ok table journal depth format bytes e =
     let a = fresh_passed table journal depth _ e in

@@ -1,3 +1,2 @@
 pub mod ImagesAccepted
-pub mod Filled
 pub mod OnViews

@@ -7,13 +7,13 @@ use native.Mathlib.Nat.{sub-zero, add-zero}
 use native.Mathlib.Omega.{arith}
 use lib.ListN.{length, replicate}
 use Rattle.changes.specs.Lists.{From, All, Map}
-use Rattle.answers.specs.declared.answer.Check.TheVariants.{Passed}
+use Rattle.std.proofs.Common.{Ok}
 use Rattle.answers.specs.declared.call.Format.{Format}
 use Rattle.image.specs.Image.{number_in}
 use Rattle.formats.specs.Formats.{map_in}
 use Rattle.layout.specs.Heads.{with_steps, with_floor}
 use Rattle.views.specs.View.{Store, Limits, least_slot, flat, marks_from, padded, encode, decode, Good}
-use Rattle.soundness.proofs.Sounds.{Sound}
+use Rattle.soundness.specs.Facts.{Sound}
 use Rattle.views.proofs.Encodes.{Encodes}
 use Rattle.views.proofs.Views.{encoded_Sound, decoded}
 use Rattle.snapshot.specs.Snapshots.{load_check}
@@ -87,7 +87,7 @@ module _ (table journal : List ℕ) (depth : ℕ) where
       zeros : replicate (length table) 0 ≡ padded (length table) []
       zeros = ap (λ (n : ℕ). replicate n 0) (sym (sub-zero (length table)))
 
-  module _ (format : Format) (bytes : List ℕ) (e : load_check table journal depth format bytes ≡ Passed) where
+  module _ (format : Format) (bytes : List ℕ) (e : load_check table journal depth format bytes ≡ (Ok tt)) where
     abbrev loaded : Store
     loaded = fresh_store (map_in format bytes) (number_in bytes) depth (limits_of table journal)
 

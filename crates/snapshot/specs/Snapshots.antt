@@ -2,7 +2,7 @@
 -- "everything lent and the head keep their values" where a call is turned away.
 -- Assumes nothing.
 use Rattle.std.specs.Prelude.{not, List, [], ◌∷◌, ◌++◌, ℕ, ltb, length, replicate}
-use Rattle.answers.specs.declared.answer.Check.{Check}
+use Rattle.answers.specs.Check.{Check}
 use Rattle.answers.specs.declared.call.Format.{Format}
 use Rattle.answers.specs.declared.ground.Ground.TheVariants.{BadImage, TableFull, TooDeep}
 use Rattle.answers.specs.First.{Test, met, first, if_passed}

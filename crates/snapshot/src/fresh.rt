@@ -1,31 +1,34 @@
 // A store with one state and no step.
-ghost use Rattle.std.specs.Prelude.{◌≡◌, ◌≤◌, length, take, replicate};
+ghost use Rattle.std.specs.Prelude.{◌≡◌, ◌≤◌, OnOk, length, take, replicate};
 ghost use Rattle.answers.specs.Answers.{Checks};
 ghost use Rattle.answers.specs.First.{first};
+ghost use Rattle.layout.proofs.HeadTests.{InRange};
 ghost use Rattle.views.specs.View.{padded};
 ghost use Rattle.snapshot.specs.Fresh.{fresh_head};
 ghost use Rattle.snapshot.specs.Snapshots.{fresh_grounds};
 
-use answers::answer::Check;
 use answers::ground::Ground;
 use layout::clauses::{depth_fits, lengths_fit};
 use layout::head::{Head, MARKS, SLOTS};
 use words::clear;
 
 // Whether a store can be made in memory of these lengths, with this depth.
-pub fn fresh_check(table: usize, journal: usize, depth: u32) -> Check
-    ensures { Checks result (first (fresh_grounds table journal depth)) }
+#[tactic(auto, using(layout::proofs::HeadTests::lengths_facts), unfolding(answers::specs::First::first))]
+pub fn fresh_check(table: usize, journal: usize, depth: u32) -> Result<(), Ground>
+    ensures grounds { Checks result (first (fresh_grounds table journal depth)) }
+    ensures range { OnOk result (InRange table journal × (depth ≤ 63)) }
 {
     if !lengths_fit(table, journal) {
-        return Check::Refused(Ground::Lengths);
+        return Err(Ground::Lengths);
     }
     if !depth_fits(depth) {
-        return Check::Refused(Ground::TooDeep);
+        return Err(Ground::TooDeep);
     }
-    Check::Passed
+    Ok(())
 }
 
 // The head of a store that has one state, no step, no open slot and this depth.
+#[tactic(auto, unfolding(crate::specs::Fresh::fresh_head))]
 pub fn fresh_head(used: usize, state: u32, depth: u32) -> Head
     ensures { result ≡ fresh_head used state depth }
 {
@@ -55,7 +58,6 @@ pub fn fresh_store(
         × (journal.new ≡ replicate (length journal.old) 0) }
 {
     clear(&mut table[used..]);
-    let start = 0;
-    clear(&mut journal[start..]);
+    clear(journal);
     fresh_head(used, state, depth)
 }

@@ -12,21 +12,10 @@ use Rattle.layout.specs.declared.head.Head.{Head}
 use Rattle.layout.specs.States.{held_of}
 use Rattle.layout.specs.Clauses.{is_table, is_journal, is_slot}
 use Rattle.soundness.specs.Sound.{is_sound}
+use Rattle.soundness.specs.Facts.{Sound}
 use Rattle.layout.specs.Tests.{are_zeros, least}
 use Rattle.layout.proofs.HeadTests.{numbers_facts, facts_numbers}
 use Rattle.layout.proofs.Holds.{first_holds, all_first, all_rest, all_none, all_at, all_of_lem}
-
-pub record Sound (table journal : List ℕ) (head : Head) : Type 0 where
-  pub used_in : head.used ≤ length table
-  pub map : Map (take head.used table)
-  pub table_zeros : are_zeros (drop head.used table) ≡ true
-  pub low : head.oldest ≤ head.checkpoint
-  pub high : head.checkpoint ≤ head.tip
-  pub few : held_of head ≤ 64
-  pub lists : is_journal journal head.ends (held_of head) ≡ true
-  pub slots : (k : ℕ) → k < 8 → is_slot head.checkpoint head.taken head.issued k ≡ true
-  pub oldest : head.oldest ≡ least head.checkpoint head.taken head.issued
-  pub deep : head.depth ≤ 63
 
 module _ (table journal : List ℕ) (head : Head) where
   pub Sound-facts : is_sound table journal head ≡ true → Sound table journal head

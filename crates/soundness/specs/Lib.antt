@@ -1,2 +1,3 @@
 pub mod Sound
 pub mod Checks
+pub mod Facts

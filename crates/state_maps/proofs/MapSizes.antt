@@ -13,15 +13,15 @@ use Rattle.changes.specs.Runs.{start_of, run_of}
 use Rattle.changes.proofs.Applying.{compose_all-nil}
 use Rattle.changes.proofs.Laws.{apply-length, apply_zero}
 use Rattle.changes.proofs.Running.{Marked-fewer, run_none}
-use Rattle.answers.specs.declared.answer.Check.{Check}
-use Rattle.answers.specs.declared.answer.Check.TheVariants.{Passed}
+use Rattle.answers.specs.Check.{Check}
+use Rattle.std.proofs.Common.{Ok}
 use Rattle.answers.specs.First.{Test, first}
 use Rattle.answers.proofs.Firsts.{first_not, passed_not}
 use Rattle.layout.specs.declared.head.Head.{Head}
 use Rattle.layout.specs.States.{step_index, steps_between, map_here}
 use Rattle.soundness.specs.Checks.{store_grounds, state_grounds}
 use Rattle.soundness.proofs.Passed.{state_passed}
-use Rattle.soundness.proofs.Sounds.{Sound}
+use Rattle.soundness.specs.Facts.{Sound}
 use Rattle.views.specs.View.{Shaped, decode}
 use Rattle.views.proofs.SoundFacts.{used_long, Sound-Marked}
 use Rattle.views.proofs.States.{at_map, map_is}
@@ -31,7 +31,7 @@ use Rattle.state_maps.proofs.Working.{StateFacts, run_few}
 
 -- a store and a state that pass grounds 1, 2 and 11
 pub held_known : (table journal : List ℕ) (head : Head) (state : ℕ) {check : Check}
-    → check ≡ first (store_grounds table journal head ++ state_grounds head state) → check ≡ Passed → HeldState table journal head state
+    → check ≡ first (store_grounds table journal head ++ state_grounds head state) → check ≡ (Ok tt) → HeldState table journal head state
 held_known table journal head state e d =
     let a = passed_not _ _ _ (sym e ∙ d) in
     let b = passed_not _ _ _ a.1 in

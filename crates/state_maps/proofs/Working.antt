@@ -16,7 +16,8 @@ use Rattle.layout.proofs.HeadTests.{InRange, lengths_facts}
 use Rattle.layout.specs.States.{step_index, steps_between, map_here}
 use Rattle.views.specs.View.{Shaped}
 use Rattle.views.proofs.SoundFacts.{used_long as used-words, Sound-Marked}
-use Rattle.soundness.proofs.Sounds.{Sound, Sound-facts}
+use Rattle.soundness.specs.Facts.{Sound}
+use Rattle.soundness.proofs.Sounds.{Sound-facts}
 use Rattle.state_maps.specs.Held.{HeldState, MapRoom, words_to}
 
 -- the same facts of a held state, opened

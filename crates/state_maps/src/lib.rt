@@ -29,9 +29,8 @@ pub fn map_at(
         × (drop (words_to head state) changes.new ≡ drop (words_to head state) changes.old)
         × (drop (head.used + words_to head state) map.new ≡ drop (head.used + words_to head state) map.old) }
 {
-    let used = head.used;
     let from = step_index(head, head.checkpoint);
     let to = step_index(head, state);
     let count = compose_run(journal, &head.ends, from, to, changes, map);
-    apply(&table[..used], &changes[..count], map)
+    apply(&table[..head.used], &changes[..count], map)
 }

@@ -29,8 +29,5 @@ pub fn words_to(head: Head, state: u32) -> usize
 pub fn are_few(used: usize, words: usize) -> bool
     ensures { result ≡ leb used 512 && leb words 512 }
 {
-    if FEW_USED < used {
-        return false;
-    }
-    words <= FEW_WORDS
+    used <= FEW_USED && words <= FEW_WORDS
 }

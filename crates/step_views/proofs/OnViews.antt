@@ -5,15 +5,15 @@ use mathlib.Core.List.{List}
 use Prim.Native.Nat.{ℕ, ◌≤◌, ◌<◌}
 use native.Mathlib.Omega.{arith}
 use lib.ListN.{length}
-use Rattle.answers.specs.declared.answer.Check.{Check}
-use Rattle.answers.specs.declared.answer.Check.TheVariants.{Passed, Refused}
+use Rattle.answers.specs.Check.{Check}
+use Rattle.std.proofs.Common.{Ok, Err}
 use Rattle.answers.specs.declared.ground.Ground.{Ground}
 use Rattle.answers.proofs.Firsts.{new_is, old_is}
 use Rattle.layout.specs.declared.head.Head.{Head}
 use Rattle.layout.specs.States.{held_of, map_here}
 use Rattle.views.specs.Trim.{trimmed_head, trimmed_journal, trimmed}
 use Rattle.views.specs.View.{Store, held_steps, tip_of, padded, flat, encode, decode, map_at, Good, Shaped}
-use Rattle.soundness.proofs.Sounds.{Sound}
+use Rattle.soundness.specs.Facts.{Sound}
 use Rattle.views.proofs.States.{map_is}
 use Rattle.views.proofs.Trims.{trim_store}
 use Rattle.views.proofs.Encodes.{Encodes}
@@ -40,7 +40,7 @@ module _ (table journal : List ℕ) (head : Head) (p : Shaped head) where
   good : Sound table journal head → Good (decode here)
   good = decoded_Good table journal head p
 
-  module _ (list : List ℕ) (e : commit_check table journal head list ≡ Passed) where
+  module _ (list : List ℕ) (e : commit_check table journal head list ≡ (Ok tt)) where
     commit_met : CommitOk table journal head list
     commit_met = commit_ok table journal head list e
 
@@ -71,7 +71,7 @@ module _ (table journal : List ℕ) (head : Head) (p : Shaped head) where
               (omega (arith, commit_met.fits, used_same, limit));
         }
 
-  module _ (state : ℕ) (e : roll_check table journal head state ≡ Passed) where
+  module _ (state : ℕ) (e : roll_check table journal head state ≡ (Ok tt)) where
     roll_met : RollOk table journal head state
     roll_met = roll_ok table journal head state e
 
@@ -96,7 +96,7 @@ module _ (table journal : List ℕ) (head : Head) (p : Shaped head) where
           good = roll_Good head (decode here) (good roll_met.sound) state low high;
         }
 
-  module _ (state : ℕ) (e : flush_check table journal head state ≡ Passed) where
+  module _ (state : ℕ) (e : flush_check table journal head state ≡ (Ok tt)) where
     flush_met : FlushOk table journal head state
     flush_met = flush_ok table journal head state e
 
@@ -139,13 +139,13 @@ module _ (table journal : List ℕ) (head : Head) (p : Shaped head) where
       }
 
   -- "A flush to the anchor changes nothing.": it leaves what came, accepted or not
-  accepted_nothing : flush_check table journal head head.checkpoint ≡ Passed → after_flush head.checkpoint ≡ here
+  accepted_nothing : flush_check table journal head head.checkpoint ≡ (Ok tt) → after_flush head.checkpoint ≡ here
   unfolding decode
   accepted_nothing e =
       let s = (flush_ok table journal head head.checkpoint e).sound in
       made e ∙ (flush_leaves head.checkpoint e).is ∙ ap (encode head) (flush_nothing (decode here) (good s)) ∙ same s
     where
-      made : flush_check table journal head head.checkpoint ≡ Passed
+      made : flush_check table journal head head.checkpoint ≡ (Ok tt)
           → after_flush head.checkpoint ≡ trim_store (flushed_in here head.checkpoint (map_here table journal head head.checkpoint))
       made d i =
           let left = trim_store (flushed_in here head.checkpoint (map_here table journal head head.checkpoint)) in
@@ -155,7 +155,7 @@ module _ (table journal : List ℕ) (head : Head) (p : Shaped head) where
             head = new_is d left.head head i;
           }
 
-  refused_nothing : (state : ℕ) (r : Ground) → flush_check table journal head state ≡ Refused r → after_flush state ≡ here
+  refused_nothing : (state : ℕ) (r : Ground) → flush_check table journal head state ≡ Err r → after_flush state ≡ here
   refused_nothing state r e i =
       record {
         table = old_is e (padded (length table) (map_here table journal head state)) table i;
@@ -167,5 +167,5 @@ module _ (table journal : List ℕ) (head : Head) (p : Shaped head) where
   flush_anchor = by-check (flush_check table journal head head.checkpoint) refl
     where
       by-check : (o : Check) → flush_check table journal head head.checkpoint ≡ o → after_flush head.checkpoint ≡ here
-      by-check Passed e = accepted_nothing e
-      by-check (Refused r) e = refused_nothing head.checkpoint r e
+      by-check (Ok tt) e = accepted_nothing e
+      by-check (Err r) e = refused_nothing head.checkpoint r e

@@ -7,8 +7,8 @@ use Prim.Native.Nat.{ℕ, ◌+◌, ◌≤◌, ◌<◌}
 use native.Mathlib.Omega.{arith}
 use lib.ListN.{length, drop, get_or, set, length-set, drop_of_length-le}
 use Rattle.entry.specs.Word.{offer_of, Put}
-use Rattle.changes.specs.declared.merge.Side.{Side}
-use Rattle.changes.specs.declared.merge.Side.TheVariants.{Below, Same, Above}
+use Rattle.std.specs.declared.cmp.Ordering.{Ordering}
+use Rattle.std.specs.declared.cmp.Ordering.TheVariants.{Less, Equal, Greater}
 use Rattle.changes.specs.Calculus.{side_of, compose, puts, apply}
 use Rattle.changes.specs.Lists.{All}
 use Rattle.changes.proofs.Applying.{apply-nil}
@@ -16,11 +16,11 @@ use Rattle.changes.proofs.Each.{all_at, all_drop}
 use Rattle.changes.proofs.Merging.{nil-compose, compose_above, puts_put, puts_other}
 use Rattle.composing.proofs.Positions.{below_there, same_there, passed, compose_at_below, compose_at_same}
 use Rattle.words.proofs.Parts.{next}
-use Rattle.words.proofs.Writing.{Writing, start, stored, unwritten}
-use Rattle.table.proofs.Sides.{below, found, is_below, found_most}
+use Rattle.words.proofs.Writing.{Writing, stored, unwritten}
+use Rattle.table.proofs.Sides.{below, found, is_below}
 
 -- a change that comes first in what is left
-above_first : (l : List ℕ) (w : ℕ) (b : List ℕ) → side_of l w ≡ Above → compose l (w ∷ b) ≡ w ∷ compose l b
+above_first : (l : List ℕ) (w : ℕ) (b : List ℕ) → side_of l w ≡ Greater → compose l (w ∷ b) ≡ w ∷ compose l b
 above_first [] w b e = nil-compose (w ∷ b) ∙ ap (λ (r : List ℕ). w ∷ r) (sym (nil-compose b))
 above_first (v ∷ l) w b e = compose_above v w l b (passed w v l e)
 
@@ -32,10 +32,6 @@ pub record Applying (m d out out₀ : List ℕ) (i j k : ℕ) : Type 0 where
   pub room : length m + length d ≤ length out
   pub puts : All Put m
   pub writing : Writing out out₀ k (apply (drop i m) (drop j d)) (apply m d)
-
-pub applying : (m d out : List ℕ) → All Put m → length m + length d ≤ length out → Applying m d out out 0 0 0
-applying m d out p h =
-    record { i_in = omega arith; j_in = omega arith; few = omega arith; room = h; puts = p; writing = start out (apply m d) }
 
 module _ {m d out out₀ : List ℕ} {i j k : ℕ} (c : Applying m d out out₀ i j k) where
   module _ (h : j < length d) where
@@ -65,20 +61,18 @@ module _ {m d out out₀ : List ℕ} {i j k : ℕ} (c : Applying m d out out₀ 
           }
 
     -- the next change: it goes past the word at its offer, if there is one
-    module _ {b : Bool} {f : ℕ} (e : b ≡ below (side_of (drop i m) w)) (n : b ≡ false) (ef : f ≡ found (side_of (drop i m) w)) where
-      pub f_most : f ≤ 1
-      f_most = omega (arith, ef, found_most (side_of (drop i m) w))
-
-      here : (s : Side) → side_of (drop i m) w ≡ s → (i + f ≤ length m)
+    module _ {b t : Bool} {f : ℕ} (e : b ≡ below (side_of (drop i m) w)) (n : b ≡ false) (et : t ≡ found (side_of (drop i m) w))
+        (past : t ≡ true → f ≡ 1) (stays : t ≡ false → f ≡ 0) where
+      here : (s : Ordering) → side_of (drop i m) w ≡ s → (i + f ≤ length m)
           × (compose (drop i m) (drop j d) ≡ w ∷ compose (drop (i + f) m) (drop (j + 1) d))
-      here Below q = let t : b ≡ true = e ∙ ap below q in absurd (let z : ◌≡◌ {A = ℕ} 0 1 = cc in omega arith)
-      here Same q =
+      here Less q = let t : b ≡ true = e ∙ ap below q in absurd (let z : ◌≡◌ {A = ℕ} 0 1 = cc in omega arith)
+      here Equal q =
           let at = same_there m i w q in
-          let one : f ≡ 1 = ef ∙ ap found q in
+          let one : f ≡ 1 = past (et ∙ ap found q) in
           rw one (omega (arith, at.0), compose_at_same m d i j at.0 h at.1)
-      here Above q =
-          let stays : i + f ≡ i = omega (arith, ef ∙ ap found q) in
-          rw stays (c.i_in, rw (next d j h) (above_first (drop i m) w (drop (j + 1) d) q))
+      here Greater q =
+          let same : i + f ≡ i = omega (arith, stays (et ∙ ap found q)) in
+          rw same (c.i_in, rw (next d j h) (above_first (drop i m) w (drop (j + 1) d) q))
 
       pub i_next : i + f ≤ length m
       i_next = (here (side_of (drop i m) w) refl).0

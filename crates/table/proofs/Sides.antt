@@ -1,61 +1,54 @@
 -- Where the word at a position lies, seen from a change: the two tests of the merge.
 -- Assumes nothing.
 use mathlib.Core.Bool.{Bool, true, false}
-use mathlib.Core.Path.{◌≡◌, refl, ap, ◌∙◌}
+use mathlib.Core.Path.{◌≡◌, refl, sym, ap, ◌∙◌}
 use mathlib.Core.List.{List}
-use Prim.Native.Nat.{ℕ, ◌≤◌, ◌<◌}
+use Prim.Native.Nat.{ℕ, ◌*◌, ◌^◌, ◌≤◌, ◌<◌}
 use native.Mathlib.Omega.{arith}
+use borrow.Author.Tests.{lt-ltb, le-ltb, eq-eqb, ne_eqb}
+use lib.Dec.{ltb, eqb}
 use lib.ListN.{length, drop, get_or}
 use Rattle.entry.specs.Word.{offer_of}
-use Rattle.changes.specs.declared.merge.Side.{Side}
-use Rattle.changes.specs.declared.merge.Side.TheVariants.{Below, Same, Above}
-use Rattle.changes.specs.Calculus.{side, side_of, by_side}
+use Rattle.std.specs.declared.cmp.Ordering.{Ordering}
+use Rattle.std.specs.declared.cmp.Ordering.TheVariants.{Less, Equal, Greater}
+use Rattle.changes.specs.Calculus.{side_of, by_side}
 use Rattle.changes.proofs.Merging.{Lies, lower, equal, higher, lies, side_below, side_same, side_above}
 use Rattle.composing.proofs.Positions.{side_past, side_here}
 
 -- whether there is a word at a position, and its offer lies below
-abbrev pub below : Side → Bool
+abbrev pub below : Ordering → Bool
 below s = by_side {A = Bool} s true false false
 
--- 1 where the word at a position has a word's offer, and else 0
-abbrev pub found : Side → ℕ
-found s = by_side {A = ℕ} s 0 1 0
+-- whether there is a word at a position with a word's offer
+abbrev pub found : Ordering → Bool
+found s = by_side {A = Bool} s false true false
 
 module _ (l : List ℕ) (i w : ℕ) where
   pub none_below : length l ≤ i → below (side_of (drop i l) w) ≡ false
   none_below h = ap below (side_past l i w h)
 
-  pub below_here : i < length l → offer_of (get_or l i 0) < offer_of w → below (side_of (drop i l) w) ≡ true
-  below_here h e = ap below (side_here l i w h ∙ side_below (offer_of (get_or l i 0)) (offer_of w) e)
+  pub none_found : length l ≤ i → found (side_of (drop i l) w) ≡ false
+  none_found h = ap found (side_past l i w h)
 
-  pub not_below : i < length l → offer_of w ≤ offer_of (get_or l i 0) → below (side_of (drop i l) w) ≡ false
-  not_below h n = ap below (side_here l i w h) ∙ go (lies (offer_of (get_or l i 0)) (offer_of w))
-    where
-      go : Lies (offer_of (get_or l i 0)) (offer_of w) → below (side (offer_of (get_or l i 0)) (offer_of w)) ≡ false
-      go (lower e) = absurd (omega arith)
-      go (equal e) = ap below (side_same (offer_of (get_or l i 0)) (offer_of w) e)
-      go (higher e) = ap below (side_above (offer_of (get_or l i 0)) (offer_of w) e)
+  -- the offers at their place in the word
+  module _ (h : i < length l) {a b : ℕ} (ea : a ≡ offer_of (get_or l i 0) * 2 ^ 32) (eb : b ≡ offer_of w * 2 ^ 32) where
+    pub below_there : ltb a b ≡ below (side_of (drop i l) w)
+    below_there = go (lies (offer_of (get_or l i 0)) (offer_of w))
+      where
+        go : Lies (offer_of (get_or l i 0)) (offer_of w) → ltb a b ≡ below (side_of (drop i l) w)
+        go (lower e) = lt-ltb a b (omega arith) ∙ sym (ap below (side_here l i w h ∙ side_below _ _ e))
+        go (equal e) = le-ltb a b (omega arith) ∙ sym (ap below (side_here l i w h ∙ side_same _ _ e))
+        go (higher e) = le-ltb a b (omega arith) ∙ sym (ap below (side_here l i w h ∙ side_above _ _ e))
 
-  pub none_past : length l ≤ i → found (side_of (drop i l) w) ≡ 0
-  none_past h = ap found (side_past l i w h)
+    pub found_there : eqb a b ≡ found (side_of (drop i l) w)
+    found_there = go (lies (offer_of (get_or l i 0)) (offer_of w))
+      where
+        go : Lies (offer_of (get_or l i 0)) (offer_of w) → eqb a b ≡ found (side_of (drop i l) w)
+        go (lower e) = ne_eqb a b (λ z. omega arith) ∙ sym (ap found (side_here l i w h ∙ side_below _ _ e))
+        go (equal e) = eq-eqb a b (omega arith) ∙ sym (ap found (side_here l i w h ∙ side_same _ _ e))
+        go (higher e) = ne_eqb a b (λ z. omega arith) ∙ sym (ap found (side_here l i w h ∙ side_above _ _ e))
 
-  pub found_here : i < length l → offer_of (get_or l i 0) ≡ offer_of w → found (side_of (drop i l) w) ≡ 1
-  found_here h e = ap found (side_here l i w h ∙ side_same (offer_of (get_or l i 0)) (offer_of w) e)
-
-  pub other_here : i < length l → (offer_of (get_or l i 0) ≡ offer_of w → ⊥) → found (side_of (drop i l) w) ≡ 0
-  other_here h n = ap found (side_here l i w h) ∙ go (lies (offer_of (get_or l i 0)) (offer_of w))
-    where
-      go : Lies (offer_of (get_or l i 0)) (offer_of w) → found (side (offer_of (get_or l i 0)) (offer_of w)) ≡ 0
-      go (lower e) = ap found (side_below (offer_of (get_or l i 0)) (offer_of w) e)
-      go (equal e) = absurd (n e)
-      go (higher e) = ap found (side_above (offer_of (get_or l i 0)) (offer_of w) e)
-
-pub is_below : (s : Side) (b : Bool) → b ≡ below s → b ≡ true → s ≡ Below
-is_below Below b e t = refl
-is_below Same b e t = absurd (let z : ◌≡◌ {A = ℕ} 0 1 = cc in omega arith)
-is_below Above b e t = absurd (let z : ◌≡◌ {A = ℕ} 0 1 = cc in omega arith)
-
-pub found_most : (s : Side) → found s ≤ 1
-found_most Below = omega arith
-found_most Same = omega arith
-found_most Above = omega arith
+pub is_below : (s : Ordering) (b : Bool) → b ≡ below s → b ≡ true → s ≡ Less
+is_below Less b e t = refl
+is_below Equal b e t = absurd (let z : ◌≡◌ {A = ℕ} 0 1 = cc in omega arith)
+is_below Greater b e t = absurd (let z : ◌≡◌ {A = ℕ} 0 1 = cc in omega arith)

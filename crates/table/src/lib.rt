@@ -13,26 +13,14 @@ use words::{clear, copy};
 fn is_below(words: &[u64], at: usize, word: u64) -> bool
     ensures { result ≡ by_side (side_of (drop at words.now) word) true false false }
 {
-    if words.len() <= at {
-        return false;
-    }
-    if Entry::offer_field(words[at]) < Entry::offer_field(word) {
-        return true;
-    }
-    false
+    at < words.len() && Entry::offer_field(words[at]) < Entry::offer_field(word)
 }
 
-// Whether the word at a position has a word's offer, as 1 or 0; past the end there is none.
-fn found_at(words: &[u64], at: usize, word: u64) -> usize
-    ensures { result ≡ by_side (side_of (drop at words.now) word) 0 1 0 }
+// Whether there is a word at a position, and its offer is a word's.
+fn found_at(words: &[u64], at: usize, word: u64) -> bool
+    ensures { result ≡ by_side (side_of (drop at words.now) word) false true false }
 {
-    if words.len() <= at {
-        return 0;
-    }
-    if Entry::offer_field(words[at]) == Entry::offer_field(word) {
-        return 1;
-    }
-    0
+    at < words.len() && Entry::offer_field(words[at]) == Entry::offer_field(word)
 }
 
 // Writes the map after the changes to the start of `out`, and gives its length; the words behind it stay. One merge
@@ -43,21 +31,17 @@ pub fn apply(map: &[u64], changes: &[u64], out: &mut [u64]) -> usize
         × (out.new ≡ applied map.now changes.now ++ drop result out.old) }
 {
     let mut i = 0;
-    let mut j = 0;
     let mut k = 0;
-    while j < changes.len() {
-        let word = changes[j];
-        if is_below(map, i, word) {
+    for change in changes {
+        while is_below(map, i, *change) {
             out[k] = map[i];
             k += 1;
             i += 1;
-        } else {
-            i += found_at(map, i, word);
-            j += 1;
-            if Entry::kind_of(word) == Entry::PUT {
-                out[k] = word;
-                k += 1;
-            }
+        }
+        i += usize::from(found_at(map, i, *change));
+        if Entry::is_put(*change) {
+            out[k] = *change;
+            k += 1;
         }
     }
     copy(&map[i..], &mut out[k..]);
@@ -73,8 +57,7 @@ pub fn replace(table: &mut [u64], used: usize, map: &[u64])
 {
     copy(map, table);
     let size = map.len();
-    if used <= size {
-        return;
+    if size < used {
+        clear(&mut table[size..used]);
     }
-    clear(&mut table[size..used]);
 }

@@ -7,9 +7,9 @@ use mathlib.Core.List.{List}
 use Prim.Native.Nat.{ℕ, ◌+◌, ◌-◌, ◌≤◌}
 use native.Mathlib.Omega.{arith}
 use lib.ListN.{length}
-use Rattle.answers.specs.declared.answer.Answer.{Answer}
-use Rattle.answers.specs.declared.answer.Check.{Check}
-use Rattle.answers.specs.declared.answer.Check.TheVariants.{Passed, Refused}
+use Rattle.answers.specs.Check.{Answered}
+use Rattle.answers.specs.Check.{Check}
+use Rattle.std.proofs.Common.{Ok, Err}
 use Rattle.answers.specs.declared.call.Call.{Call}
 use Rattle.answers.specs.declared.call.Call.TheVariants.{Reset, Step, Read, Ask}
 use Rattle.answers.specs.declared.call.Read.{Read as ReadCall}
@@ -53,21 +53,21 @@ pub data Effect (accepted resets_lem : Bool) (count : Tally) (from to : Head) : 
 module _ (l : Lent) (count : Tally) where
   begins_by : (c : Check) (made : Left) → is_accepted made.answer ≡ true → made.lent.head.tip ≡ made.lent.head.checkpoint
       → Effect (is_accepted (answered c made.answer)) true count l.head (if_passed c made.lent l).head
-  begins_by Passed made y e = began y refl e
-  begins_by (Refused r) made y e = turned refl refl
+  begins_by (Ok tt) made y e = began y refl e
+  begins_by (Err r) made y e = turned refl refl
 
   begins : (m : Meaning) → is_accepted m.accepted.answer ≡ true → m.accepted.lent.head.tip ≡ m.accepted.lent.head.checkpoint
       → Effect (is_accepted (settled m l).answer) true count l.head (settled m l).lent.head
   begins m = begins_by (check_of m) m.accepted
 
   goes_by : (c : Check) (made : Left) → is_accepted made.answer ≡ true
-      → (c ≡ Passed → l.head.checkpoint ≤ l.head.tip → Moves count l.head made.lent.head)
+      → (c ≡ (Ok tt) → l.head.checkpoint ≤ l.head.tip → Moves count l.head made.lent.head)
       → Effect (is_accepted (answered c made.answer)) false count l.head (if_passed c made.lent l).head
-  goes_by Passed made y f = moved y refl (f refl)
-  goes_by (Refused r) made y f = turned refl refl
+  goes_by (Ok tt) made y f = moved y refl (f refl)
+  goes_by (Err r) made y f = turned refl refl
 
   goes : (m : Meaning) → is_accepted m.accepted.answer ≡ true
-      → (check_of m ≡ Passed → l.head.checkpoint ≤ l.head.tip → Moves count l.head m.accepted.lent.head)
+      → (check_of m ≡ (Ok tt) → l.head.checkpoint ≤ l.head.tip → Moves count l.head m.accepted.lent.head)
       → Effect (is_accepted (settled m l).answer) false count l.head (settled m l).lent.head
   goes m = goes_by (check_of m) m.accepted
 
@@ -75,11 +75,11 @@ still : (accepted : Bool) (head : Head) → Effect accepted false (counts 0 0 0)
 still true head = moved refl refl (λ h. record { order = h; steps = refl })
 still false head = turned refl refl
 
-stays : (l : Lent) (c : Check) (answer : Answer) (words bytes : List ℕ)
+stays : (l : Lent) (c : Check) (answer : Answered) (words bytes : List ℕ)
     → let left = settled_by c (record { answer = answer; lent = with_bytes (with_words l words) bytes }) l in
     Effect (is_accepted left.answer) false (counts 0 0 0) l.head left.lent.head
-stays l Passed answer words bytes = still (is_accepted answer) l.head
-stays l (Refused r) answer words bytes = still false l.head
+stays l (Ok tt) answer words bytes = still (is_accepted answer) l.head
+stays l (Err r) answer words bytes = still false l.head
 
 -- the heads that accepted calls leave
 fresh_one : (used number depth : ℕ) → (fresh_head used number depth).tip ≡ (fresh_head used number depth).checkpoint

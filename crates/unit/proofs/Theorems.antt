@@ -6,7 +6,7 @@ use mathlib.Core.Path.{◌≡◌, refl, sym, ◌∙◌}
 use mathlib.Core.Bool.{true, false}
 use mathlib.Core.List.{List, []}
 use Prim.Native.Nat.{ℕ, ◌+◌, ◌-◌, ◌≤◌, min}
-use Rattle.answers.specs.declared.answer.Answer.{Answer}
+use Rattle.answers.specs.Check.{Answered}
 use Rattle.answers.specs.declared.call.Call.{Call}
 use Rattle.answers.specs.declared.tally.Tally.{Tally}
 use Rattle.answers.specs.Answers.{is_accepted}
@@ -50,12 +50,12 @@ module _ (lent : Carried) (first : Asked) (zeroed : sets_to_zero lent first ≡ 
       ec ∙ sums_balance ∙ (λ i. sym er i + sym ef i + (end.head.tip - end.head.checkpoint))
 
 -- "everything lent and the head keep their values" where a call is turned away: the tally too
-pub refused_keeps : (tally : Tally) (checkpoint tip : ℕ) (call : Call) (answer : Answer) → is_accepted answer ≡ false
+pub refused_keeps : (tally : Tally) (checkpoint tip : ℕ) (call : Call) (answer : Answered) → is_accepted answer ≡ false
     → tally_after tally checkpoint tip call answer ≡ tally
 refused_keeps tally checkpoint tip call answer e = rw e refl
 
 -- a call that commits, rolls back and flushes nothing, and does not start the tally anew, leaves counts of 64 bits as they came
-pub others_keep : (tally : Tally) (checkpoint tip : ℕ) (call : Call) (answer : Answer)
+pub others_keep : (tally : Tally) (checkpoint tip : ℕ) (call : Call) (answer : Answered)
     → tally.committed ≤ largest → tally.rolled_back ≤ largest → tally.flushed ≤ largest
     → resets call ≡ false → counts_of checkpoint tip call ≡ counts 0 0 0 → tally_after tally checkpoint tip call answer ≡ tally
 others_keep tally checkpoint tip call answer hc hr hf on none =

@@ -1,15 +1,17 @@
 // The calls that are served without the dispatch: a clear, which is lent no words and no bytes, and a commit and a load, whose words or
-// bytes are input alone, which they are lent to read.
+// bytes are input alone, which they are lent to read. Each is a function of its own, since each is lent other memory.
 ghost use Rattle.std.specs.Prelude.{[]};
 ghost use Rattle.answers.specs.declared.call.Call.TheVariants.{Step as StepOf, Reset as ResetOf};
 ghost use Rattle.answers.specs.declared.call.Reset.TheVariants.{Clear as ClearOf, Load as LoadOf};
 ghost use Rattle.answers.specs.declared.call.Step.TheVariants.{Commit as CommitOf};
 ghost use Rattle.calls.specs.Lent.{lent};
-ghost use Rattle.unit.specs.Serve.{ServesCore};
+ghost use Rattle.unit.specs.Serve.{Replies, reply};
 
-use crate::serve::Served;
+use answers::answer::Answer;
 use answers::call::{Call, Format, Reset, Step};
+use answers::ground::Ground;
 use answers::tally::{Tally, tally_after};
+use calls::done;
 use commits::commit;
 use layout::head::Head;
 use snapshot::clear::clear;
@@ -17,77 +19,65 @@ use snapshot::load::load;
 
 // Serves a clear.
 pub fn serve_clear(
-    tally: Tally,
+    tally: &mut Tally,
     table: &mut [u64],
     journal: &mut [u64],
-    head: Head,
+    head: &mut Head,
     depth: u32,
-) -> Served
-    ensures { ServesCore tally (lent table.old journal.old [] [] head) (ResetOf (ClearOf depth)) result
-        table.new journal.new [] [] }
+) -> Result<Answer, Ground>
+    ensures { Replies tally.old (lent table.old journal.old [] [] head.old) (ResetOf (ClearOf depth)) (reply result head.new)
+        tally.new table.new journal.new [] [] }
 {
-    let reply = clear(table, journal, head, depth);
-    let answer = reply.answer;
-    Served {
-        reply,
-        tally: tally_after(
-            tally,
-            head.checkpoint,
-            head.tip,
-            Call::Reset(Reset::Clear(depth)),
-            answer,
-        ),
-    }
+    let (checkpoint, tip) = (head.checkpoint, head.tip);
+    let answer = done(clear(table, journal, head, depth));
+    *tally = tally_after(
+        *tally,
+        checkpoint,
+        tip,
+        Call::Reset(Reset::Clear(depth)),
+        answer,
+    );
+    answer
 }
 
 // Serves a commit of the list.
 pub fn serve_commit(
-    tally: Tally,
+    tally: &mut Tally,
     table: &[u64],
     journal: &mut [u64],
     list: &[u64],
-    head: Head,
-) -> Served
-    ensures { ServesCore tally (lent table.now journal.old list.now [] head)
-        (StepOf CommitOf) result table.now journal.new list.now [] }
+    head: &mut Head,
+) -> Result<Answer, Ground>
+    ensures { Replies tally.old (lent table.now journal.old list.now [] head.old) (StepOf CommitOf) (reply result head.new)
+        tally.new table.now journal.new list.now [] }
 {
-    let reply = commit(table, journal, head, list);
-    let answer = reply.answer;
-    Served {
-        reply,
-        tally: tally_after(
-            tally,
-            head.checkpoint,
-            head.tip,
-            Call::Step(Step::Commit),
-            answer,
-        ),
-    }
+    let (checkpoint, tip) = (head.checkpoint, head.tip);
+    let answer = done(commit(table, journal, head, list));
+    *tally = tally_after(*tally, checkpoint, tip, Call::Step(Step::Commit), answer);
+    answer
 }
 
 // Serves a load of the bytes.
 pub fn serve_load(
-    tally: Tally,
+    tally: &mut Tally,
     table: &mut [u64],
     journal: &mut [u64],
     bytes: &[u8],
-    head: Head,
+    head: &mut Head,
     depth: u32,
     format: Format,
-) -> Served
-    ensures { ServesCore tally (lent table.old journal.old [] bytes.now head)
-        (ResetOf (LoadOf depth format)) result table.new journal.new [] bytes.now }
+) -> Result<Answer, Ground>
+    ensures { Replies tally.old (lent table.old journal.old [] bytes.now head.old) (ResetOf (LoadOf depth format)) (reply result head.new)
+        tally.new table.new journal.new [] bytes.now }
 {
-    let reply = load(table, journal, head, depth, format, bytes);
-    let answer = reply.answer;
-    Served {
-        reply,
-        tally: tally_after(
-            tally,
-            head.checkpoint,
-            head.tip,
-            Call::Reset(Reset::Load(depth, format)),
-            answer,
-        ),
-    }
+    let (checkpoint, tip) = (head.checkpoint, head.tip);
+    let answer = done(load(table, journal, head, depth, format, bytes));
+    *tally = tally_after(
+        *tally,
+        checkpoint,
+        tip,
+        Call::Reset(Reset::Load(depth, format)),
+        answer,
+    );
+    answer
 }

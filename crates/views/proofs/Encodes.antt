@@ -2,7 +2,7 @@
 -- Assumes nothing.
 use mathlib.Core.Path.{◌≡◌, sym, ap, subst, ◌∙◌}
 use Rattle.layout.specs.declared.head.Head.{Head}
-use Rattle.soundness.proofs.Sounds.{Sound}
+use Rattle.soundness.specs.Facts.{Sound}
 use Rattle.views.specs.View.{Store, View, encode, decode, Good}
 use Rattle.views.proofs.Views.{encoded_Sound, decoded}
 

@@ -1,85 +1,40 @@
 -- Marks moved to the start and down by a count of words, and a journal whose first words went.
 -- Assumes nothing.
 use mathlib.Core.Path.{◌≡◌, sym, ap, ap₂, ◌∙◌}
-use mathlib.Core.List.{List, [], ◌∷◌, ◌++◌, map}
-use Prim.Native.Nat.{ℕ, zero, suc, ◌+◌, ◌-◌, ◌≤◌, ◌<◌}
-use native.Mathlib.Nat.{sub-zero}
+use mathlib.Core.List.{List, [], ◌∷◌, ◌++◌, map, map-append, append_assoc}
+use Prim.Native.Nat.{ℕ, suc, ◌+◌, ◌-◌, ◌≤◌, ◌<◌}
 use native.Mathlib.Omega.{arith}
 use borrow.Rule.Slice.PartMut.{put_mid}
-use lib.ListN.{length, take, drop, get_or, set, replicate, length-append, length-drop, length-replicate, take-append-drop}
-use lib.Seq.{take_at}
+use lib.ListN.{length, take, drop, get_or, set, replicate, length-append, length-drop, length-map}
+use lib.Seq.{take_at, length-take-le}
+use Rattle.std.proofs.lemmas.List.{set_at, take_more}
+use Rattle.views.specs.Laid.{padded}
 use Rattle.changes.specs.Runs.{start_of}
-use Rattle.words.proofs.Parts.{next, part, put_part}
-use Rattle.words.proofs.Writing.{Writing, start, unwritten, stored, whole}
+use Rattle.words.proofs.Parts.{part, put_part}
 use Rattle.layout.specs.declared.head.Head.{Head}
 use Rattle.layout.specs.Heads.{with_floor}
 use Rattle.layout.specs.States.{held_of}
 use Rattle.views.specs.Trim.{floor_of, gone_steps, gone_words, moved_ends, trimmed_head, trimmed_journal, Trimmable}
 use Rattle.layout.proofs.StepTests.{start_next}
 
-drop_zeros : (k n : ℕ) → drop k (replicate {A = ℕ} n 0) ≡ replicate (n - k) 0
-drop_zeros zero n = ap (λ (m : ℕ). replicate m 0) (sym (sub-zero n))
-drop_zeros (suc k) zero =
-    let none : 0 ≡ 0 - suc k = omega arith in
-    ap (λ (m : ℕ). replicate {A = ℕ} m 0) none
-drop_zeros (suc k) (suc n) =
-    let less : n - k ≡ suc n - suc k = omega arith in
-    drop_zeros k n ∙ ap (λ (m : ℕ). replicate {A = ℕ} m 0) less
+-- a word more before the zeros
+padded_more : (l : List ℕ) (k n w : ℕ) → length l ≡ k → k < n → set (padded n l) k w ≡ padded n (l ++ w ∷ [])
+padded_more l k n w long room =
+    let count : n - length l ≡ suc (n - length (l ++ w ∷ [])) = omega (arith, length-append l (w ∷ [])) in
+    ap (λ m. set (l ++ replicate m 0) k w) count
+    ∙ set_at l 0 (replicate (n - length (l ++ w ∷ [])) 0) w k long
+    ∙ sym (append_assoc l (w ∷ []) (replicate (n - length (l ++ w ∷ [])) 0))
 
-abbrev lowered : ℕ → List ℕ → List ℕ
-lowered w l = map (λ e. e - w) l
-
-next_mark : (ends : List ℕ) (from to w k : ℕ) → k < to - from → to ≤ length ends
-    → lowered w (take (to - from - k) (drop (from + k) ends)) ≡ (get_or ends (from + k) 0 - w)
-    ∷ lowered w (take (to - from - (k + 1)) (drop (from + (k + 1)) ends))
-next_mark ends from to w k h l =
-    let count : to - from - k ≡ suc (to - from - (k + 1)) = omega arith in
-    let position : from + k + 1 ≡ from + (k + 1) = omega arith in
-    ap₂ (λ (n : ℕ) (r : List ℕ). lowered w (take n r)) count (next ends (from + k) (omega arith))
-    ∙ ap (λ (n : ℕ). (get_or ends (from + k) 0 - w) ∷ lowered w (take (to - from - (k + 1)) (drop n ends))) position
-
--- so many marks are moved, and those that are left make the goal
-pub record Moving (out ends : List ℕ) (from to w k : ℕ) : Type 0 where
-  pub long : length out ≡ 64
-  pub order : from ≤ to
-  pub inside : to ≤ length ends
-  pub some : k ≤ to - from
-  pub writing : Writing out (replicate 64 0) k (lowered w (take (to - from - k) (drop (from + k) ends)))
-      (lowered w (take (to - from) (drop from ends)))
-
-pub moving : (ends : List ℕ) (from to w : ℕ) → from ≤ to → to ≤ length ends → Moving (replicate 64 0) ends from to w 0
-moving ends from to w h l =
-    let none : to - from ≡ to - from - 0 = omega arith in
-    let position : from ≡ from + 0 = omega arith in
-    record {
-      long = length-replicate {A = ℕ} 64 0;
-      order = h;
-      inside = l;
-      some = omega arith;
-      writing = unwritten (start (replicate 64 0) _) (ap₂ (λ (n m : ℕ). lowered w (take n (drop m ends))) none position);
-    }
-
-module _ {out ends : List ℕ} {from to w k : ℕ} (m : Moving out ends from to w k) where
-  pub moved_one : k < to - from → to ≤ 64 → Moving (set out k (get_or ends (from + k) 0 - w)) ends from to w (k + 1)
-  moved_one h l =
-      let s = stored m.writing (next_mark ends from to w k h m.inside) (omega (arith, m.long)) in
-      record {
-        long = s.same ∙ length-replicate {A = ℕ} 64 0;
-        order = m.order;
-        inside = m.inside;
-        some = omega arith;
-        writing = s;
-      }
-
-  pub moved_all : to - from ≤ k → out ≡ moved_ends ends from to w
-  moved_all h =
-      let none : to - from - k ≡ 0 = omega arith in
-      let rest : lowered w (take (to - from - k) (drop (from + k) ends))
-      ≡ [] = ap (λ (n : ℕ). lowered w (take n (drop (from + k) ends))) none in
-      sym (take-append-drop k out)
-      ∙ whole (unwritten m.writing rest)
-      ∙ ap (λ (r : List ℕ). lowered w (take (to - from) (drop from ends)) ++ r)
-      (drop_zeros (length (lowered w (take (to - from) (drop from ends)))) 64)
+-- marks moved down by a count of words, with zeros behind, and one more of them
+pub moved_more : (marks : List ℕ) (words k : ℕ) → k < length marks → length marks ≤ 64
+    → set (padded 64 (map (λ e. e - words) (take k marks))) k (get_or marks k 0 - words)
+    ≡ padded 64 (map (λ e. e - words) (take (k + 1) marks))
+moved_more marks words k here few =
+    let so_far = map (λ e. e - words) (take k marks) in
+    let long : length so_far ≡ k = length-map (take k marks) (λ e. e - words) ∙ length-take-le k marks (omega arith) in
+    padded_more so_far k 64 (get_or marks k 0 - words) long (omega arith)
+    ∙ ap (padded 64) (sym (map-append (λ e. e - words) (take k marks) (get_or marks k 0 ∷ []))
+    ∙ ap (map (λ e. e - words)) (sym (take_more marks k 0 here)))
 
 -- what trimming needs of the marks
 module _ {journal : List ℕ} {head : Head} (t : Trimmable journal head) (oldest : ℕ) (e : oldest ≡ floor_of head) where

@@ -11,7 +11,7 @@ use Rattle.layout.specs.declared.head.Head.{Head}
 use Rattle.layout.specs.States.{held_of}
 use Rattle.views.specs.View.{Shaped}
 use Rattle.views.proofs.Laid.{journal_inside, journal_Marked}
-use Rattle.soundness.proofs.Sounds.{Sound}
+use Rattle.soundness.specs.Facts.{Sound}
 
 -- a head whose arrays have their lengths
 pub shaped : (head : Head) → length head.taken ≡ 8 → length head.issued ≡ 8 → length head.ends ≡ 64 → Shaped head
@@ -27,6 +27,10 @@ module _ {table journal : List ℕ} {head : Head} (s : Sound table journal head)
   inside = journal_inside journal head.ends (held_of head) s.lists
 
 -- the marks of a sound store
+pub marks_inside : (table journal : List ℕ) (head : Head) → length head.ends ≡ 64 → Sound table journal head
+    → Marked journal head.ends (held_of head)
+marks_inside table journal head e s = journal_Marked journal head.ends (held_of head) s.lists (omega (arith, s.few, e))
+
 pub Sound-Marked : (table journal : List ℕ) (head : Head) → Shaped head → Sound table journal head
     → Marked journal head.ends (held_of head)
-Sound-Marked table journal head p s = journal_Marked journal head.ends (held_of head) s.lists (omega (arith, s.few, p.ends_64))
+Sound-Marked table journal head p = marks_inside table journal head p.ends_64

@@ -15,7 +15,7 @@ use Rattle.changes.proofs.Laws.{apply_zero, apply_twice, apply-Map, run_Changes,
 use Rattle.layout.specs.declared.head.Head.{Head}
 use Rattle.layout.specs.States.{held_of, step_index, steps_between, map_here}
 use Rattle.views.specs.View.{Store, View, decode, map_at, tip_of, Good}
-use Rattle.soundness.proofs.Sounds.{Sound}
+use Rattle.soundness.specs.Facts.{Sound}
 use Rattle.views.proofs.Laid.{run_count}
 
 -- the steps of a good view are changes

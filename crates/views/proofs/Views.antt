@@ -17,7 +17,7 @@ use Rattle.views.specs.Laid.{laid_words, laid_marks, Fits}
 use Rattle.views.specs.View.{View, held_steps, open_of, issued_of, slots_of, encode, decode, Good, Shaped}
 use Rattle.views.proofs.SlotLists.{slots_again, least_slots, slots_pass, taken_again, numbers_again, least_again}
 use Rattle.views.proofs.SlotLists.{slots_below, slots_length}
-use Rattle.soundness.proofs.Sounds.{Sound}
+use Rattle.soundness.specs.Facts.{Sound}
 pub use Rattle.views.proofs.Laid.{padded-length}
 use Rattle.views.proofs.Laid.{padded_is, padded_zeros, run_count, laid_back, read_fits, laid_long, laid_sound, laid_again}
 

@@ -40,51 +40,19 @@ pub record View : Type 0 where
 
 -- a view with other steps that lead on from its checkpoint: commit, rollback
 abbrev pub view_steps : View → List (List ℕ) → View
-view_steps v steps = record {
-  base = v.base;
-  old = v.old;
-  steps = steps;
-  checkpoint = v.checkpoint;
-  slots = v.slots;
-  limits = v.limits;
-  depth = v.depth;
-}
+view_steps v steps = record v { steps = steps }
 
 -- a view with other steps that lead up to its checkpoint: trim
 abbrev pub view_old : View → List (List ℕ) → View
-view_old v old = record {
-  base = v.base;
-  old = old;
-  steps = v.steps;
-  checkpoint = v.checkpoint;
-  slots = v.slots;
-  limits = v.limits;
-  depth = v.depth;
-}
+view_old v old = record v { old = old }
 
 -- a view with other slots: issue, forward, release
 abbrev pub view_slots : View → List Slot → View
-view_slots v slots = record {
-  base = v.base;
-  old = v.old;
-  steps = v.steps;
-  checkpoint = v.checkpoint;
-  slots = slots;
-  limits = v.limits;
-  depth = v.depth;
-}
+view_slots v slots = record v { slots = slots }
 
 -- a view with another checkpoint, which has its map and the steps that lead up to it and on from it: flush
 abbrev pub view_table : View → List ℕ → List (List ℕ) → List (List ℕ) → ℕ → View
-view_table v base old steps checkpoint = record {
-  base = base;
-  old = old;
-  steps = steps;
-  checkpoint = checkpoint;
-  slots = v.slots;
-  limits = v.limits;
-  depth = v.depth;
-}
+view_table v base old steps checkpoint = record v { base = base; old = old; steps = steps; checkpoint = checkpoint }
 
 -- all held steps
 abbrev pub held_steps : View → List (List ℕ)

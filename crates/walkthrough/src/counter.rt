@@ -1,14 +1,19 @@
 // The counter's store, and the calls on it through `unit::serve`, each told in a line.
-use crate::print::{show_answer, show_entries, show_number, show_quote};
-use crate::serving::make_call;
+ghost use Rattle.calls.specs.Lent.{lent};
+ghost use Rattle.unit.specs.Serve.{Replies};
+
+use crate::print::{Entries, Quoted, Told};
 use answers::answer::Answer;
 use answers::call::{Call, Caller, LookUp, Query, Step};
+use answers::ground::Ground;
 use answers::tally::Tally;
 use layout::head::Head;
+use std::{fmt, io};
+use unit::serve::serve;
 
 // What the counter hands from one call to the next: the memory of the store, a read set, the bytes of an image, the head
-// and the tally. Beside it what the last call answered.
-#[derive(Clone, Copy)]
+// and the tally.
+#[derive(Drop)]
 pub(crate) struct Counter {
     pub(crate) table: [u64; 4],
     pub(crate) journal: [u64; 16],
@@ -16,99 +21,95 @@ pub(crate) struct Counter {
     pub(crate) bytes: [u8; 30],
     pub(crate) head: Head,
     pub(crate) tally: Tally,
-    pub(crate) answer: Answer,
 }
 
-// Makes a call with these words.
-fn make(counter: Counter, call: Call, words: &mut [u64]) -> Counter {
-    let mut table = counter.table;
-    let mut journal = counter.journal;
-    let mut bytes = counter.bytes;
-    let after = make_call(
-        counter.tally,
-        &mut table,
-        &mut journal,
-        words,
-        &mut bytes,
-        counter.head,
-        call,
-    );
-    let reply = after.reply;
-    let reads = counter.reads;
-    let head = reply.head;
-    let tally = after.tally;
-    let answer = reply.answer;
-    Counter {
-        table,
-        journal,
-        reads,
-        bytes,
-        head,
-        tally,
-        answer,
+impl Counter {
+    // Makes a call with these words, and gives what it answers.
+    fn make(&mut self, call: Call, words: &mut [u64]) -> Result<Answer, Ground>
+        ensures { Replies self.old.tally
+            (lent self.old.table self.old.journal words.old self.old.bytes self.old.head) call
+            (record { answer = result; head = self.new.head })
+            self.new.tally self.new.table self.new.journal words.new self.new.bytes }
+    {
+        serve(
+            &mut self.tally,
+            &mut self.table,
+            &mut self.journal,
+            words,
+            &mut self.bytes,
+            &mut self.head,
+            call,
+        )
     }
-}
 
-// Tells what was answered and where the store stands.
-fn tell(answer: Answer, head: Head) {
-    show_answer(answer);
-    show_number(b"; checkpoint ", head.checkpoint as u64);
-    show_number(b", newest ", head.tip as u64);
-}
+    // Tells what was done, what was answered and where the store stands.
+    fn tell(
+        &self,
+        rt: &impl Print,
+        done: impl fmt::Display + Drop,
+        answer: Result<Answer, Ground>,
+    ) -> io::Result<()> {
+        let checkpoint = self.head.checkpoint;
+        let newest = self.head.tip;
+        println!(rt;
+            "  {done}: {}; checkpoint {checkpoint}, newest {newest}",
+            Told(answer)
+        )
+    }
 
-// Makes a call that takes no words, and tells what it answered.
-pub(crate) fn ask(counter: Counter, call: Call) -> Counter {
-    let mut none = [0u64; 0];
-    let after = make(counter, call, &mut none);
-    let answer = after.answer;
-    tell(answer, after.head);
-    after
-}
+    // Makes a call that takes no words, and tells what it answered.
+    pub(crate) fn ask(
+        &mut self,
+        rt: &impl Print,
+        done: impl fmt::Display + Drop,
+        call: Call,
+    ) -> io::Result<()> {
+        let answer = self.make(call, &mut []);
+        self.tell(rt, done, answer)
+    }
 
-// Commits a list of two changes.
-pub(crate) fn commit(counter: Counter, list: [u64; 2]) -> Counter {
-    let mut words = list;
-    show_entries(b"\n  commit", &words);
-    let after = make(counter, Call::Step(Step::Commit), &mut words);
-    let answer = after.answer;
-    tell(answer, after.head);
-    after
-}
+    // Commits a list of two changes.
+    pub(crate) fn commit(&mut self, rt: &impl Print, list: [u64; 2]) -> io::Result<()> {
+        let mut words = list;
+        let answer = self.make(Call::Step(Step::Commit), &mut words);
+        self.tell(rt, format_args!("commit {}", Entries(&list)), answer)
+    }
 
-pub(crate) fn roll_back(counter: Counter, state: u32) -> Counter {
-    show_number(b"\n  roll back to state ", state as u64);
-    ask(counter, Call::Step(Step::RollBack(state)))
-}
+    pub(crate) fn roll_back(&mut self, rt: &impl Print, state: u32) -> io::Result<()> {
+        let call = Call::Step(Step::RollBack(state));
+        self.ask(rt, format_args!("roll back to state {state}"), call)
+    }
 
-// Makes a call on the read set, and tells what it has then.
-pub(crate) fn read(counter: Counter, call: Call) -> Counter {
-    let mut reads = counter.reads;
-    let mut after = make(counter, call, &mut reads);
-    let answer = after.answer;
-    show_answer(answer);
-    show_entries(b"; read", &reads);
-    after.reads = reads;
-    after
-}
+    // Makes a call on the read set, and tells what it has then.
+    pub(crate) fn read(
+        &mut self,
+        rt: &impl Print,
+        done: impl fmt::Display + Drop,
+        call: Call,
+    ) -> io::Result<()> {
+        let mut reads = self.reads;
+        let answer = self.make(call, &mut reads);
+        self.reads = reads;
+        println!(rt; "  {done}: {}; read {}", Told(answer), Entries(&reads))
+    }
 
-// What a lookup of an offer at a state answers.
-fn look_up(counter: Counter, offer: u32, state: u32) -> Answer {
-    let mut none = [0u64; 0];
-    let asked = LookUp {
-        caller: Caller::Desk,
-        offer,
-        state,
-    };
-    let call = Call::Ask(Query::LookUp(asked));
-    let after = make(counter, call, &mut none);
-    let answer = after.answer;
-    answer
-}
+    // What a lookup of an offer at a state answers.
+    fn look_up(&mut self, offer: u32, state: u32) -> Quoted {
+        let caller = Caller::Desk;
+        let call = Call::Ask(Query::LookUp(LookUp {
+            caller,
+            offer,
+            state,
+        }));
+        let answer = self.make(call, &mut []);
+        Quoted { offer, answer }
+    }
 
-// Tells what is quoted at a state for the three offers of the read set, and since when.
-pub(crate) fn quote(counter: Counter, state: u32) {
-    show_number(b"\n  quotes at state ", state as u64);
-    show_quote(b": ", 5, look_up(counter, 5, state));
-    show_quote(b", ", 7, look_up(counter, 7, state));
-    show_quote(b", ", 9, look_up(counter, 9, state));
+    // Tells what is quoted at a state for the three offers of the read set, and since when.
+    pub(crate) fn quote(&mut self, rt: &impl Print, state: u32) -> io::Result<()> {
+        let five = self.look_up(5, state);
+        let seven = self.look_up(7, state);
+        let nine = self.look_up(9, state);
+        println!(rt; "  quotes at state {state}: {five}, {seven}, {nine}")
+    }
 }

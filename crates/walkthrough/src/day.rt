@@ -1,16 +1,22 @@
 // The day, part by part.
-use crate::counter::{Counter, ask, commit, quote, read, roll_back};
+use crate::counter::Counter;
 use crate::pricing::price_both;
-use crate::print::{show_bytes, show_number, show_text};
-use answers::answer::Answer;
+use crate::print::Hex;
 use answers::call::{Call, Caller, Format, Query, Read, Reader, Reset, Step};
 use answers::tally::Tally;
 use entry::Entry;
 use snapshot::fresh::fresh_head;
+use std::io;
 
 // State 7 with three offers: 5 at 1200, 9 at 700, 12 at 2500.
 const IMAGE: [u8; 30] =
     *b"\0\0\0\x07\0\x03\x80\0\0\x05\0\0\x04\xb0\x80\0\0\x09\0\0\x02\xbc\x80\0\0\x0c\0\0\x09\xc4";
+
+// The desk, with its first slot.
+const DESK_SLOT: Reader = Reader {
+    caller: Caller::Desk,
+    slot: 0,
+};
 
 // Unused memory, the image in its bytes, and a read set that names its offers.
 fn unused() -> Counter {
@@ -26,99 +32,103 @@ fn unused() -> Counter {
         bytes: IMAGE,
         head: fresh_head(0, 0, 0),
         tally,
-        answer: Answer::Done,
     }
 }
 
-pub(crate) fn load() -> Counter {
-    show_bytes(
-        b"\n\nMorning: last night's image is loaded: the number of a state, how many offers it has, and each with its price.\
-        \n  image",
-        &IMAGE,
-    );
-    show_text(b"\n  load");
-    let counter = ask(unused(), Call::Reset(Reset::Load(0, Format::Image)));
-    quote(counter, 7);
-    counter
-}
-
-// The desk, with its first slot.
-fn desk_slot() -> Reader {
-    Reader {
-        caller: Caller::Desk,
-        slot: 0,
-    }
+fn load(rt: &impl Print) -> io::Result<Counter> {
+    println!(rt;
+        "\nMorning: last night's image is loaded: the number of a state, how many offers it has, and each with its price."
+    )?;
+    println!(rt; "  image{}", Hex(&IMAGE))?;
+    let mut counter = unused();
+    counter.ask(rt, "load", Call::Reset(Reset::Load(0, Format::Image)))?;
+    counter.quote(rt, 7)?;
+    Ok(counter)
 }
 
 // A read at state 7 that is to serve a state which does not exist yet.
-pub(crate) fn issue(counter: Counter) -> Counter {
-    show_text(
-        b"\n\nAn early read: orders will come for a state that is not there yet, and reading starts now.\
-        \n  issue in slot 0",
-    );
-    read(counter, Call::Read(Read::Issue(desk_slot())))
+fn issue(rt: &impl Print, counter: &mut Counter) -> io::Result<()> {
+    println!(rt;
+        "\nAn early read: orders will come for a state that is not there yet, and reading starts now."
+    )?;
+    counter.read(rt, "issue in slot 0", Call::Read(Read::Issue(DESK_SLOT)))
 }
 
 // States 8 and 9; each is quoted as it is.
-pub(crate) fn feed(counter: Counter) -> Counter {
-    show_text(b"\n\nThe feed: two lists of changes come in.");
-    let eighth = commit(counter, [Entry::put(5, 1100), Entry::put(7, 900)]);
-    let ninth = commit(eighth, [Entry::none(9), Entry::put(12, 2400)]);
-    quote(ninth, 8);
-    quote(ninth, 9);
-    ninth
+fn feed(rt: &impl Print, counter: &mut Counter) -> io::Result<()> {
+    println!(rt; "\nThe feed: two lists of changes come in.")?;
+    counter.commit(rt, [Entry::put(5, 1100), Entry::put(7, 900)])?;
+    counter.commit(rt, [Entry::none(9), Entry::put(12, 2400)])?;
+    counter.quote(rt, 8)?;
+    counter.quote(rt, 9)
 }
 
 // The read serves state 9, and state 10 has the changes of the orders that were priced on it.
-pub(crate) fn price(counter: Counter) -> Counter {
-    show_text(
-        b"\n\nOrders: the early read is brought to state 9 and priced on. One bad order refuses its batch.\
-        \n  forward slot 0 to state 9",
-    );
-    let after = read(counter, Call::Read(Read::Forward(desk_slot(), 9)));
-    let reads = after.reads;
-    let changes = price_both(reads);
-    commit(after, changes)
+fn price(rt: &impl Print, counter: &mut Counter) -> io::Result<()> {
+    println!(rt;
+        "\nOrders: the early read is brought to state 9 and priced on. One bad order refuses its batch."
+    )?;
+    let forward = Call::Read(Read::Forward(DESK_SLOT, 9));
+    counter.read(rt, "forward slot 0 to state 9", forward)?;
+    let changes = price_both(rt, &counter.reads)?;
+    counter.commit(rt, changes)
 }
 
 // The first state 11 was a slip; it is taken back and comes again. A list that falls is refused.
-pub(crate) fn correct(counter: Counter) -> Counter {
-    show_text(
-        b"\n\nA correction: a list with wrong prices is taken back, and the right one comes in.",
-    );
+fn correct(rt: &impl Print, counter: &mut Counter) -> io::Result<()> {
+    println!(rt;
+        "\nA correction: a list with wrong prices is taken back, and the right one comes in."
+    )?;
     let five = Entry::put(5, 950);
     let seven = Entry::put(7, 850);
-    let slip = commit(counter, [Entry::put(5, 9), Entry::put(7, 8)]);
-    quote(slip, 11);
-    let falls = commit(roll_back(slip, 10), [seven, five]);
-    let right = commit(falls, [five, seven]);
-    quote(right, 11);
-    right
+    counter.commit(rt, [Entry::put(5, 9), Entry::put(7, 8)])?;
+    counter.quote(rt, 11)?;
+    counter.roll_back(rt, 10)?;
+    counter.commit(rt, [seven, five])?;
+    counter.commit(rt, [five, seven])?;
+    counter.quote(rt, 11)
 }
 
 // The steps go into the table, and can be taken back no more.
-pub(crate) fn flush(counter: Counter) -> Counter {
-    show_text(
-        b"\n\nEvening: a flush makes state 11 the checkpoint, and its image is written for tomorrow.\
-        \n  flush to state 11",
-    );
-    let flushed = ask(counter, Call::Step(Step::Flush(11)));
-    quote(flushed, 11);
-    roll_back(flushed, 10)
+fn flush(rt: &impl Print, counter: &mut Counter) -> io::Result<()> {
+    println!(rt;
+        "\nEvening: a flush makes state 11 the checkpoint, and its image is written for tomorrow."
+    )?;
+    counter.ask(rt, "flush to state 11", Call::Step(Step::Flush(11)))?;
+    counter.quote(rt, 11)?;
+    counter.roll_back(rt, 10)
 }
 
-// What was counted since the load.
-fn count(tally: Tally) {
-    show_number(b"\n  counted today: lists committed ", tally.committed);
-    show_number(b", rolled back ", tally.rolled_back);
-    show_number(b", flushed ", tally.flushed);
-    show_text(b"\n");
+// The image of the newest state, and what was counted since the load.
+fn write(rt: &impl Print, counter: &mut Counter) -> io::Result<()> {
+    counter.ask(
+        rt,
+        "write the image",
+        Call::Ask(Query::Write(Format::Image)),
+    )?;
+    println!(rt; "  image{}", Hex(&counter.bytes))?;
+    let Tally {
+        committed,
+        rolled_back,
+        flushed,
+    } = counter.tally;
+    println!(rt;
+        "  counted today: lists committed {committed}, rolled back {rolled_back}, flushed {flushed}"
+    )
 }
 
-pub(crate) fn write(counter: Counter) {
-    show_text(b"\n  write the image");
-    let written = ask(counter, Call::Ask(Query::Write(Format::Image)));
-    let bytes = written.bytes;
-    show_bytes(b"\n  image", &bytes);
-    count(written.tally);
+pub(crate) fn day(rt: &impl Print) -> io::Result<()> {
+    println!(rt;
+        "A day at the counter: the price unit takes a feed of price changes and quotes the prices of seats.\n\
+        An offer is a seat. Prices are in minor units, as the unit has them: 1200 is 12.00.\n\
+        Each list of changes makes the next state. States from the checkpoint to the newest are quoted.\n\
+        A quote says how fresh it is: since which state, or by the table, which holds the prices at the checkpoint."
+    )?;
+    let mut counter = load(rt)?;
+    issue(rt, &mut counter)?;
+    feed(rt, &mut counter)?;
+    price(rt, &mut counter)?;
+    correct(rt, &mut counter)?;
+    flush(rt, &mut counter)?;
+    write(rt, &mut counter)
 }

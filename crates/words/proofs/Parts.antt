@@ -1,13 +1,12 @@
 -- What is left of a list from a position on, in the code's terms, and a part of a slice that was lent and has come back.
 -- Assumes nothing.
-use mathlib.Core.Path.{◌≡◌, ◌∙◌, ap, ap₂, sym}
-use mathlib.Core.List.{List, [], ◌∷◌, ◌++◌, append-nil}
+use mathlib.Core.Path.{◌≡◌, ◌∙◌, ap, sym}
+use mathlib.Core.List.{List, ◌∷◌, ◌++◌, append-nil}
 use Prim.Native.Nat.{ℕ, zero, suc, ◌+◌, ◌-◌, ◌≤◌, ◌<◌}
-use native.Mathlib.Nat.{le_trans}
 use native.Mathlib.Numerals.{add-one}
 use native.Mathlib.Omega.{arith}
-use lib.ListN.{length, take, drop, get_or, replicate, length-append, length-drop, take-append-drop, drop_of_length-le}
-use lib.Seq.{drop-cons, take_all, length-take-le, drop-length, drop-drop}
+use lib.ListN.{length, take, drop, get_or, replicate, length-drop}
+use lib.Seq.{drop-cons, take_all, drop-length, drop-drop}
 use borrow.Rule.Slice.PartMut.{put_mid, Post-is}
 
 -- the word at a position, and what is behind it
@@ -30,25 +29,10 @@ put_part s last k h =
     ap (λ (l : List ℕ). take k s ++ (last ++ l)) (Post-is k (length s) s h ∙ drop-length s)
     ∙ ap (λ (l : List ℕ). take k s ++ l) (append-nil last)
 
--- words moved down to a position: how many they are with those before it, and nothing moved
-pub moved_length : (l : List ℕ) (from to : ℕ) → to ≤ from → from ≤ length l → length (take to l ++ drop from l) ≡ to + (length l - from)
-moved_length l from to h k = simp (length-append, length-drop) (omega (arith, length-take-le to l (le_trans h k)))
-
-pub unmoved : (l : List ℕ) (from to : ℕ) → from ≡ to → from ≤ length l → l ≡ take to l ++ drop from l ++ drop (to + (length l - from)) l
-unmoved l from to e h =
-    let end : length l ≤ to + (length l - from) = omega arith in
-    sym (append-nil l)
-    ∙ ap₂ ◌++◌ (sym (take-append-drop to l) ∙ ap (λ (n : ℕ). take to l ++ drop n l) (sym e)) (sym (drop_of_length-le l end))
-
--- zeros that are left, and none left
+-- the next of the zeros that are left
 pub zeros_next : (n i : ℕ) → i < n → replicate {A = ℕ} (n - i) 0 ≡ 0 ∷ replicate (n - (i + 1)) 0
 zeros_next n i h =
     let e : n - i ≡ suc (n - (i + 1)) = omega arith in
-    ap (λ (m : ℕ). replicate {A = ℕ} m 0) e
-
-pub zeros_end : (n i : ℕ) → n ≤ i → ◌≡◌ {A = List ℕ} (replicate (n - i) 0) []
-zeros_end n i h =
-    let e : n - i ≡ 0 = omega arith in
     ap (λ (m : ℕ). replicate {A = ℕ} m 0) e
 
 -- zeros from a position on

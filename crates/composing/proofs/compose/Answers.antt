@@ -13,8 +13,8 @@ returns-then-earlier-i c = let args = c.args in
     )
 
 pub loop-j-preserved : goal.loop-j-preserved
-loop-j-preserved c = (iteration c.loop-j.invariant c.if-earlier-i.false c.loop-j-test.true c.next_word.result
-    c.past-i.result c.past-j.result c.next_word.ensures c.past-i.ensures c.past-j.ensures).0
+loop-j-preserved c = iteration c.loop-j.invariant c.if-earlier-i.false c.loop-j-test.true c.next_word.result
+    c.past-i.result c.past-j.result c.next_word.ensures c.past-i.ensures c.past-j.ensures
 
 pub returns : goal.returns
 returns c = let args = c.args in

@@ -1,63 +1,23 @@
--- `forward` meets its contract.
+-- `forward` meets its contract: the slot's number lies between the floor and the checkpoint, so that the steps from there to the state are
+-- held; and once the slot is closed the journal can be trimmed.
 -- Assumes nothing.
-use mathlib.Core.Path.{sym, subst}
-use native.Mathlib.Omega.{arith}
-use Rattle.views.specs.Trim.{Trimmable}
-use Rattle.forwards.proofs.Forwarding.{forwarding}
+use Rattle.std.proofs.Common.{rules, arith}
+use Rattle.views.specs.View.{Shaped}
+use Rattle.views.proofs.SoundFacts.{shaped}
+use Rattle.slots.proofs.Closing.{closed_Trimmable, number_low, number_high}
+use Rattle.last_changes.proofs.HeldSteps.{steps_Rising}
 use Rattle.forwards.proofs.forward.Goals as goal
 
-pub offset_bounds-issued-slot : goal.offset_bounds-issued-slot
-offset_bounds-issued-slot c = omega (
-  arith,
-  ((forwarding c.args.table.now c.args.journal.now c.args.head c.args.reader c.args.state c.args.reads.now
-      c.forward_check-check.ensures c.in_default.is
-      (c.well_formed.1.1.0.1.1.1.1.1.1.0.1.0.1)
-      (c.well_formed.1.1.0.1.1.1.1.1.1.1.0.1.0.1)
-      (c.well_formed.1.1.0.1.1.1.1.1.1.1.1.0.1.0.1))).slot_in,
-)
-
-pub bounds-issued-slot : goal.bounds-issued-slot
-bounds-issued-slot c = ((forwarding c.args.table.now c.args.journal.now c.args.head c.args.reader c.args.state c.args.reads.now
-    c.forward_check-check.ensures c.in_default.is
-    (c.well_formed.1.1.0.1.1.1.1.1.1.0.1.0.1)
-    (c.well_formed.1.1.0.1.1.1.1.1.1.1.0.1.0.1)
-    (c.well_formed.1.1.0.1.1.1.1.1.1.1.1.0.1.0.1))).slot_in
-
 pub step_index-from-requires : goal.step_index-from-requires
-step_index-from-requires c = ((forwarding c.args.table.now c.args.journal.now c.args.head c.args.reader c.args.state c.args.reads.now
-    c.forward_check-check.ensures c.in_default.is
-    (c.well_formed.1.1.0.1.1.1.1.1.1.0.1.0.1)
-    (c.well_formed.1.1.0.1.1.1.1.1.1.1.0.1.0.1)
-    (c.well_formed.1.1.0.1.1.1.1.1.1.1.1.0.1.0.1))).number_from
-
-pub step_index-to-requires : goal.step_index-to-requires
-step_index-to-requires c = ((forwarding c.args.table.now c.args.journal.now c.args.head c.args.reader c.args.state c.args.reads.now
-    c.forward_check-check.ensures c.in_default.is
-    (c.well_formed.1.1.0.1.1.1.1.1.1.0.1.0.1)
-    (c.well_formed.1.1.0.1.1.1.1.1.1.1.0.1.0.1)
-    (c.well_formed.1.1.0.1.1.1.1.1.1.1.1.0.1.0.1))).state_from
+step_index-from-requires c = let known = c.in_ok-forward_check.ensures in
+    number_low _ _ _ (shaped _ (search rules) (search rules) (search rules)) known.store.sound c.args.reader.slot known.slot.0 known.slot.1
 
 pub bring_forward-requires : goal.bring_forward-requires
-bring_forward-requires c =
+bring_forward-requires c = let known = c.in_ok-forward_check.ensures in
+    let p : Shaped c.args.head.now = shaped _ (search rules) (search rules) (search rules) in
+    let high = number_high _ _ _ p known.store.sound c.args.reader.slot known.slot.0 known.slot.1 in
     rw (c.step_index-from.ensures, c.step_index-to.ensures)
-    ((forwarding c.args.table.now c.args.journal.now c.args.head c.args.reader c.args.state c.args.reads.now
-    c.forward_check-check.ensures c.in_default.is
-    (c.well_formed.1.1.0.1.1.1.1.1.1.0.1.0.1)
-    (c.well_formed.1.1.0.1.1.1.1.1.1.1.0.1.0.1)
-    (c.well_formed.1.1.0.1.1.1.1.1.1.1.1.0.1.0.1))).rising
+    (steps_Rising _ _ _ p known.store.sound _ _ (omega (arith, high, known.state)) known.state.1)
 
-pub close_slot-requires : goal.close_slot-requires
-close_slot-requires c = ((forwarding c.args.table.now c.args.journal.now c.args.head c.args.reader c.args.state c.args.reads.now
-    c.forward_check-check.ensures c.in_default.is
-    (c.well_formed.1.1.0.1.1.1.1.1.1.0.1.0.1)
-    (c.well_formed.1.1.0.1.1.1.1.1.1.1.0.1.0.1)
-    (c.well_formed.1.1.0.1.1.1.1.1.1.1.1.0.1.0.1))).slot_in
-
-pub trim-next-requires : goal.trim-next-requires
-trim-next-requires c = let args = c.args in
-    subst (Trimmable args.journal.now) (sym c.close_slot.ensures)
-    ((forwarding c.args.table.now c.args.journal.now c.args.head c.args.reader c.args.state c.args.reads.now
-    c.forward_check-check.ensures c.in_default.is
-    (c.well_formed.1.1.0.1.1.1.1.1.1.0.1.0.1)
-    (c.well_formed.1.1.0.1.1.1.1.1.1.1.0.1.0.1)
-    (c.well_formed.1.1.0.1.1.1.1.1.1.1.1.0.1.0.1))).trimmable
+pub trim-requires : goal.trim-requires
+trim-requires c = closed_Trimmable c.args.reader.slot c.in_ok-forward_check.ensures.store.sound (search rules) c.close_slot.ensures

@@ -1,24 +1,21 @@
--- `head_words::pack` meets its contract: the words of the single numbers, and then the arrays.
+-- `head_words::pack` meets its contract: each group of words is put where the one before it ends.
 -- Assumes nothing.
-use mathlib.Core.Path.{◌≡◌, refl, sym, ◌∙◌}
-use mathlib.Core.List.{[], append-nil}
-use native.Mathlib.Omega.{arith}
-use lib.ListN.{length, set, length-set}
-use lib.Seq.{get_or-set_same}
-use Rattle.words.proofs.Writing.{size, filled}
-use Rattle.head_words.proofs.Packing.{told_put, put_long, room}
+use mathlib.Core.Path.{◌∙◌}
 use borrow.Author.Rules.{rules}
+use Rattle.std.specs.Int.{from_bool}
+use Rattle.std.proofs.lemmas.List.{map-id}
+use Rattle.std.proofs.lemmas.Slice.Zip.{AllZip-long, AllZip-map}
+use Rattle.head_words.proofs.Packing.{packed, flag_words}
 use Rattle.head_words.proofs.pack.Goals as goal
 
 pub returns : goal.returns
-returns c = let args = c.args in
-    let there = set args.words.now 84 args.head.depth in
-    let long : length there ≡ 85 = put_long there args.head.used args.head.oldest args.head.checkpoint args.head.tip 85
-    c.put_single.ensures (search rules) in
-    let put = told_put there args.head (room 85 long (search rules))
-    (get_or-set_same args.words.now 84 args.head.depth 0 (omega (arith, long, length-set args.words.now 84 args.head.depth)))
-    ((c.well_formed.0.1.1.1.1.1.1.0.1.0.1))
-    ((c.well_formed.0.1.1.1.1.1.1.1.0.1.0.1))
-    ((c.well_formed.0.1.1.1.1.1.1.1.1.0.1.0.1))
-    c.put_single.ensures c.put_flags.ensures c.put_numbers.ensures c.put_ends.ensures [] in
-    filled put refl (sym (size put) ∙ sym long) ∙ append-nil _
+returns c =
+    let head = c.args.head in
+    let flags = AllZip-map from_bool head.taken c.put.new.words c.put.ensures ∙ flag_words head.taken in
+    let issued = AllZip-map (λ n. n) head.issued c.put-2.new.words c.put-2.ensures ∙ map-id head.issued in
+    let ends = AllZip-map (λ n. n) head.ends c.put-3.new.words c.put-3.ensures ∙ map-id head.ends in
+    let e = packed c.args.words.now head.used c.from.result c.from-2.result c.from-3.result c.from-4.result
+    c.put.new.words c.put-2.new.words c.put-3.new.words (search rules)
+    (AllZip-long _ _ _ c.put.ensures ∙ search rules) (AllZip-long _ _ _ c.put-2.ensures ∙ search rules)
+    (AllZip-long _ _ _ c.put-3.ensures ∙ search rules) in
+    cc

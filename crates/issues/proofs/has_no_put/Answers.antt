@@ -1,19 +1,18 @@
--- `issues::has_no_put` meets its contract: what is left of the words has no put exactly when all of them have none.
+-- `has_no_put` meets its contract: `all` asks of each word what the definition asks.
 -- Assumes nothing.
-use mathlib.Core.Path.{◌∙◌, sym}
-use Rattle.changes.proofs.NoPuts.{at_end, at_stop, at_next}
+use Rattle.std.proofs.Common.{◌∙◌, refl, not, ◌&&◌, rules, tests}
+use Rattle.std.proofs.lemmas.Iterator.{YieldsList-from_slice}
+use Rattle.std.proofs.lemmas.Iterator.Search.{all_from_yields_List}
+use Rattle.std.proofs.lemmas.List.Recursion.{same_from_clauses}
+use Rattle.std.specs.List.{list_all}
+use Rattle.entry.specs.Word.{is_put}
+use Rattle.changes.specs.Lists.{has_no_put}
 use Rattle.issues.proofs.has_no_put.Goals as goal
 
-pub returns-then-kind_of-eq-PUT : goal.returns-then-kind_of-eq-PUT
-returns-then-kind_of-eq-PUT c = let args = c.args in
-    sym (sym c.loop-i.invariant ∙ at_stop args.words.now c.loop-i.i c.loop-i-test.true
-    (sym c.kind_of.ensures ∙ c.if-kind_of-eq-PUT.true))
-
-pub loop-i-preserved : goal.loop-i-preserved
-loop-i-preserved c = let args = c.args in
-    sym (at_next args.words.now c.loop-i.i c.loop-i-test.true
-    (λ p. c.if-kind_of-eq-PUT.false (c.kind_of.ensures ∙ p))) ∙ c.loop-i.invariant
-
 pub returns : goal.returns
-returns c = let args = c.args in
-    sym (sym c.loop-i.invariant ∙ at_end args.words.now c.loop-i.i c.loop-i-test.false)
+unfolding has_no_put
+returns c =
+    all_from_yields_List (λ w. not (is_put w)) _ _ _ c.all.ensures.ran (YieldsList-from_slice c.args.words.now cc)
+    (λ x b q k. search (rules, tests))
+    ∙ same_from_clauses (list_all (λ w. not (is_put w))) has_no_put (λ w rest. not (is_put w) && rest) refl (λ _ _. refl) (λ _ _. refl)
+    c.args.words.now

@@ -7,8 +7,5 @@ use Rattle.changes.specs.Runs.{run_of}
 use Rattle.last_changes.proofs.Changing.{Changing}
 use Rattle.last_changes.proofs.bring_few.Given as goal
 
-abbrev pub invariant-loop-i : goal.invariant-loop-i
-invariant-loop-i l = Changing l.words l.initial.words (compose_all (run_of l.journal l.ends l.from (l.to - l.from))) l.i
-
-abbrev pub decreases-loop-i : goal.decreases-loop-i
-decreases-loop-i l = length l.initial.words - l.i
+abbrev pub invariant-loop-word : goal.invariant-loop-word
+invariant-loop-word l = Changing l.words l.initial.words (compose_all (run_of l.journal l.ends l.from (l.to - l.from))) l.word-index

@@ -3,8 +3,5 @@
 use Rattle.last_changes.proofs.Seeking.{Seeking}
 use Rattle.last_changes.proofs.last_change.Given as goal
 
-abbrev pub invariant-loop-k : goal.invariant-loop-k
-invariant-loop-k l = Seeking l.journal l.ends l.from l.to l.offer l.k
-
-abbrev pub decreases-loop-k : goal.decreases-loop-k
-decreases-loop-k l = l.k
+abbrev pub invariant-loop-step : goal.invariant-loop-step
+invariant-loop-step l = Seeking l.journal l.ends l.from l.to l.offer l.step

@@ -4,8 +4,8 @@ use Rattle.last_changes.proofs.Changing.{changed_one, changed_all}
 use native.Mathlib.Omega.{arith}
 use Rattle.last_changes.proofs.words_after.Goals as goal
 
-pub loop-i-preserved : goal.loop-i-preserved
-loop-i-preserved c = changed_one c.loop-i.invariant c.word_after.ensures (omega arith)
+pub loop-word-preserved : goal.loop-word-preserved
+loop-word-preserved c = changed_one c.loop-word.invariant c.word_after.ensures (omega arith)
 
 pub returns : goal.returns
-returns c = changed_all c.loop-i.invariant (omega arith)
+returns c = changed_all c.loop-word.invariant (omega arith)

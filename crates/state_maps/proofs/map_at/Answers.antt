@@ -29,7 +29,7 @@ apply-requires c = let ok = state_facts c.requires.0 in (
   has_room ((record { taken_8 = search rules; issued_8 = search rules; ends_64 = search rules })) ok c.step_index-from.ensures
       c.step_index-to.ensures
       c.compose_run-count.ensures c.requires.1
-      c.map-1.given,
+      (search rules),
 )
 
 pub returns : goal.returns

@@ -1,17 +1,14 @@
 -- `table::found_at` meets its contract.
 -- Assumes nothing.
-use mathlib.Core.Path.{sym}
-use Rattle.table.proofs.Sides.{none_past, found_here, other_here}
-use native.Mathlib.Omega.{arith}
+use Rattle.std.proofs.Common.{◌∙◌, length, sym, arith}
+use borrow.Author.Tests.{le-ltb}
+use Rattle.table.proofs.Sides.{none_found, found_there}
 use Rattle.table.proofs.found_at.Goals as goal
 
-pub returns-then-words-at : goal.returns-then-words-at
-returns-then-words-at c = sym (none_past c.args.words.now c.args.at c.args.word c.if-words-at.true)
+pub returns-then-at-words : goal.returns-then-at-words
+returns-then-at-words c =
+    found_there c.args.words.now c.args.at c.args.word c.if-at-words.true c.offer_field.ensures c.offer_field-then-at-words.ensures
 
-pub returns-then-offer_field : goal.returns-then-offer_field
-returns-then-offer_field c = let args = c.args in
-    sym (found_here args.words.now args.at args.word c.if-words-at.false (omega arith))
-
-pub returns : goal.returns
-returns c = let args = c.args in
-    sym (other_here args.words.now args.at args.word c.if-words-at.false (λ e. c.if-offer_field.false (omega arith)))
+pub returns-else-at-words : goal.returns-else-at-words
+returns-else-at-words c =
+    le-ltb c.args.at (length c.args.words.now) (omega arith) ∙ sym (none_found c.args.words.now c.args.at c.args.word (omega arith))

@@ -1,12 +1,13 @@
--- `checking::all_allowed` meets its contract. The loop's invariant: the tests joined so far and those of the orders that are left say
--- whether all pass.
+-- `checking::all_allowed` meets its contract.
 -- Assumes nothing.
-use native.Mathlib.Omega.{arith}
-use Rattle.execution.proofs.AllOrders.{joined_end, Joined-next}
+use Rattle.std.proofs.Common.{rules}
+use Rattle.std.proofs.lemmas.List.Recursion.{and_is}
+use Rattle.orders.specs.Orders.{is_allowed}
+use Rattle.execution.specs.Tests.{list_all}
+use Rattle.execution.proofs.AllOrders.{all_none, all_one}
 use Rattle.batch.proofs.checking.all_allowed.Goals as goal
 
-pub loop-k-preserved : goal.loop-k-preserved
-loop-k-preserved c = Joined-next c.loop-k.invariant (omega arith) c.is_allowed-all.ensures
-
 pub returns : goal.returns
-returns c = joined_end c.loop-k.invariant (omega arith)
+returns c =
+    and_is (list_all is_allowed) is_allowed (all_none is_allowed) (all_one is_allowed) c.args.orders.now 0 _
+    (search rules) (search rules)

@@ -1,5 +1,5 @@
--- `executing::execute` meets its contract. The loop's invariant: the words show the read set with the flagged words applied, and
--- these are the changes of the orders so far.
+-- `executing::execute` meets its contract. The loop's invariant: the words made are the changes of the orders so far, and with them in
+-- place of its own the read set shows what the next order sees.
 -- Assumes nothing.
 use mathlib.Core.Path.{sym, ◌∙◌}
 use native.Mathlib.Omega.{arith}
@@ -11,11 +11,13 @@ loop-k-init c = iterating c.requires
 
 pub loop-k-preserved : goal.loop-k-preserved
 loop-k-preserved c = iteration_goes c.loop-k.invariant c.requires.rises (omega arith) (c.requires.located c.loop-k.k (omega arith))
-    (sym c.effect_of.ensures.0 ∙ c.in-Change.is)
+    c.unwrap_or-shown.ensures (sym c.effect_of.ensures.0 ∙ c.in_ok-effect_of.was)
 
-pub returns-in-Fails : goal.returns-in-Fails
-returns-in-Fails c = iteration_fails c.loop-k.invariant c.requires.rises (omega arith) (c.requires.located c.loop-k.k (omega arith))
-    (sym c.effect_of.ensures.0 ∙ c.in-Fails.is)
+pub returns-in_err-effect_of : goal.returns-in_err-effect_of
+returns-in_err-effect_of c =
+    let e = iteration_fails c.loop-k.invariant c.requires.rises (omega arith) (c.requires.located c.loop-k.k (omega arith))
+    c.unwrap_or-shown.ensures (sym c.effect_of.ensures.0 ∙ c.in_err-effect_of.was) in
+    grind (arith, e)
 
 pub returns : goal.returns
 returns c = iterated c.loop-k.invariant (omega arith)

@@ -1,12 +1,8 @@
--- `executing::gather` meets its contract. The loop's invariant: what is written and the flagged words that are left are all flagged words.
+-- `executing::gather` meets its contract. The loop's invariant: of the words made, as many are written as the loop was given.
 -- Assumes nothing.
-use Prim.Native.Nat.{◌-◌}
-use lib.ListN.{length}
-use Rattle.execution.proofs.Gathering.{Gathering}
+use Rattle.execution.specs.Working.{made}
+use Rattle.execution.proofs.Gathering.{Written}
 use Rattle.execution.proofs.executing.gather.Given as goal
 
 abbrev pub invariant-loop-n : goal.invariant-loop-n
-invariant-loop-n l = Gathering l.words l.flags l.out l.i l.n
-
-abbrev pub decreases-loop-n : goal.decreases-loop-n
-decreases-loop-n l = length l.words - l.i
+invariant-loop-n l = Written (made l.words) l.out l.yielded

@@ -1,13 +1,8 @@
 -- `positions::find_positions` meets its contract. The loop's invariant: the orders so far are in the read set, at the positions
 -- noted for them.
 -- Assumes nothing.
-use Prim.Native.Nat.{◌-◌}
-use lib.ListN.{length}
 use Rattle.execution.proofs.OrderPositions.{Finding}
 use Rattle.execution.proofs.positions.find_positions.Given as goal
 
 abbrev pub invariant-loop-k : goal.invariant-loop-k
 invariant-loop-k l = Finding l.reads l.orders l.positions l.initial.positions l.k
-
-abbrev pub decreases-loop-k : goal.decreases-loop-k
-decreases-loop-k l = length l.orders - l.k

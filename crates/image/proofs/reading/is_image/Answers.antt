@@ -16,13 +16,13 @@ pub loop-i-init : goal.loop-i-init
 loop-i-init c = Keyed-all _ (omega arith) (omega arith)
 
 pub returns-then-key-last : goal.returns-then-key-last
-returns-then-key-last c = sym (key_falls c.loop-i.invariant (omega arith) c.u64_at.result (omega arith)
-    c.u64_at.ensures (omega arith))
+returns-then-key-last c = sym (key_falls c.loop-i.invariant (omega arith) c.word_at.result (omega arith)
+    c.word_at.ensures (omega arith))
 
 pub loop-i-preserved : goal.loop-i-preserved
 loop-i-preserved c = rw c.key_of-key.ensures.0
-    (key_rises c.loop-i.invariant (omega arith) c.u64_at.result (omega arith)
-    c.u64_at.ensures (omega arith))
+    (key_rises c.loop-i.invariant (omega arith) c.word_at.result (omega arith)
+    c.word_at.ensures (omega arith))
 
 pub returns : goal.returns
 returns c = sym (tested c.loop-i.invariant.tested (omega arith))

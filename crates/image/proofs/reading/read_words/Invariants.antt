@@ -8,8 +8,5 @@ use Rattle.image.proofs.reading.read_words.Given as goal
 
 abbrev pub invariant-loop-i : goal.invariant-loop-i
 invariant-loop-i l =
-    (l.i ≤ count_in l.bytes) × Writing l.table l.initial.table l.i
+    (l.i ≤ count_in l.bytes) × Writing l.word-items l.initial.word-items l.i
     (words_of (count_in l.bytes - l.i) (drop (6 + 8 * l.i) l.bytes)) (words_in l.bytes)
-
-abbrev pub decreases-loop-i : goal.decreases-loop-i
-decreases-loop-i l = count_in l.bytes - l.i

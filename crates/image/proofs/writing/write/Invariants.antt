@@ -1,9 +1,8 @@
 -- `writing::write` meets its contract. The loop's invariant: what is written so far and the bytes of the words that are left
 -- make the header and the bytes of all words.
 -- Assumes nothing.
-use mathlib.Core.Path.{◌≡◌}
 use mathlib.Core.List.{◌++◌}
-use Prim.Native.Nat.{◌+◌, ◌-◌, ◌*◌, ◌≤◌}
+use Prim.Native.Nat.{◌+◌, ◌*◌, ◌≤◌}
 use lib.ListN.{length, take, drop}
 use Rattle.words.proofs.Writing.{Writing}
 use Rattle.image.specs.Image.{word_bytes}
@@ -11,8 +10,5 @@ use Rattle.image.proofs.writing.write.Given as goal
 
 abbrev pub invariant-loop-i : goal.invariant-loop-i
 invariant-loop-i l =
-    (l.i ≤ length l.words) × (l.at ≡ 6 + 8 * l.i)
-    × Writing l.out l.initial.out l.at (word_bytes (drop l.i l.words)) (take 6 l.initial.out ++ word_bytes l.words)
-
-abbrev pub decreases-loop-i : goal.decreases-loop-i
-decreases-loop-i l = length l.words - l.i
+    (l.i ≤ length l.words)
+    × Writing l.out l.initial.out (6 + 8 * l.i) (word_bytes (drop l.i l.words)) (take 6 l.initial.out ++ word_bytes l.words)

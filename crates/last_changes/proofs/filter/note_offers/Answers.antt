@@ -10,16 +10,16 @@ use Rattle.last_changes.specs.Filter.{noted}
 use Rattle.last_changes.proofs.Filtering.{note_next, note_end}
 use Rattle.last_changes.proofs.filter.note_offers.Goals as goal
 
-pub loop-i-preserved : goal.loop-i-preserved
-loop-i-preserved c = let args = c.args in (
+pub loop-word-preserved : goal.loop-word-preserved
+loop-word-preserved c = let args = c.args in (
   search rules,
-  length-set c.loop-i.filter c.filter_cell-cell.result true
-      ∙ c.loop-i.invariant.1,
-  ap (λ (p : ℕ). noted (set c.loop-i.filter p true)
-      (drop (c.loop-i.i + 1) args.words.now)) c.filter_cell-cell.ensures
-      ∙ sym (note_next c.loop-i.filter args.words.now c.loop-i.i c.loop-i-test.true) ∙ c.loop-i.invariant.2,
+  length-set c.loop-word.filter c.filter_cell-cell.result true
+      ∙ c.loop-word.invariant.1,
+  ap (λ (p : ℕ). noted (set c.loop-word.filter p true)
+      (drop (c.loop-word.word-index + 1) args.words.now)) c.filter_cell-cell.ensures
+      ∙ sym (note_next c.loop-word.filter args.words.now c.loop-word.word-index c.loop-word-test.true) ∙ c.loop-word.invariant.2,
 )
 
 pub returns : goal.returns
 returns c = let args = c.args in
-    sym (note_end c.loop-i.filter args.words.now c.loop-i.i (omega arith)) ∙ c.loop-i.invariant.2
+    sym (note_end c.loop-word.filter args.words.now c.loop-word.word-index (omega arith)) ∙ c.loop-word.invariant.2

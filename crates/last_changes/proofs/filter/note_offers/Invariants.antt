@@ -6,9 +6,7 @@ use lib.ListN.{length, drop}
 use Rattle.last_changes.specs.Filter.{noted}
 use Rattle.last_changes.proofs.filter.note_offers.Given as goal
 
-abbrev pub invariant-loop-i : goal.invariant-loop-i
-invariant-loop-i l =
-    (l.i ≤ length l.words) × (length l.filter ≡ 16384) × (noted l.filter (drop l.i l.words) ≡ noted l.initial.filter l.words)
-
-abbrev pub decreases-loop-i : goal.decreases-loop-i
-decreases-loop-i l = length l.words - l.i
+abbrev pub invariant-loop-word : goal.invariant-loop-word
+invariant-loop-word l =
+    (l.word-index ≤ length l.words) × (length l.filter ≡ 16384)
+    × (noted l.filter (drop l.word-index l.words) ≡ noted l.initial.filter l.words)

@@ -2,14 +2,11 @@
 -- Assumes nothing.
 use mathlib.Core.Path.{◌≡◌}
 use mathlib.Core.Bool.{true}
-use Prim.Native.Nat.{◌-◌, ◌≤◌}
 use Rattle.changes.specs.Runs.{start_of}
 use Rattle.layout.specs.Clauses.{is_step}
 use Rattle.layout.specs.Tests.{all_below}
 use Rattle.layout.proofs.clauses.are_steps.Given as goal
 
-abbrev pub invariant-loop-k : goal.invariant-loop-k
-invariant-loop-k l = (l.k ≤ l.n) × (l.start ≡ start_of l.ends l.k) × (all_below l.k (is_step l.journal l.ends) ≡ true)
-
-abbrev pub decreases-loop-k : goal.decreases-loop-k
-decreases-loop-k l = l.n - l.k
+abbrev pub invariant-loop-end : goal.invariant-loop-end
+invariant-loop-end l =
+    (l.start ≡ start_of l.ends l.end-index) × (all_below l.end-index (is_step l.journal l.ends) ≡ true)

@@ -1,15 +1,16 @@
--- `rules::few_follow` meets its contract: the pairs joined so far are marked exactly when they all pass.
+-- `rules::few_follow` meets its contract: the flags joined so far say whether all those pairs pass.
 -- Assumes nothing.
-use mathlib.Core.Path.{refl}
-use native.Mathlib.Omega.{arith}
-use Rattle.lists.proofs.Pairs.{valid}
-use Rattle.lists.proofs.Scans.{none_Joined, joined}
+use Rattle.std.proofs.Common.{arith, sym, ap}
+use Rattle.entry.specs.Word.{bit_of}
+use Rattle.lists.proofs.Pairs.{pairs_none, says_more}
 use Rattle.lists.proofs.rules.few_follow.Goals as goal
 
 pub loop-i-init : goal.loop-i-init
-loop-i-init c = none_Joined valid c.args.words.now _ refl (omega arith)
+loop-i-init g c = (omega arith, λ p. sym (ap bit_of (pairs_none g.R.Rule.passes c.args.words.now 0)))
 
 pub loop-i-preserved : goal.loop-i-preserved
-loop-i-preserved c = let args = c.args in
-    joined valid args.words.now c.loop-i.good c.loop-i.i c.follows-good.result c.loop-i.invariant (omega arith) tt
-    (λ u. c.follows-good.ensures)
+loop-i-preserved g c = (
+  omega arith,
+  says_more g.R.Rule.passes c.args.words.now c.loop-i.i c.loop-i.good c.follows-good.result (omega arith)
+      c.loop-i.invariant.1 c.follows-good.ensures,
+)

@@ -1,13 +1,11 @@
--- `rules::few_follow` meets its contract: the pairs joined so far are marked exactly when they all pass.
+-- `rules::few_follow` meets its contract: the flags joined so far say whether all those pairs pass.
 -- Assumes nothing.
-use Prim.Native.Nat.{◌-◌}
-use lib.ListN.{length}
-use Rattle.entry.specs.Word.{is_valid}
-use Rattle.lists.proofs.Scans.{Joined}
+use Rattle.std.proofs.Common.{◌≡◌, true, ◌-◌, ◌≤◌, length, get_or}
+use Rattle.entry.specs.Word.{bit_of, top_of}
+use Rattle.lists.specs.Pairs.{are_pairs}
 use Rattle.lists.proofs.rules.few_follow.Given as goal
 
 abbrev pub invariant-loop-i : goal.invariant-loop-i
-invariant-loop-i l = Joined is_valid l.words l.good l.i
-
-abbrev pub decreases-loop-i : goal.decreases-loop-i
-decreases-loop-i l = length l.words - l.i
+invariant-loop-i g l =
+    (l.i ≤ length l.words)
+    × (g.R.Rule.passes (get_or l.words 0 0) ≡ true → top_of l.good ≡ bit_of (are_pairs g.R.Rule.passes l.words 0 (l.i - 1)))

@@ -1,30 +1,41 @@
 -- `reading::read_row` meets its contract: the words of the seats before are in the table, as many as are counted, and the bits that are
 -- left are those of the seats behind.
 -- Assumes nothing.
-use Rattle.sheet.proofs.RowReading.{begin_row, bit_in, place_in_lem, seat_stored, end_row}
+use mathlib.Core.Path.{◌∙◌, ap}
+use mathlib.Core.List.{List, ◌++◌}
+use Prim.Native.Nat.{ℕ}
+use lib.ListN.{drop}
+use lib.Seq.{length-take-le}
 use native.Mathlib.Omega.{arith}
+use Rattle.sheet.specs.Sheet.{set_bits}
+use Rattle.sheet.proofs.RowReading.{begin_row, some_left, seat_in, bit_in, seat_stored, end_row}
 use Rattle.sheet.proofs.reading.read_row.Goals as goal
 
-pub loop-rest-init : goal.loop-rest-init
-loop-rest-init c = let args = c.args in
-    begin_row args.bytes.now args.at c.u32_at-number.result c.u32_at-mask.result
-    c.u32_at-number.ensures c.u32_at-mask.ensures (omega arith) (omega arith)
-    args.table.now args.from c.requires.0 c.requires.1
+pub loop-i-init : goal.loop-i-init
+loop-i-init c =
+    let b = c.args.bytes.now in
+    let room = length-take-le c.prices-count.result c.args.table.now
+    (omega (arith, c.requires.2, c.prices-count.ensures.0, ap set_bits c.uint_at-mask.ensures.0)) in
+    begin_row b c.uint_at-number.result c.uint_at-mask.result c.uint_at-number.ensures.0 c.uint_at-mask.ensures.0 (omega arith)
+    (omega arith) _ c.requires.1 (room ∙ c.prices-count.ensures.0)
 
-pub u32_at-requires : goal.u32_at-requires
-u32_at-requires c = omega (arith, place_in_lem c.loop-rest.invariant c.loop-rest-test.true)
-
-pub bounds-table-from : goal.bounds-table-from
-bounds-table-from c = omega (arith, place_in_lem c.loop-rest.invariant c.loop-rest-test.true)
+pub bit-rest-requires : goal.bit-rest-requires
+bit-rest-requires c = seat_in c.loop-i.invariant (some_left c.loop-i.invariant (omega (arith, c.loop-i.auto.word-items)))
 
 pub overflow_sub-rest : goal.overflow_sub-rest
-overflow_sub-rest c = omega (arith, bit_in c.loop-rest.invariant c.loop-rest-test.true)
+overflow_sub-rest c =
+    omega (arith, bit_in c.loop-i.invariant (some_left c.loop-i.invariant (omega (arith, c.loop-i.auto.word-items))))
 
-pub loop-rest-preserved : goal.loop-rest-preserved
-loop-rest-preserved c = seat_stored c.loop-rest.invariant c.loop-rest-test.true c.u32_at.result c.put.result
-    c.u32_at.ensures c.put.ensures c.bit-rest.result c.bit-rest.ensures
+pub loop-i-preserved : goal.loop-i-preserved
+loop-i-preserved c =
+    seat_stored c.loop-i.invariant (some_left c.loop-i.invariant (omega (arith, c.loop-i.auto.word-items))) c.uint_at-price.result
+    c.put.result c.uint_at-price.ensures.0 c.put.ensures c.bit-rest.result c.bit-rest.ensures
 
-pub returns : goal.returns
-returns c = let args = c.args in
-    end_row args.bytes.now args.at c.u32_at-number.result c.u32_at-mask.result
-    c.u32_at-number.ensures c.u32_at-mask.ensures (omega arith) c.loop-rest.invariant c.loop-rest-test.false
+pub returns-clause-words : goal.returns-clause-words
+returns-clause-words c =
+    let b = c.args.bytes.now in (
+      c.prices-count.ensures.0 ∙ ap set_bits c.uint_at-mask.ensures.0,
+      ap (λ (l : List ℕ). l ++ drop c.prices-count.result c.args.table.now)
+          (end_row b c.uint_at-number.result c.uint_at-mask.result c.uint_at-number.ensures.0 c.uint_at-mask.ensures.0 (omega arith)
+          c.loop-i.invariant (omega (arith, c.loop-i.auto.word-items))),
+    )

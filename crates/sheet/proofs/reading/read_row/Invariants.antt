@@ -4,8 +4,5 @@
 use Rattle.sheet.proofs.RowReading.{RowReading}
 use Rattle.sheet.proofs.reading.read_row.Given as goal
 
-abbrev pub invariant-loop-rest : goal.invariant-loop-rest
-invariant-loop-rest l = RowReading l.bytes l.number l.mask l.prices_at l.table l.initial.table l.from l.rest l.i
-
-abbrev pub decreases-loop-rest : goal.decreases-loop-rest
-decreases-loop-rest l = l.rest
+abbrev pub invariant-loop-i : goal.invariant-loop-i
+invariant-loop-i l = RowReading l.bytes l.number l.mask l.word-items l.initial.word-items l.rest l.i

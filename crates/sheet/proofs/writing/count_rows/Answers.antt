@@ -1,25 +1,37 @@
 -- `writing::count_rows` meets its contract. The loop's invariant: the rows counted and those that begin in the words that are left are
 -- all rows.
 -- Assumes nothing.
-use Rattle.sheet.proofs.RowCounts.{begun_start, begun_same, begun_new, begun_end}
+use mathlib.Core.Path.{◌∙◌, sym, ap}
+use Prim.Native.Nat.{ℕ, ◌+◌}
 use native.Mathlib.Omega.{arith}
+use borrow.Author.Tests.{not-true, not-false}
+use lib.ListN.{drop}
+use Rattle.std.specs.Prelude.{Option}
+use Rattle.sheet.specs.Sheet.{rows_of}
+use Rattle.sheet.proofs.RowCounts.{behind, behind_none, behind_end, behind_same, behind_new}
 use Rattle.sheet.proofs.writing.count_rows.Goals as goal
+use Rattle.sheet.proofs.writing.count_rows.Goals.{then-ne, else-ne}
 
-pub loop-i-init : goal.loop-i-init
-loop-i-init c = (omega arith, omega arith, omega (arith, begun_start c.args.words.now))
+pub loop-word-init : goal.loop-word-init
+loop-word-init c = (omega arith, omega arith, omega (arith, behind_none))
 
-pub loop-i-preserved-then-row-last : goal.loop-i-preserved-then-row-last
-loop-i-preserved-then-row-last c = let args = c.args in
-    let new = begun_new c.loop-i.last args.words.now c.loop-i.i c.loop-i-test.true
-    c.row_of-row.result c.row_of-row.ensures c.if-row-last.true in
-    (omega arith, omega arith, omega (arith, new))
-
-pub loop-i-preserved : goal.loop-i-preserved
-loop-i-preserved c = let args = c.args in
-    let same = begun_same c.loop-i.last args.words.now c.loop-i.i c.loop-i-test.true
-    c.row_of-row.result c.row_of-row.ensures c.if-row-last.false in
-    (omega arith, omega arith, omega (arith, same))
+pub loop-word-preserved : goal.loop-word-preserved
+loop-word-preserved c =
+    let words = c.args.words.now in
+    let i = c.loop-word.word-index in
+    let left = rows_of (drop (c.loop-word.word-index + 1) c.args.words.now) in
+    elim c.if-ne.branch [
+      | then-ne w ↦ (
+          let new = behind_new words i c.loop-word-test.true c.row_of.result c.row_of.ensures c.loop-word.last
+          (not-true _ (sym c.ne.ensures ∙ w.if-ne.true)) in
+          (omega (arith, w.count-is), omega arith, omega (arith, w.count-is, ap (λ (o : Option ℕ). behind o left) w.last-is, new))
+          )
+      | else-ne w ↦ (
+          let same = behind_same words i c.loop-word-test.true c.row_of.result c.row_of.ensures c.loop-word.last
+          (not-false _ (sym c.ne.ensures ∙ w.if-ne.false)) in
+          (omega (arith, w.count-is), omega arith, omega (arith, w.count-is, ap (λ (o : Option ℕ). behind o left) w.last-is, same))
+          )
+    ]
 
 pub returns : goal.returns
-returns c = let none = begun_end c.loop-i.last c.args.words.now c.loop-i.i (omega arith) in
-    (omega (arith, none), omega arith)
+returns c = (omega (arith, behind_end c.args.words.now c.loop-word.word-index c.loop-word.last (omega arith)), omega arith)

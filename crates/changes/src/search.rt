@@ -1,6 +1,0 @@
-// What a search for an offer finds.
-#[derive(Clone, Copy)]
-pub enum Found {
-    Word(u64),
-    Nothing,
-}
