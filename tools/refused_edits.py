@@ -10,7 +10,8 @@ also names what it must break. A file is one edit:
 
   # edit: NAME                        its name
   # ..                                what the wrong program does
-  # breaks: MODULE::FUNCTION          the function that is refused, without the crate's name
+  # breaks: MODULE::FUNCTION          the function that is refused, without the crate's name; a method with its type in front (`Entry::put`),
+                                      and one of a trait with the type's name and the trait's, joined (`MappedRule::follows`)
   # breaks: lemma FILE NAME           or the lemma of proofs/FILE.antt that fails
   # and: ..                           another one that fails for its own sake, in either form
   file: .. old: .. new: ..            the replacements, as `rt` reads them, each of one line
@@ -39,6 +40,7 @@ LEMMA_PLACE = re.compile(r": (?:\./)?proofs/(?P<file>[^\s:]+)\.antt:\d+:\d+: err
 PROOF_PLACE = re.compile(r": (?:\./)?proofs/(?P<folder>[^\s:]+)/(?:Answers|Invariants)\.antt:\d+:\d+: error: ")
 CODE_PLACE = re.compile(r": (?:note: )?(?:\./)?(?P<file>src/[^\s:]+\.rt):(?P<line>\d+):\d+: ")
 FUNCTION = re.compile(r'^(?P<in> *)(?:pub(?:\(crate\))? )?(?:extern "C" )?fn (?P<name>\w+)(?:<(?:[^<>]|<[^<>]*>)*>)?\(', re.M)
+BLOCK = re.compile(r"^(?P<in> *)(?:pub(?:\(crate\))? )?(?:impl(?:<[^<>]*>)? (?:(?P<trait>\S+) for )?|trait )(?P<type>[^\s:{]+(?:::\w+)*).* \{$", re.M)
 
 
 def read_edit(text):
@@ -80,14 +82,26 @@ def read_edit(text):
     return Edit(" ".join(name), " ".join(says), " ".join(breaks[:1]), others, replacements), faults
 
 
+def joined(words):
+    """The names in a type or a trait as `rt` joins them: `From<Ground>` is FromGround, u32 is U32, `Text<'a>` is Text."""
+    return "".join(name[0].upper() + name[1:] for name in re.findall(r"(?<!['\w])\w+\b(?!::)", words or ""))
+
+
+def heads(text):
+    """The heads of the functions of a source, each with its name: a method's with that of its block in front."""
+    blocks = [(found.start(), text.find(f"\n{found['in']}}}\n", found.end()), joined(found["type"]) + joined(found["trait"])) for found in BLOCK.finditer(text)]
+    for head in FUNCTION.finditer(text):
+        yield "::".join([name for start, end, name in blocks if start < head.start() < end] + [head["name"]]), head
+
+
 def bodies(text):
     """The functions of a source as `rt fmt` lays it out: name, where the head starts, and where the body starts and ends."""
-    heads = list(FUNCTION.finditer(text))
-    for head, behind in zip(heads, [*(found.start() for found in heads[1:]), len(text)]):
+    found = list(heads(text))
+    for (name, head), behind in zip(found, [*(head.start() for _, head in found[1:]), len(text)]):
         start = re.compile(rf"^{head['in']}\{{$|^{head['in']}\S.* \{{$", re.M).search(text, head.start(), behind)
         end = start and re.compile(rf"^{head['in']}\}}$", re.M).search(text, start.end())
         if end:
-            yield head["name"], head.start(), start.end(), end.start()
+            yield name, head.start(), start.end(), end.start()
 
 
 def place_faults(edit, text_of):
@@ -101,7 +115,7 @@ def place_faults(edit, text_of):
             continue
         at = text.index(old)
         inside = [name for name, _, start, end in bodies(text) if start <= at and at + len(old) <= end]
-        if inside and edit.breaks and edit.breaks.split("::")[-1] not in inside:
+        if inside and edit.breaks and files_of(edit.breaks)[1] not in inside:
             faults.append(f"'{old}' is in the body of {inside[0]}, and not of {edit.breaks}")
         if inside and edit.others:
             faults.append(f"'{old}' is in the body of {inside[0]}, and another name stands beside it")
@@ -110,10 +124,10 @@ def place_faults(edit, text_of):
 
 
 def files_of(function):
-    """The sources in which a function can stand, by its modules, and its name."""
-    *modules, name = function.split("::")
-    modules = [module for module in modules if not module[0].isupper()]
-    return [f"src/{'/'.join(modules)}.rt"] if modules else ["src/lib.rt", "src/main.rt"], name
+    """The sources in which a function can stand, by its modules, and its name, a method's with its type's."""
+    words = function.split("::")
+    modules = [module for module in words[:-1] if not module[0].isupper()]
+    return [f"src/{'/'.join(modules)}.rt"] if modules else ["src/lib.rt", "src/main.rt"], "::".join(words[len(modules) :])
 
 
 def named_faults(edit, text_of):
@@ -126,7 +140,7 @@ def named_faults(edit, text_of):
                 yield f"proofs/{file}.antt has no {lemma}"
         elif named:
             files, name = files_of(named)
-            if not any(found["name"] == name for file in files for found in FUNCTION.finditer(text_of(file) or "")):
+            if not any(found == name for file in files for found, _ in heads(text_of(file) or "")):
                 yield f"there is no function {named}"
 
 

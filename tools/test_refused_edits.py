@@ -23,6 +23,39 @@ pub fn high(x: u64) -> u64
 }
 """
 
+METHODS = """// Two rules of one name.
+trait Rule {
+    fn holds(x: u64) -> bool
+        ensures { result ≡ passes x };
+}
+
+impl Rule for Low {
+    fn holds(x: u64) -> bool {
+        x < LIMIT
+    }
+}
+
+impl<'a> Rule for High<'a> {
+    fn holds(x: u64) -> bool {
+        LIMIT <= x
+    }
+}
+
+impl From<Low> for u64 {
+    fn from(low: Low) -> u64 {
+        LIMIT - 1
+    }
+}
+"""
+
+HOLDS = """# edit: equal_is_low
+# the limit is not high
+# breaks: rules::HighRule::holds
+file: src/rules.rt
+old:         LIMIT <= x
+new:         LIMIT < x
+"""
+
 LOW = """# edit: low_of_another
 # the low part of the number after it
 # breaks: parts::low
@@ -113,6 +146,28 @@ class Form(Repository):
     def test_two_of_a_name(self):
         self.faults(LOW)
         self.assertIn("must-fail sums/low_of_another: two edits have this name", self.faults(LOW, label="again"))
+
+
+class Methods(Repository):
+    """A method is that of the type named."""
+
+    def setUp(self):
+        super().setUp()
+        self.write("crates/sums/src/rules.rt", METHODS)
+
+    def test_form(self):
+        self.assertEqual(self.faults(HOLDS), [])
+        self.assertEqual(self.faults(HOLDS.replace("HighRule::holds", "U64FromLow::from").replace("LIMIT <= x", "LIMIT - 1")), [])
+        for other in ("LowRule", "Rule"):
+            self.one("is in the body of HighRule::holds, and not of rules::", HOLDS.replace("HighRule", other))
+        for none in ("High::holds", "NoRule::holds", "holds", "HighRule::from"):
+            self.assertIn(f"must-fail sums/low: there is no function rules::{none}", self.faults(HOLDS.replace("HighRule::holds", none)))
+
+    def test_log(self):
+        at = lambda line: f"rt: must-fail sums/low.edit: refused, as it must be: note: src/rules.rt:{line}:9: it is not proved\n{OK}"
+        self.assertEqual([line for line in range(1, 24) if not self.faults(HOLDS, at(line))], [14, 15, 16])
+        at = lambda folder: f"rt: must-fail sums/low.edit: refused, as it must be: ./proofs/rules/{folder}/Answers.antt:8:13: error: `returns`: ..\n{OK}"
+        self.assertEqual([folder for folder in ("HighRule/holds", "LowRule/holds", "holds") if not self.faults(HOLDS, at(folder))], ["HighRule/holds"])
 
 
 class Log(Repository):

@@ -12,6 +12,7 @@ use Rattle.changes.specs.Lists.{is_list, From}
 use Rattle.changes.proofs.ListTest.{list_facts}
 use Rattle.answers.specs.declared.ground.Ground.TheVariants.{BadList, BadOrder, OfferNotRead, OutputShort}
 use Rattle.answers.specs.declared.ground.Ground.{Ground}
+use Rattle.answers.specs.Answers.{refused}
 use Rattle.answers.specs.First.{first}
 use Rattle.answers.specs.Numbers.{number_of}
 use Rattle.answers.specs.Check.{Check}
@@ -19,8 +20,8 @@ use Rattle.std.proofs.Common.{Ok, Err}
 use Rattle.answers.proofs.Firsts.{passed_not}
 use Rattle.orders.specs.Orders.{is_allowed}
 use Rattle.execution.specs.Tests.{list_all, is_read}
-use Rattle.execution.specs.Executing.{done, fails, priced, after}
-use Rattle.batch.specs.Batches.{checked, fitting, batch}
+use Rattle.execution.specs.Executing.{Executed, done, fails, priced, after}
+use Rattle.batch.specs.Batches.{checked, fitting, batch, answer, output}
 
 module _ (reads orders : List ℕ) where
   pub stop_list : is_list reads ≡ false → checked reads orders ≡ Err BadList
@@ -84,3 +85,8 @@ module _ (reads orders : List ℕ) (room : ℕ) where
   pub batch_executes : checked reads orders ≡ (Ok tt) → batch reads orders room ≡ fitting room (priced reads orders)
   unfolding batch
   batch_executes e = ap (λ (c : Check). after c (fitting room (priced reads orders))) e
+
+-- the answer and the memory of a batch that is turned away: the number alone, and all words as they were
+pub tell_fails : {n : ℕ} {executed : Executed} (out : List ℕ) → fails n ≡ executed → (refused n ≡ answer executed)
+    × (out ≡ output executed out)
+tell_fails out e = (ap answer e, ap (λ (r : Executed). output r out) e)

@@ -27,19 +27,29 @@ pub fn execute(
     Ok(())
 }
 
-// How many words were made.
+// How many words were made, counted with no branch on them, as `gather` writes them.
 pub fn count(words: &[Option<u64>]) -> usize
     ensures { result ≡ length (made words.now) }
 {
-    words.iter().filter_map(|word| *word).count()
+    let mut n = 0;
+    for word in words {
+        n += usize::from(word.is_some());
+    }
+    n
 }
 
-// Writes the words made, of which there are as many as `out` has room for.
+// Writes the words made, of which there are as many as `out` has room for. At each word the place of the next one made is stored: with this
+// word, or with what stands there. Which words orders made cannot be foretold, and so no iteration branches on it.
 pub fn gather(words: &[Option<u64>], out: &mut [u64])
     requires { length out.old ≡ length (made words.now) }
     ensures { out.new ≡ made words.now }
 {
-    for (n, word) in words.iter().filter_map(|word| *word).enumerate() {
-        out[n] = word;
+    let mut n = 0;
+    for word in words {
+        if n == out.len() {
+            break;
+        }
+        out[n] = word.unwrap_or(out[n]);
+        n += usize::from(word.is_some());
     }
 }

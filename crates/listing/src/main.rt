@@ -3,11 +3,14 @@
 #![tactic(auto)]
 
 mod report;
+mod standard;
 mod streams;
 
+use standard::{StandardInput, StandardOutput};
 use streams::list;
 
-fn main(rt: HostRuntime) {
+fn main() {
+    let mut input = StandardInput { is_at_end: false };
     // README promises status 0 where a read or a write fails, too.
-    let _ = list(&mut rt.stdin(), &mut rt.stdout());
+    let _ = list(&mut input, &mut StandardOutput);
 }

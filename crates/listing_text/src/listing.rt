@@ -44,7 +44,7 @@ pub fn render(state: u32, words: &[u64], out: &mut [u8]) -> usize
     for word in words {
         put_line(&mut text, *word);
     }
-    text.end
+    text.end()
 }
 
 // Stores the line of a refusal at the start, and gives its length; the bytes behind it stay. There is room for
@@ -58,5 +58,5 @@ pub fn render_refusal(number: u32, out: &mut [u8]) -> usize
     text.put_text(b"refused ");
     text.put_decimal(number as u64);
     text.put_text(b"\n");
-    text.end
+    text.end()
 }

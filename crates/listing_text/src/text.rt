@@ -21,6 +21,13 @@ impl<'a> Text<'a> {
         Text { bytes, end: 0 }
     }
 
+    // The position behind the text that is there.
+    pub fn end(&self) -> usize
+        ensures { result ≡ self.now.end }
+    {
+        self.end // the next text is put there
+    }
+
     // Puts a text behind the one that is there; all other bytes stay.
     pub fn put_text(&mut self, text: &[u8])
         requires { self.old.end + length text.now ≤ length self.old.bytes.now }

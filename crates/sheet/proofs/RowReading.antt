@@ -1,7 +1,7 @@
 -- A row that is read: what stands in its bytes, and the loop over the set bits of its mask.
 -- Assumes nothing.
 use mathlib.Core.Path.{◌≡◌, sym, ap, ap₂, subst, ◌∙◌}
-use mathlib.Core.List.{List, [], ◌∷◌}
+use mathlib.Core.List.{List, [], ◌∷◌, ◌++◌}
 use Prim.Native.Nat.{ℕ, suc, ◌+◌, ◌-◌, ◌*◌, ◌/◌, ◌%◌, ◌^◌, ◌≤◌, ◌<◌}
 use native.Mathlib.Nat.{mod-lt, mod-eq_of_lt}
 use native.Mathlib.Decide.{ℕ_discrete}
@@ -10,7 +10,8 @@ use lib.Count.{ones, count_leading_zeros}
 use lib.ListN.{length, take, drop, get_or, set, length-set}
 use lib.Pow.{pow_pos, pow_mono}
 use lib.Seq.{drop-drop}
-use Rattle.words.proofs.Writing.{Writing, start, stored, filled}
+use Rattle.std.proofs.lemmas.List.{set-get_or}
+use Rattle.words.proofs.Writing.{Writing, start, stored, done}
 use Rattle.entry.specs.Word.{put_of}
 use Rattle.big_endian.specs.Bytes.{value_of}
 use Rattle.sheet.specs.Sheet.{Row, set_bits, place_in, seat_word, seat_words, numbers_in, tag_in, mask_in, row_in, row_size}
@@ -29,7 +30,7 @@ pub record RowReading (b : List ℕ) (number mask : ℕ) (out out₀ : List ℕ)
   pub small : number < 2 ^ 26
   pub fits : mask < 2 ^ 32
   pub whole : 8 + 4 * set_bits mask ≤ length b
-  pub room : length out ≡ set_bits mask
+  pub room : set_bits mask ≤ length out
   pub left : ℕ
   pub inside : left ≤ 32
   pub low : rest ≡ mask % 2 ^ left
@@ -48,10 +49,6 @@ module _ {b : List ℕ} {number mask : ℕ} {out out₀ : List ℕ} {rest i : �
   all_counted e =
       let end = seats_end row t.left (sym t.low ∙ e) in
       (end.0, t.counted ∙ end.1 ∙ sym (set_bits_lem mask t.fits))
-
-  -- a word is left to be counted, so a bit is left
-  pub some_left : i < length out → rest ≡ 0 → ⊥
-  some_left h e = omega (arith, t.room, (all_counted e).1)
 
   module _ (some : rest ≡ 0 → ⊥) where
     rest_some : 0 < rest
@@ -82,7 +79,7 @@ module _ {b : List ℕ} {number mask : ℕ} {out out₀ : List ℕ} {rest i : �
         ∙ sym (next_place row t.fits t.left (31 - seat) t.inside bit_low bit_high)
         ∙ ap (place_in mask) same_seat
 
-    place_in_lem : i < set_bits mask
+    pub place_in_lem : i < set_bits mask
     place_in_lem = omega (arith, t.counted, next_inside row t.fits t.left (31 - seat) t.inside bit_low bit_high)
 
     seat_next : seat_words row t.left ≡ seat_word row seat ∷ seat_words row (31 - seat)
@@ -110,7 +107,7 @@ module _ {b : List ℕ} {number mask : ℕ} {out out₀ : List ℕ} {rest i : �
             small = t.small;
             fits = t.fits;
             whole = t.whole;
-            room = length-set out i w ∙ t.room;
+            room = rw length-set t.room;
             left = 31 - seat;
             inside = omega arith;
             low = omega (arith, u, t.low, next_low row t.fits t.left (31 - seat) t.inside bit_low bit_high);
@@ -119,12 +116,19 @@ module _ {b : List ℕ} {number mask : ℕ} {out out₀ : List ℕ} {rest i : �
                 (omega (arith, place_in_lem, t.room));
           }
 
-  -- all words are counted
-  pub row_read : length out ≤ i → out ≡ seat_words row 32
-  row_read h = go (ℕ_discrete rest 0)
+  -- no bit is left
+  pub row_read : rest ≡ 0 → (i ≡ set_bits mask) × (out ≡ seat_words row 32 ++ drop i out₀)
+  row_read e =
+      let all = all_counted e in
+      let end : length (seat_words row 32) ≡ i = row_length row t.fits ∙ sym all.1 in
+      (all.1, done t.writing all.0 ∙ ap (λ (n : ℕ). seat_words row 32 ++ drop n out₀) end)
+
+  -- no word of the table is left, so no bit is
+  pub no_bit : length out ≤ i → rest ≡ 0
+  no_bit h = go (ℕ_discrete rest 0)
     where
-      go : Dec (rest ≡ 0) → out ≡ seat_words row 32
-      go (yes e) = filled t.writing (all_counted e).0 (omega (arith, row_length row t.fits, t.room, t.writing.same))
+      go : Dec (rest ≡ 0) → rest ≡ 0
+      go (yes e) = e
       go (no n) = absurd (omega (arith, place_in_lem n, t.room))
 
 -- What the code reads of a row: its tag and its mask.
@@ -132,7 +136,7 @@ module _ (b : List ℕ) (tag mask : ℕ) (e : tag ≡ tag_in b) (m : mask ≡ ma
   same_row : row_here b (tag / 64) mask ≡ row_in b
   same_row = λ i. record { number = e i / 64; mask = m i; prices = numbers_in (set_bits (m i)) (drop 8 b) }
 
-  pub begin_row : tag < 2 ^ 32 → (out : List ℕ) → row_size (mask_in b) ≤ length b → length out ≡ set_bits mask
+  pub begin_row : tag < 2 ^ 32 → (out : List ℕ) → row_size (mask_in b) ≤ length b → set_bits mask ≤ length out
       → RowReading b (tag / 64) mask out out mask 0
   begin_row h out whole room =
       let above : mask / 2 ^ 32 ≡ 0 = omega arith in
@@ -152,6 +156,22 @@ module _ (b : List ℕ) (tag mask : ℕ) (e : tag ≡ tag_in b) (m : mask ≡ ma
   pub words_length : length (seat_words (row_in b) 32) ≡ set_bits mask
   words_length = ap (λ (r : Row). length (seat_words r 32)) (sym same_row) ∙ row_length (row_here b (tag / 64) mask) fits
 
-  pub end_row : {out out₀ : List ℕ} {rest i : ℕ} → RowReading b (tag / 64) mask out out₀ rest i → length out ≤ i
-      → out ≡ seat_words (row_in b) 32
-  end_row {out} t h = subst (λ (r : Row). out ≡ seat_words r 32) same_row (row_read t h)
+  pub end_row : {out out₀ : List ℕ} {rest i : ℕ} → RowReading b (tag / 64) mask out out₀ rest i → rest ≡ 0
+      → (i ≡ set_bits (mask_in b)) × (out ≡ seat_words (row_in b) 32 ++ drop i out₀)
+  end_row {out} {out₀} {rest} {i} t none =
+      let read = row_read t none in
+      (read.0 ∙ ap set_bits m, read.1 ∙ ap (λ (r : Row). seat_words r 32 ++ drop i out₀) same_row)
+
+  -- the word that stands where the next would be is given back as it was
+  pub end_early : {out out₀ : List ℕ} {rest i : ℕ} → RowReading b (tag / 64) mask out out₀ rest i → rest ≡ 0
+      → (i ≡ set_bits (mask_in b)) × (set out i (get_or out i 0) ≡ seat_words (row_in b) 32 ++ drop i out₀)
+  end_early {out} {out₀} {rest} {i} t none =
+      let read = end_row t none in
+      (read.0, set-get_or out i 0 ∙ read.1)
+
+  -- or the words fill the table
+  pub end_full : {out out₀ : List ℕ} {rest i : ℕ} → RowReading b (tag / 64) mask out out₀ rest i → length out ≡ i
+      → (length out ≡ set_bits (mask_in b)) × (out ≡ seat_words (row_in b) 32 ++ drop (length out) out₀)
+  end_full {out} {out₀} {rest} {i} t full =
+      subst (λ (n : ℕ). (n ≡ set_bits (mask_in b)) × (out ≡ seat_words (row_in b) 32 ++ drop n out₀)) (sym full)
+      (end_row t (no_bit t (omega arith)))

@@ -51,7 +51,8 @@ pub fn count_offers(bytes: &[u8]) -> Option<usize>
 }
 
 // Reads the words of the row at the start of the bytes, a word for each set bit of its mask, to the start of the table, and gives how many
-// they are; the words behind them stay. The bytes have the whole row, and the table has room for its words.
+// they are; the words behind them stay. The bytes have the whole row, and the table has room for its words. The bits are taken one by one,
+// and not counted first: the next row, whose place hangs on the count, would wait for it.
 fn read_row(bytes: &[u8], table: &mut [u64]) -> usize
     requires { (0 < mask_in bytes.now)
         × (row_size (mask_in bytes.now) ≤ length bytes.now)
@@ -62,15 +63,17 @@ fn read_row(bytes: &[u8], table: &mut [u64]) -> usize
 {
     let number = uint_at::<4>(bytes, 0) / NUMBER_UNIT;
     let mask = uint_at::<4>(bytes, 4) as u32;
-    let count = prices(mask);
     let mut rest = mask;
-    for (i, word) in table[..count].iter_mut().enumerate() {
+    for (i, word) in table.iter_mut().enumerate() {
+        if rest == 0 {
+            return i;
+        }
         let seat = rest.leading_zeros();
         let price = uint_at::<4>(bytes, ROW_BYTES + PRICE_BYTES * i);
         *word = Entry::put(number as u32 * SEATS + seat, price as u32);
         rest -= bit(seat);
     }
-    count
+    table.len()
 }
 
 // Reads a sheet's words to the start of the table, which has room for them; the words behind them stay.

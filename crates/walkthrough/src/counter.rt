@@ -51,8 +51,8 @@ impl Counter {
     ) -> io::Result<()> {
         let checkpoint = self.head.checkpoint;
         let newest = self.head.tip;
-        println!(rt;
-            "  {done}: {}; checkpoint {checkpoint}, newest {newest}",
+        print!(rt;
+            "{done}{}; checkpoint {checkpoint}, newest {newest}",
             Told(answer)
         )
     }
@@ -72,12 +72,12 @@ impl Counter {
     pub(crate) fn commit(&mut self, rt: &impl Print, list: [u64; 2]) -> io::Result<()> {
         let mut words = list;
         let answer = self.make(Call::Step(Step::Commit), &mut words);
-        self.tell(rt, format_args!("commit {}", Entries(&list)), answer)
+        self.tell(rt, format_args!("\n  commit{}", Entries(&list)), answer)
     }
 
     pub(crate) fn roll_back(&mut self, rt: &impl Print, state: u32) -> io::Result<()> {
         let call = Call::Step(Step::RollBack(state));
-        self.ask(rt, format_args!("roll back to state {state}"), call)
+        self.ask(rt, format_args!("\n  roll back to state {state}"), call)
     }
 
     // Makes a call on the read set, and tells what it has then.
@@ -90,7 +90,7 @@ impl Counter {
         let mut reads = self.reads;
         let answer = self.make(call, &mut reads);
         self.reads = reads;
-        println!(rt; "  {done}: {}; read {}", Told(answer), Entries(&reads))
+        print!(rt; "{done}{}; read{}", Told(answer), Entries(&reads))
     }
 
     // What a lookup of an offer at a state answers.
@@ -110,6 +110,6 @@ impl Counter {
         let five = self.look_up(5, state);
         let seven = self.look_up(7, state);
         let nine = self.look_up(9, state);
-        println!(rt; "  quotes at state {state}: {five}, {seven}, {nine}")
+        print!(rt; "\n  quotes at state {state}: {five}, {seven}, {nine}")
     }
 }

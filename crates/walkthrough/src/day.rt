@@ -36,27 +36,30 @@ fn unused() -> Counter {
 }
 
 fn load(rt: &impl Print) -> io::Result<Counter> {
-    println!(rt;
-        "\nMorning: last night's image is loaded: the number of a state, how many offers it has, and each with its price."
+    print!(rt;
+        "\n\nMorning: last night's image is loaded: the number of a state, how many offers it has, and each with its price.\
+        \n  image{}",
+        Hex(&IMAGE)
     )?;
-    println!(rt; "  image{}", Hex(&IMAGE))?;
     let mut counter = unused();
-    counter.ask(rt, "load", Call::Reset(Reset::Load(0, Format::Image)))?;
+    counter.ask(rt, "\n  load", Call::Reset(Reset::Load(0, Format::Image)))?;
     counter.quote(rt, 7)?;
     Ok(counter)
 }
 
 // A read at state 7 that is to serve a state which does not exist yet.
 fn issue(rt: &impl Print, counter: &mut Counter) -> io::Result<()> {
-    println!(rt;
-        "\nAn early read: orders will come for a state that is not there yet, and reading starts now."
-    )?;
-    counter.read(rt, "issue in slot 0", Call::Read(Read::Issue(DESK_SLOT)))
+    counter.read(
+        rt,
+        "\n\nAn early read: orders will come for a state that is not there yet, and reading starts now.\
+        \n  issue in slot 0",
+        Call::Read(Read::Issue(DESK_SLOT)),
+    )
 }
 
 // States 8 and 9; each is quoted as it is.
 fn feed(rt: &impl Print, counter: &mut Counter) -> io::Result<()> {
-    println!(rt; "\nThe feed: two lists of changes come in.")?;
+    print!(rt; "\n\nThe feed: two lists of changes come in.")?;
     counter.commit(rt, [Entry::put(5, 1100), Entry::put(7, 900)])?;
     counter.commit(rt, [Entry::none(9), Entry::put(12, 2400)])?;
     counter.quote(rt, 8)?;
@@ -65,19 +68,21 @@ fn feed(rt: &impl Print, counter: &mut Counter) -> io::Result<()> {
 
 // The read serves state 9, and state 10 has the changes of the orders that were priced on it.
 fn price(rt: &impl Print, counter: &mut Counter) -> io::Result<()> {
-    println!(rt;
-        "\nOrders: the early read is brought to state 9 and priced on. One bad order refuses its batch."
-    )?;
     let forward = Call::Read(Read::Forward(DESK_SLOT, 9));
-    counter.read(rt, "forward slot 0 to state 9", forward)?;
+    counter.read(
+        rt,
+        "\n\nOrders: the early read is brought to state 9 and priced on. One bad order refuses its batch.\
+        \n  forward slot 0 to state 9",
+        forward,
+    )?;
     let changes = price_both(rt, &counter.reads)?;
     counter.commit(rt, changes)
 }
 
 // The first state 11 was a slip; it is taken back and comes again. A list that falls is refused.
 fn correct(rt: &impl Print, counter: &mut Counter) -> io::Result<()> {
-    println!(rt;
-        "\nA correction: a list with wrong prices is taken back, and the right one comes in."
+    print!(rt;
+        "\n\nA correction: a list with wrong prices is taken back, and the right one comes in."
     )?;
     let five = Entry::put(5, 950);
     let seven = Entry::put(7, 850);
@@ -91,10 +96,12 @@ fn correct(rt: &impl Print, counter: &mut Counter) -> io::Result<()> {
 
 // The steps go into the table, and can be taken back no more.
 fn flush(rt: &impl Print, counter: &mut Counter) -> io::Result<()> {
-    println!(rt;
-        "\nEvening: a flush makes state 11 the checkpoint, and its image is written for tomorrow."
+    counter.ask(
+        rt,
+        "\n\nEvening: a flush makes state 11 the checkpoint, and its image is written for tomorrow.\
+        \n  flush to state 11",
+        Call::Step(Step::Flush(11)),
     )?;
-    counter.ask(rt, "flush to state 11", Call::Step(Step::Flush(11)))?;
     counter.quote(rt, 11)?;
     counter.roll_back(rt, 10)
 }
@@ -103,22 +110,22 @@ fn flush(rt: &impl Print, counter: &mut Counter) -> io::Result<()> {
 fn write(rt: &impl Print, counter: &mut Counter) -> io::Result<()> {
     counter.ask(
         rt,
-        "write the image",
+        "\n  write the image",
         Call::Ask(Query::Write(Format::Image)),
     )?;
-    println!(rt; "  image{}", Hex(&counter.bytes))?;
+    print!(rt; "\n  image{}", Hex(&counter.bytes))?;
     let Tally {
         committed,
         rolled_back,
         flushed,
     } = counter.tally;
-    println!(rt;
-        "  counted today: lists committed {committed}, rolled back {rolled_back}, flushed {flushed}"
+    print!(rt;
+        "\n  counted today: lists committed {committed}, rolled back {rolled_back}, flushed {flushed}\n"
     )
 }
 
 pub(crate) fn day(rt: &impl Print) -> io::Result<()> {
-    println!(rt;
+    print!(rt;
         "A day at the counter: the price unit takes a feed of price changes and quotes the prices of seats.\n\
         An offer is a seat. Prices are in minor units, as the unit has them: 1200 is 12.00.\n\
         Each list of changes makes the next state. States from the checkpoint to the newest are quoted.\n\

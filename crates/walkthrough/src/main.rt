@@ -4,12 +4,14 @@
 
 mod counter;
 mod day;
+mod output;
 mod pricing;
 mod print;
 
 use crate::day::day;
+use crate::output::StandardOutput;
 
-fn main(rt: HostRuntime) {
+fn main() {
     // README promises status 0 whether or not the output could be written.
-    let _ = day(&rt);
+    let _ = day(&StandardOutput);
 }

@@ -22,14 +22,14 @@ const KEEP_12_SIXTEENTHS_OF_5: u64 = 27 * KIND + 5;
 pub(crate) fn price_both(rt: &impl Print, reads: &[u64; 3]) -> io::Result<[u64; 2]> {
     let mut changes = [0u64; 2];
     let refused = price_batch(reads, &[RAISE_5_BY_100, CUT_7_BY_901], &mut changes);
-    println!(rt;
-        "  price the orders (raise offer 5 by 100, cut offer 7 by 901): {}",
+    print!(rt;
+        "\n  price the orders (raise offer 5 by 100, cut offer 7 by 901){}",
         Told(refused)
     )?;
     let orders = [RAISE_5_BY_100, CUT_7_BY_100, KEEP_12_SIXTEENTHS_OF_5];
     let accepted = price_batch(reads, &orders, &mut changes);
-    println!(rt;
-        "  price the orders (raise offer 5 by 100, cut offer 7 by 100, keep 12/16 of offer 5): {}; gives {}",
+    print!(rt;
+        "\n  price the orders (raise offer 5 by 100, cut offer 7 by 100, keep 12/16 of offer 5){}; gives{}",
         Told(accepted),
         Entries(&changes)
     )?;

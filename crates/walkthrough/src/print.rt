@@ -1,4 +1,5 @@
-// What the program prints of answers, entries and bytes, in words.
+// What the program prints of answers, entries and bytes, in words. A line begins with its newline, so that what is printed next may go on
+// with it, and what is written at once is one text or one number: a write that fails loses no more.
 use answers::answer::{Answer, Quote, Since};
 use answers::ground::Ground;
 use entry::Entry;
@@ -10,15 +11,24 @@ pub(crate) struct Told(pub(crate) Result<Answer, Ground>);
 
 impl fmt::Display for Told {
     fn fmt<W: fmt::Write>(&self, f: &mut fmt::Formatter<W>) -> fmt::Result {
-        let Err(ground) = self.0 else {
-            return write!(f, "accepted");
-        };
-        write!(f, "refused on ground {}", u32::from(ground))?;
-        match ground {
-            Ground::BadList => write!(f, ", the offers of a list must rise"),
-            Ground::PriceRange => write!(f, ", a price must stay from 0 to {}", u32::MAX),
-            Ground::StateRange => write!(f, ", the state must be from checkpoint to newest"),
-            _ => Ok(()),
+        match self.0 {
+            Ok(_) => write!(f, ": accepted"),
+            Err(Ground::BadList) => {
+                write!(f, ": refused on ground 6, the offers of a list must rise")
+            }
+            Err(Ground::PriceRange) => {
+                write!(
+                    f,
+                    ": refused on ground 10, a price must stay from 0 to 4294967295"
+                )
+            }
+            Err(Ground::StateRange) => {
+                write!(
+                    f,
+                    ": refused on ground 11, the state must be from checkpoint to newest"
+                )
+            }
+            Err(ground) => write!(f, ": refused on ground {}", u32::from(ground)),
         }
     }
 }
@@ -39,32 +49,31 @@ impl fmt::Display for Shown {
     }
 }
 
-// The entries of words, with commas between them.
+// The entries of words, a space before the first and commas between them.
 #[derive(Clone, Copy)]
 pub(crate) struct Entries<'a>(pub(crate) &'a [u64]);
 
 impl fmt::Display for Entries<'_> {
     fn fmt<W: fmt::Write>(&self, f: &mut fmt::Formatter<W>) -> fmt::Result {
         for (position, word) in self.0.iter().enumerate() {
-            if position > 0 {
-                write!(f, ", ")?;
-            }
-            write!(f, "{}", Shown(*word))?;
+            let before = if position == 0 { " " } else { ", " };
+            write!(f, "{before}{}", Shown(*word))?;
         }
         Ok(())
     }
 }
 
-// Since when an offer stands as it is quoted.
+// Since when an offer stands as it is quoted, in brackets behind it.
 #[derive(Clone, Copy)]
 struct Freshness(Since);
 
 impl fmt::Display for Freshness {
     fn fmt<W: fmt::Write>(&self, f: &mut fmt::Formatter<W>) -> fmt::Result {
         match self.0 {
-            Since::State(state) => write!(f, "since state {state}"),
-            Since::Table => write!(f, "by the table"),
+            Since::State(state) => write!(f, " (since state {state}")?,
+            Since::Table => write!(f, " (by the table")?,
         }
+        write!(f, ")")
     }
 }
 
@@ -84,12 +93,17 @@ impl fmt::Display for Quoted {
                     Some(price) => Entry::put(offer, price),
                     None => Entry::none(offer),
                 };
-                write!(f, "{} ({})", Shown(word), Freshness(since))
+                write!(f, "{}{}", Shown(word), Freshness(since))
             }
             answer => write!(f, "{}", Told(answer)),
         }
     }
 }
+
+// The bytes below 16 in two digits, each put at once.
+const ONE_DIGIT: [&str; 16] = [
+    "00", "01", "02", "03", "04", "05", "06", "07", "08", "09", "0a", "0b", "0c", "0d", "0e", "0f",
+];
 
 // Bytes in hexadecimal, a space before each.
 #[derive(Clone, Copy)]
@@ -98,7 +112,12 @@ pub(crate) struct Hex<'a>(pub(crate) &'a [u8]);
 impl fmt::Display for Hex<'_> {
     fn fmt<W: fmt::Write>(&self, f: &mut fmt::Formatter<W>) -> fmt::Result {
         for byte in self.0 {
-            write!(f, " {byte:02x}")?;
+            write!(f, " ")?;
+            if *byte < 16 {
+                write!(f, "{}", ONE_DIGIT[usize::from(*byte)])?;
+            } else {
+                write!(f, "{byte:x}")?;
+            }
         }
         Ok(())
     }

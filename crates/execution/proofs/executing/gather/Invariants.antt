@@ -1,8 +1,7 @@
--- `executing::gather` meets its contract. The loop's invariant: of the words made, as many are written as the loop was given.
+-- `executing::gather` meets its contract. The loop's invariant: what is written and the words made behind are the words made.
 -- Assumes nothing.
-use Rattle.execution.specs.Working.{made}
-use Rattle.execution.proofs.Gathering.{Written}
+use Rattle.execution.proofs.Gathering.{Gathered}
 use Rattle.execution.proofs.executing.gather.Given as goal
 
-abbrev pub invariant-loop-n : goal.invariant-loop-n
-invariant-loop-n l = Written (made l.words) l.out l.yielded
+abbrev pub invariant-loop-word : goal.invariant-loop-word
+invariant-loop-word l = Gathered l.words l.out l.n l.word-index

@@ -1,6 +1,6 @@
 -- `listing::render` meets its contract: the lines are put one behind another.
 -- Assumes nothing.
-use Rattle.std.proofs.Common.{◌≡◌, arith, rules, ap, length, take, take_all, get_or}
+use Rattle.std.proofs.Common.{◌≡◌, ◌∙◌, arith, rules, ap, length, take, take_all, get_or}
 use Rattle.listing_text.specs.Listing.{lines_of, text_of}
 use Rattle.listing_text.proofs.Lines.{header_length, line_length, lines_more}
 use Rattle.listing_text.proofs.Pieces.{both, put_as, whole, nothing}
@@ -30,4 +30,4 @@ returns c =
     let all : take c.loop-word.word-index c.args.words.now ≡ c.args.words.now = take_all _ _ (omega arith) in
     let lines = both c.put_header.ensures (put_as (ap lines_of all) c.loop-word.invariant.1) in
     let w = whole c.new-text.ensures.end c.new-text.ensures.bytes lines in
-    (w.0, search (rules, w.1, lines.lent))
+    (c.end.ensures ∙ w.0, search (rules, c.end.ensures, w.1, lines.lent))

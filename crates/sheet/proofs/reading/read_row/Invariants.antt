@@ -5,4 +5,4 @@ use Rattle.sheet.proofs.RowReading.{RowReading}
 use Rattle.sheet.proofs.reading.read_row.Given as goal
 
 abbrev pub invariant-loop-i : goal.invariant-loop-i
-invariant-loop-i l = RowReading l.bytes l.number l.mask l.word-items l.initial.word-items l.rest l.i
+invariant-loop-i l = RowReading l.bytes l.number l.mask l.table l.initial.table l.rest l.i
